@@ -1,0 +1,38 @@
+-- The two calls with all that they compute by, so that an example is proved by `unfolding release` and `refl`.
+use Prim.Native.Nat.{ℕ}
+use mathlib.Core.List.{List}
+use Rattle.horn.specs.Refusals
+use Rattle.horn.specs.Setting
+use Rattle.horn.specs.Utf8
+use Rattle.horn.specs.Tokens
+use Rattle.horn.specs.NestedLists
+use Rattle.horn.specs.Names
+use Rattle.horn.specs.Rulebook
+use Rattle.horn.specs.StoredTerms
+use Rattle.horn.specs.Checker
+use Rattle.horn.specs.Matching
+use Rattle.horn.specs.Certificate
+use Rattle.horn.specs.Calls
+use Rattle.horn.specs.Setting.{Setting, document01}
+use Rattle.horn.specs.Calls.{Report, RulebookReport, rulebookCall, releaseCall}
+
+-- 01's limits, but for those of the store.
+unfoldable pub storeOf : ℕ → ℕ → Setting
+storeOf nodes words =
+    record {
+      areaWords = document01 .areaWords;
+      lastAreaWords = document01 .lastAreaWords;
+      rulebookBytes = document01 .rulebookBytes;
+      goalsBytes = document01 .goalsBytes;
+      certificateBytes = document01 .certificateBytes;
+      nodes = nodes;
+      nodeWords = words;
+    }
+
+unfoldable pub release : ℕ → ℕ → List ℕ → List ℕ → List ℕ → Report
+unfolding storeOf Refusals.number Refusals._>>=_ Refusals.need Refusals.found Setting.document01 Utf8.within Utf8.tail Utf8.sequences Utf8.startedBy Utf8.resumed Utf8.decoded Tokens.before Tokens.onto Tokens.lines Tokens.characters Tokens.whiteRanges Tokens.inSome Tokens.white Tokens.kind Tokens.begins Tokens.continues Tokens.move Tokens.unended Tokens.tokensFrom Tokens.tokens NestedLists.innermost NestedLists.outer NestedLists.add NestedLists.around NestedLists.items NestedLists.askedAt NestedLists.absent NestedLists.sexps NestedLists.sexp Names.sameList Names.named Names.codes Names.questioned Names.bare Names.first Names.some-of Rulebook.sameOutput Rulebook.sameSymbol Rulebook.inputs Rulebook.output Rulebook.sortOf Rulebook.variablesOf Rulebook.premisesOf Rulebook.conclusionOf Rulebook.isConstructor Rulebook.isPredicate Rulebook.isRule Rulebook.isVariable Rulebook.constructor Rulebook.predicate Rulebook.ruleNamed Rulebook.atomDue Rulebook.listDue Rulebook.declaredName Rulebook.sortNamed Rulebook.sortsNamed Rulebook.count Rulebook.fits Rulebook.schematic Rulebook.constant Rulebook.isEmpty Rulebook.judgmentOf Rulebook.judgmentPattern Rulebook.judgmentPatterns Rulebook.declareSort Rulebook.withSymbol Rulebook.declareConstructor Rulebook.declarePredicate Rulebook.declareRule Rulebook.oneMember Rulebook.twoMembers Rulebook.threeMembers Rulebook.keyword Rulebook.declare Rulebook.headed Rulebook.declaration Rulebook.declarations Rulebook.emptyTheory Rulebook.theory Rulebook.pattern StoredTerms.width StoredTerms.nodeSize StoredTerms.size StoredTerms.holds StoredTerms.withinLimits StoredTerms.intern StoredTerms.sameTerm Checker._>>=_ Checker.give Checker.lift Checker.wordDue Checker.groupDue Checker.ask Checker.askWord Checker.askGroup Checker.closingDue Checker.decimal Checker.digits Checker.numeral Checker.numberDue Checker.askNumber Checker.isDef Checker.meaning Checker.goalJudgment Checker.isGoal Checker.hasSort Checker.accepts Checker.isNil Checker.isEmptyList Checker.stored Checker.make Checker.atomTerm Checker.askTerm Checker.headedJudgment Checker.askJudgment Checker.goalForm Checker.goalForms Checker.goalsOf Checker.term Matching.judgmentOf Matching.lookup Matching.matchVar Matching.matchPremises Matching.match Matching.build Certificate.references Certificate.isBound Certificate.isStated Certificate.without Certificate.keyword Certificate.defForm Certificate.resultForm Certificate.bindingItem Certificate.conclusionItem Certificate.stepItem Certificate.stepItems Certificate.conclude Certificate.stepForm Certificate.headedForm Certificate.certificateForm Certificate.certificateForms Certificate.certificateOf Calls.constructorCount Calls.predicateCount Calls.areasLong Calls.rulebookJudged Calls.releaseJudged Calls.rulebookAnswer Calls.releaseAnswer Calls.rulebookCall Calls.releaseCall Calls.areaAfter
+release nodes words rulebook goals certificate = releaseCall (storeOf nodes words) 16_384 16_384 16_384 16_384 rulebook goals certificate
+
+unfoldable pub rulebook : List ℕ → RulebookReport
+unfolding Refusals.number Refusals._>>=_ Refusals.need Refusals.found Setting.document01 Utf8.within Utf8.tail Utf8.sequences Utf8.startedBy Utf8.resumed Utf8.decoded Tokens.before Tokens.onto Tokens.lines Tokens.characters Tokens.whiteRanges Tokens.inSome Tokens.white Tokens.kind Tokens.begins Tokens.continues Tokens.move Tokens.unended Tokens.tokensFrom Tokens.tokens NestedLists.innermost NestedLists.outer NestedLists.add NestedLists.around NestedLists.items NestedLists.askedAt NestedLists.absent NestedLists.sexps NestedLists.sexp Names.sameList Names.named Names.codes Names.questioned Names.bare Names.first Names.some-of Rulebook.sameOutput Rulebook.sameSymbol Rulebook.inputs Rulebook.output Rulebook.sortOf Rulebook.variablesOf Rulebook.premisesOf Rulebook.conclusionOf Rulebook.isConstructor Rulebook.isPredicate Rulebook.isRule Rulebook.isVariable Rulebook.constructor Rulebook.predicate Rulebook.ruleNamed Rulebook.atomDue Rulebook.listDue Rulebook.declaredName Rulebook.sortNamed Rulebook.sortsNamed Rulebook.count Rulebook.fits Rulebook.schematic Rulebook.constant Rulebook.isEmpty Rulebook.judgmentOf Rulebook.judgmentPattern Rulebook.judgmentPatterns Rulebook.declareSort Rulebook.withSymbol Rulebook.declareConstructor Rulebook.declarePredicate Rulebook.declareRule Rulebook.oneMember Rulebook.twoMembers Rulebook.threeMembers Rulebook.keyword Rulebook.declare Rulebook.headed Rulebook.declaration Rulebook.declarations Rulebook.emptyTheory Rulebook.theory Rulebook.pattern StoredTerms.width StoredTerms.nodeSize StoredTerms.size StoredTerms.holds StoredTerms.withinLimits StoredTerms.intern StoredTerms.sameTerm Checker._>>=_ Checker.give Checker.lift Checker.wordDue Checker.groupDue Checker.ask Checker.askWord Checker.askGroup Checker.closingDue Checker.decimal Checker.digits Checker.numeral Checker.numberDue Checker.askNumber Checker.isDef Checker.meaning Checker.goalJudgment Checker.isGoal Checker.hasSort Checker.accepts Checker.isNil Checker.isEmptyList Checker.stored Checker.make Checker.atomTerm Checker.askTerm Checker.headedJudgment Checker.askJudgment Checker.goalForm Checker.goalForms Checker.goalsOf Checker.term Matching.judgmentOf Matching.lookup Matching.matchVar Matching.matchPremises Matching.match Matching.build Certificate.references Certificate.isBound Certificate.isStated Certificate.without Certificate.keyword Certificate.defForm Certificate.resultForm Certificate.bindingItem Certificate.conclusionItem Certificate.stepItem Certificate.stepItems Certificate.conclude Certificate.stepForm Certificate.headedForm Certificate.certificateForm Certificate.certificateForms Certificate.certificateOf Calls.constructorCount Calls.predicateCount Calls.areasLong Calls.rulebookJudged Calls.releaseJudged Calls.rulebookAnswer Calls.releaseAnswer Calls.rulebookCall Calls.releaseCall Calls.areaAfter
+rulebook text = rulebookCall document01 16_384 16_384 16_384 16_384 text

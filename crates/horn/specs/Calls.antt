@@ -1,0 +1,96 @@
+-- "The texts and the work areas" in document 01: the two calls.
+use Prim.Native.Nat.{ℕ, zero, suc}
+use mathlib.Core.Bool.{Bool, true, false, _&&_, _||_}
+use mathlib.Core.List.{List, [], _∷_, _++_}
+use lib.Dec.{eqb, leb}
+use lib.ListN.{length, drop, replicate}
+use Rattle.horn.specs.Refusals.{Refusal, number, Result, ok, refused, _>>=_, need, areaShort, textLong}
+use Rattle.horn.specs.Setting.{Setting}
+use Rattle.horn.specs.Rulebook.{Symbol, symbol, sort, judgment, Theory, theory}
+use Rattle.horn.specs.Checker.{goalsOf}
+use Rattle.horn.specs.Certificate.{certificateOf}
+
+-- "One call takes the rulebook alone and answers a number and the counts of sorts, constructors, predicates and rules".
+pub record RulebookReport : Type 0 where
+  pub number : ℕ
+  pub sorts : ℕ
+  pub constructors : ℕ
+  pub predicates : ℕ
+  pub rules : ℕ
+
+abbrev pub rulebookReport : ℕ → ℕ → ℕ → ℕ → ℕ → RulebookReport
+rulebookReport n s c p r = record { number = n; sorts = s; constructors = c; predicates = p; rules = r }
+
+-- "The other takes three texts and answers a number, steps, goals, terms, bytes."
+pub record Report : Type 0 where
+  pub number : ℕ
+  pub steps : ℕ
+  pub goals : ℕ
+  pub terms : ℕ
+  pub bytes : ℕ
+
+abbrev pub report : ℕ → ℕ → ℕ → ℕ → ℕ → Report
+report n s g t b = record { number = n; steps = s; goals = g; terms = t; bytes = b }
+
+unfoldable pub constructorCount : List Symbol → ℕ
+constructorCount [] = zero
+constructorCount (symbol name ins (sort s) ∷ rest) = suc (constructorCount rest)
+constructorCount (symbol name ins judgment ∷ rest) = constructorCount rest
+
+unfoldable pub predicateCount : List Symbol → ℕ
+predicateCount [] = zero
+predicateCount (symbol name ins (sort s) ∷ rest) = predicateCount rest
+predicateCount (symbol name ins judgment ∷ rest) = suc (predicateCount rest)
+
+module _ (limits : Setting) where
+  -- "Four work areas of 32-bit words are lent, each of at least 16,384 words": 1 if one is shorter.
+  unfoldable pub areasLong : ℕ → ℕ → ℕ → ℕ → Result (Unit {0})
+  areasLong a b c d = do
+    _ ← need (leb (limits .areaWords) a) areaShort
+    _ ← need (leb (limits .areaWords) b) areaShort
+    _ ← need (leb (limits .areaWords) c) areaShort
+    need (leb (limits .lastAreaWords) d) areaShort
+
+  -- "Order: area lengths, text lengths, the rulebook whole".
+  unfoldable pub rulebookJudged : ℕ → ℕ → ℕ → ℕ → List ℕ → Result Theory
+  rulebookJudged a b c d rulebook = do
+    _ ← areasLong a b c d
+    _ ← need (leb (length rulebook) (limits .rulebookBytes)) textLong
+    theory rulebook
+
+  -- "The rulebook whole, the goals whole, the certificate. The first refusal met is given." The store begins empty.
+  -- "Bytes is the certificate's length."
+  unfoldable pub releaseJudged : ℕ → ℕ → ℕ → ℕ → List ℕ → List ℕ → List ℕ → Result Report
+  releaseJudged a b c d rulebook goals certificate = do
+    _ ← areasLong a b c d
+    _ ← need (leb (length rulebook) (limits .rulebookBytes)) textLong
+    _ ← need (leb (length goals) (limits .goalsBytes)) textLong
+    _ ← need (leb (length certificate) (limits .certificateBytes)) textLong
+    th ← theory rulebook
+    (gs, store) ← goalsOf limits th goals []
+    (steps, final) ← certificateOf limits th gs certificate store
+    ok (report 0 (length steps) (length gs) (length final) (length certificate))
+
+-- "Number 0 is accepted; a refusal has zero counts."
+unfoldable pub rulebookAnswer : Result Theory → RulebookReport
+rulebookAnswer (refused r) = rulebookReport (number r) 0 0 0 0
+rulebookAnswer (ok th) =
+    rulebookReport 0 (length (th .sorts)) (constructorCount (th .symbols)) (predicateCount (th .symbols)) (length (th .rules))
+
+unfoldable pub releaseAnswer : Result Report → Report
+releaseAnswer (refused r) = report (number r) 0 0 0 0
+releaseAnswer (ok accepted) = accepted
+
+-- The two calls: from the lengths of the four areas and the bytes of the texts to the report.
+unfoldable pub rulebookCall : Setting → ℕ → ℕ → ℕ → ℕ → List ℕ → RulebookReport
+rulebookCall limits a b c d rulebook = rulebookAnswer (rulebookJudged limits a b c d rulebook)
+
+unfoldable pub releaseCall : Setting → ℕ → ℕ → ℕ → ℕ → List ℕ → List ℕ → List ℕ → Report
+releaseCall limits a b c d rulebook goals certificate =
+    releaseAnswer (releaseJudged limits a b c d rulebook goals certificate)
+
+-- "Refusals 1 and 2 leave the areas untouched. Every other answer leaves the first 16,384 words of each area zero and
+-- later words untouched": an area after a call, by the call's number and the words that are cleared in it.
+unfoldable pub areaAfter : ℕ → ℕ → List ℕ → List ℕ
+areaAfter words answer area =
+    elim (eqb answer 1 || eqb answer 2) [ true ↦ area | false ↦ replicate words 0 ++ drop words area ]

@@ -1,0 +1,212 @@
+-- "Goals, steps, results" in document 01, its first part: what is read anywhere in goals and certificate, and the goals.
+use Prim.Native.Nat.{ℕ, zero, suc, _+_, _*_, _-_, _^_}
+use mathlib.Core.Bool.{Bool, true, false, not, _&&_}
+use mathlib.Core.List.{List, [], _∷_, _++_}
+use mathlib.Core.Option.{Option, none, some}
+use lib.Dec.{eqb, ltb}
+use Rattle.horn.specs.Refusals.{Result, ok, refused, need, found, _>>=_ as _>>=ᵣ_}
+use Rattle.horn.specs.Refusals.{notUtf8, textEnds, strayClosing, atomOrList, form, excess, variableName, unknown}
+use Rattle.horn.specs.Refusals.{duplicate, sortArity, bracketedConstant, noGoal, notNumber}
+use Rattle.horn.specs.Setting.{Setting}
+use Rattle.horn.specs.Utf8.{range, within}
+use Rattle.horn.specs.Tokens.{tokens}
+use Rattle.horn.specs.NestedLists.{Item, word, group, Items, closed, ended, badLine, _then_, items, askedAt, absent}
+use Rattle.horn.specs.Names.{Name, named, codes, questioned, bare, first, some-of}
+use Rattle.horn.specs.Rulebook.{Symbol, inputs, output, sameOutput, sort, Theory, constructor, predicate}
+use Rattle.horn.specs.StoredTerms.{Term, node, Terms, []ₜ, _∷ₜ_, Store, intern}
+
+-- Reading with the store at hand: a value and the store afterwards, or the first refusal.
+abbrev pub Reading : Type 0 → Type 0
+Reading A = Store → Result (A × Store)
+
+infixl 10 _>>=_
+unfoldable pub _>>=_ : {A B : Type 0} → Reading A → (A → Reading B) → Reading B
+(m >>= f) store = m store >>=ᵣ λ p. f (p .0) (p .1)
+
+unfoldable pub give : {A : Type 0} → A → Reading A
+give a store = ok (a, store)
+
+unfoldable pub lift : {A : Type 0} → Result A → Reading A
+lift r store = r >>=ᵣ λ a. ok (a, store)
+
+-- "A list where an atom is due, or the reverse, is 7."
+unfoldable pub wordDue : Item → Result Name
+wordDue (word name) = ok name
+wordDue (group inner) = refused atomOrList
+
+unfoldable pub groupDue : Item → Result Items
+groupDue (word name) = refused atomOrList
+groupDue (group inner) = ok inner
+
+-- The next item, asked for without a look ahead, and what follows it: "All members are asked for as above."
+unfoldable pub ask : ℕ → Items → Result (Item × Items)
+ask depth closed = absent depth strayClosing
+ask depth ended = absent depth textEnds
+ask depth badLine = absent depth notUtf8
+ask depth (item then rest) = askedAt depth >>=ᵣ λ _. ok (item, rest)
+
+unfoldable pub askWord : ℕ → Items → Result (Name × Items)
+askWord depth is = ask depth is >>=ᵣ λ p. wordDue (p .0) >>=ᵣ λ name. ok (name, p .1)
+
+unfoldable pub askGroup : ℕ → Items → Result (Items × Items)
+askGroup depth is = ask depth is >>=ᵣ λ p. groupDue (p .0) >>=ᵣ λ inner. ok (inner, p .1)
+
+-- "Where a closing is due, end of text is 5 and any other token 10."
+unfoldable pub closingDue : Items → Result (Unit {0})
+closingDue closed = ok tt
+closingDue ended = refused textEnds
+closingDue badLine = refused notUtf8
+closingDue (item then rest) = refused excess
+
+-- "A number is an optional `+`, then one or more ASCII digits, below 2 to the 64."
+unfoldable pub decimal : ℕ → Name → Option ℕ
+decimal n [] = elim (ltb n (2 ^ 64)) [ true ↦ some n | false ↦ none ]
+decimal n (b ∷ bs) = elim (within (range 0x30 0x39) b) [ true ↦ decimal (n * 10 + (b - 0x30)) bs | false ↦ none ]
+
+unfoldable pub digits : Name → Option ℕ
+digits [] = none
+digits (b ∷ bs) = decimal 0 (b ∷ bs)
+
+unfoldable pub numeral : Name → Option ℕ
+numeral [] = none
+numeral (b ∷ bs) = elim (eqb b 0x2B) [ true ↦ digits bs | false ↦ digits (b ∷ bs) ]
+
+unfoldable pub numberDue : Item → Result ℕ
+numberDue item = wordDue item >>=ᵣ λ name. found (numeral name) notNumber
+
+unfoldable pub askNumber : ℕ → Items → Result (ℕ × Items)
+askNumber depth is = ask depth is >>=ᵣ λ p. numberDue (p .0) >>=ᵣ λ n. ok (n, p .1)
+
+-- An abbreviation, and a goal with its judgment.
+pub data Def : Type 0 where
+  def : Name → Term → Def
+
+pub data Goal : Type 0 where
+  goal : Name → Term → Goal
+
+unfoldable pub isDef : Name → Def → Bool
+isDef name (def n t) = named name n
+
+unfoldable pub meaning : Def → Term
+meaning (def n t) = t
+
+unfoldable pub goalJudgment : Goal → Term
+goalJudgment (goal name j) = j
+
+unfoldable pub isGoal : Name → Goal → Bool
+isGoal name (goal n j) = named name n
+
+-- Whether a term has a sort, and whether terms have the sorts of some inputs, one for each.
+unfoldable pub hasSort : Name → Term → Bool
+hasSort s (node c ts) = sameOutput (output c) (sort s)
+
+unfoldable pub accepts : List Name → Terms → Bool
+accepts [] []ₜ = true
+accepts [] (t ∷ₜ ts) = false
+accepts (s ∷ ss) []ₜ = false
+accepts (s ∷ ss) (t ∷ₜ ts) = hasSort s t && accepts ss ts
+
+unfoldable pub isNil : Terms → Bool
+isNil []ₜ = true
+isNil (t ∷ₜ ts) = false
+
+unfoldable pub isEmptyList : {A : Type 0} → List A → Bool
+isEmptyList [] = true
+isEmptyList (a ∷ as′) = false
+
+-- Puts a term into the store.
+unfoldable pub stored : Setting → Term → Reading Term
+stored limits t store = intern limits t store >>=ᵣ λ after. ok (t, after)
+
+-- "Then 15 for arity and sorts, then the store."
+unfoldable pub make : Setting → Symbol → Terms → Reading Term
+make limits c ts = do
+  _ ← lift (need (accepts (inputs c) ts) sortArity)
+  stored limits (node c ts)
+
+module _ (limits : Setting) (th : Theory) where
+  -- "An atom with a leading `?`, `?` alone too, is an earlier abbreviation (12). An atom or head is a constructor (12)."
+  unfoldable pub atomTerm : List Def → Name → Reading Term
+  atomTerm defs name =
+      elim (questioned name) [
+        | true ↦ lift (found (first (isDef name) defs) unknown) >>= λ d. give (meaning d)
+        | false ↦ lift (constructor th name) >>= λ c. make limits c []ₜ
+      ]
+
+  -- "A term reads its arguments, and each argument is a term": an item that was asked for at a depth.
+  unfoldable mutual
+    pub term : List Def → ℕ → Item → Reading Term
+    term defs depth (word name) = atomTerm defs name
+    term defs depth (group inner) = compound defs (suc depth) inner
+
+    -- "After the closing come 16 for a bracketed constructor without arguments, then 15 for arity and sorts, then the
+    -- store." Its head is asked for without a look ahead.
+    pub compound : List Def → ℕ → Items → Reading Term
+    compound defs depth closed = lift (absent depth strayClosing)
+    compound defs depth ended = lift (absent depth textEnds)
+    compound defs depth badLine = lift (absent depth notUtf8)
+    compound defs depth (item then rest) = do
+      _ ← lift (askedAt depth)
+      name ← lift (wordDue item)
+      c ← lift (constructor th name)
+      ts ← arguments defs depth rest
+      _ ← lift (need (not (isNil ts)) bracketedConstant)
+      make limits c ts
+
+    pub arguments : List Def → ℕ → Items → Reading Terms
+    arguments defs depth closed = give []ₜ
+    arguments defs depth badLine = lift (refused notUtf8)
+    arguments defs depth ended = lift (absent depth textEnds)
+    arguments defs depth (item then rest) = do
+      _ ← lift (askedAt depth)
+      t ← term defs depth item
+      ts ← arguments defs depth rest
+      give (t ∷ₜ ts)
+
+  unfoldable pub askTerm : List Def → ℕ → Items → Reading (Term × Items)
+  askTerm defs depth is = do
+    (item, rest) ← lift (ask depth is)
+    t ← term defs depth item
+    give (t, rest)
+
+  -- "Judgment: list, head a predicate (12), arguments, 15, store." Here its head was asked for and is a name.
+  unfoldable pub headedJudgment : List Def → ℕ → Name → Items → Reading Term
+  headedJudgment defs depth name rest = do
+    p ← lift (predicate th name)
+    ts ← arguments defs depth rest
+    make limits p ts
+
+  unfoldable pub askJudgment : List Def → ℕ → Items → Reading (Term × Items)
+  askJudgment defs depth is = do
+    (inner, rest) ← lift (askGroup depth is)
+    (name, operands) ← lift (askWord (suc depth) inner)
+    j ← headedJudgment defs (suc depth) name operands
+    give (j, rest)
+
+  -- "`(goal N J)`: another head is 9, N with `?` 11; J; closing (else 10); duplicate 13."
+  unfoldable pub goalForm : List Goal → Item → Reading (List Goal)
+  goalForm goals item = do
+    inner ← lift (groupDue item)
+    (head, is₁) ← lift (askWord 1 inner)
+    _ ← lift (need (named head (codes "goal")) form)
+    (name, is₂) ← lift (askWord 1 is₁)
+    _ ← lift (need (not (questioned name)) variableName)
+    (j, is₃) ← askJudgment [] 1 is₂
+    _ ← lift (closingDue is₃)
+    _ ← lift (need (not (some-of (isGoal name) goals)) duplicate)
+    give (goals ++ (goal name j ∷ []))
+
+  unfoldable pub goalForms : List Goal → Items → Reading (List Goal)
+  goalForms goals ended = give goals
+  goalForms goals badLine = lift (refused notUtf8)
+  goalForms goals closed = lift (refused strayClosing)
+  goalForms goals (item then rest) = do
+    more ← goalForm goals item
+    goalForms more rest
+
+  -- "After all goals, none is 17."
+  unfoldable pub goalsOf : List ℕ → Reading (List Goal)
+  goalsOf text = do
+    goals ← goalForms [] (items (tokens text))
+    _ ← lift (need (not (isEmptyList goals)) noGoal)
+    give goals

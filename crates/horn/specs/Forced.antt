@@ -1,0 +1,96 @@
+-- "Words of demand 3" in document 01. "They are fixed by the texts, not by the store": no store, no matching and no
+-- building stands in what is said of terms and instances here.
+use Prim.Native.Nat.{ℕ, _≤_}
+use mathlib.Core.Path.{_≡_}
+use mathlib.Core.List.{List, [], _∷_, _++_, map, List·Memᴰ}
+use lib.ListN.{length}
+use Rattle.horn.specs.Refusals.{ok}
+use Rattle.horn.specs.Setting.{Setting}
+use Rattle.horn.specs.Names.{Name}
+use Rattle.horn.specs.Rulebook.{Symbol, symbol, sort, judgment, Variable, variable, Pattern, var, app, Patterns, []ₚ, _∷ₚ_}
+use Rattle.horn.specs.Rulebook.{Rule, Theory, variablesOf, premisesOf, conclusionOf}
+use Rattle.horn.specs.StoredTerms.{Term, node, Terms, []ₜ, _∷ₜ_, Store}
+use Rattle.horn.specs.Checker.{Goal, goalJudgment, goalsOf}
+use Rattle.horn.specs.Calls.{rulebookJudged}
+
+-- "A ground term of a sort is a constructor declared with that output and, for each input in order, a ground term of the
+-- input's sort; it is finite."
+mutual
+  pub data Ground (th : Theory) : Name → Term → Type 0 where
+    ground : {name s : Name} {ins : List Name} {ts : Terms}
+        → List·Memᴰ (symbol name ins (sort s)) (th .symbols) → Grounds th ins ts → Ground th s (node (symbol name ins (sort s)) ts)
+
+  pub data Grounds (th : Theory) : List Name → Terms → Type 0 where
+    none-left : Grounds th [] []ₜ
+    and-then : {s : Name} {ss : List Name} {t : Term} {ts : Terms} → Ground th s t → Grounds th ss ts → Grounds th (s ∷ ss) (t ∷ₜ ts)
+
+-- "A well-sorted ground judgment is a declared predicate with such terms for its inputs."
+pub data WellSorted (th : Theory) : Term → Type 0 where
+  well-sorted : {name : Name} {ins : List Name} {ts : Terms}
+      → List·Memᴰ (symbol name ins judgment) (th .symbols) → Grounds th ins ts → WellSorted th (node (symbol name ins judgment) ts)
+
+-- A term for each variable, "the same at all its places".
+abbrev pub Assignment : Type 0
+Assignment = Name → Term
+
+unfoldable mutual
+  pub substitute : Assignment → Pattern → Term
+  substitute σ (var name) = σ name
+  substitute σ (app c ps) = node c (substituteAll σ ps)
+
+  pub substituteAll : Assignment → Patterns → Terms
+  substituteAll σ []ₚ = []ₜ
+  substituteAll σ (p ∷ₚ ps) = substitute σ p ∷ₜ substituteAll σ ps
+
+pub record Instance : Type 0 where
+  pub byRule : Rule
+  pub assignment : Assignment
+
+unfoldable pub premises : Instance → List Term
+premises i = map (substitute (i .assignment)) (premisesOf (i .byRule))
+
+unfoldable pub conclusion : Instance → Term
+conclusion i = substitute (i .assignment) (conclusionOf (i .byRule))
+
+-- "A well-sorted rule instance is a rule with one ground term of its sort for each variable".
+pub record IsInstance (th : Theory) (i : Instance) : Type 0 where
+  pub declared : List·Memᴰ (i .byRule) (th .rules)
+  pub sorted : (name s : Name) → List·Memᴰ (variable name s) (variablesOf (i .byRule)) → Ground th s (i .assignment name)
+
+-- Every term of a list is in a set.
+abbrev pub Each {ℓ} : (Term → Type ℓ) → List Term → Type ℓ
+Each S [] = Unit
+Each S (j ∷ js) = S j × Each S js
+
+-- "A set, finite or not, is closed under the rules if it has the conclusion of every such instance whose premises it
+-- has." Its members are well-sorted ground judgments.
+pub record IsClosed {ℓ} (th : Theory) (S : Term → Type ℓ) : Type ℓ where
+  pub members : (j : Term) → S j → WellSorted th j
+  pub closed : (i : Instance) → IsInstance th i → Each S (premises i) → S (conclusion i)
+
+-- "A judgment is forced if it lies in every such set."
+abbrev pub Forced {ℓ} : Theory → Term → Type (ℓ + 1)
+Forced th j = (S : Term → Type ℓ) → IsClosed th S → S j
+
+-- The least closed set, as a type that a contract may name.
+mutual
+  pub data Derivable (th : Theory) : Term → Type 0 where
+    derive : {j : Term} (i : Instance) → IsInstance th i → Derivables th (premises i) → j ≡ conclusion i → Derivable th j
+
+  pub data Derivables (th : Theory) : List Term → Type 0 where
+    all-derived : Derivables th []
+    derived : {j : Term} {js : List Term} → Derivable th j → Derivables th js → Derivables th (j ∷ js)
+
+-- "A goal's judgment is the J of its form."
+unfoldable pub judgments : List Goal → List Term
+judgments = map goalJudgment
+
+-- "A rulebook is accepted if this paper's rules, whatever a program says, give 0 for the call with it alone on areas long
+-- enough."
+pub record Accepted (limits : Setting) (rulebook : List ℕ) (th : Theory) : Type 0 where
+  pub judged : rulebookJudged limits (limits .areaWords) (limits .areaWords) (limits .areaWords) (limits .lastAreaWords) rulebook ≡ ok th
+
+-- "A goals text is read without refusal if by the same rules none is met in it under that rulebook, 2 and 17 included."
+pub record ReadWithoutRefusal (limits : Setting) (th : Theory) (text : List ℕ) (goals : List Goal) (store : Store) : Type 0 where
+  pub short : length text ≤ limits .goalsBytes
+  pub read : goalsOf limits th text [] ≡ ok (goals, store)

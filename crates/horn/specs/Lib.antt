@@ -1,0 +1,14 @@
+pub mod Refusals
+pub mod Setting
+pub mod Utf8
+pub mod Tokens
+pub mod NestedLists
+pub mod Names
+pub mod Rulebook
+pub mod StoredTerms
+pub mod Checker
+pub mod Matching
+pub mod Certificate
+pub mod Calls
+pub mod Forced
+pub mod Layout

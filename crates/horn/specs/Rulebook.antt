@@ -1,0 +1,309 @@
+-- "Rulebook" in document 01.
+use Prim.Native.Nat.{ℕ, zero, suc}
+use mathlib.Core.Bool.{Bool, true, false, not, _&&_}
+use mathlib.Core.List.{List, [], _∷_, _++_}
+use mathlib.Core.Option.{Option, none, some}
+use lib.Dec.{eqb}
+use lib.ListN.{length}
+use Rattle.horn.specs.Refusals.{Result, ok, refused, _>>=_, need, found}
+use Rattle.horn.specs.Refusals.{atomOrList, emptyList, form, variableName, unknown, duplicate, twoSorts, sortArity, bracketedConstant}
+use Rattle.horn.specs.Names.{Name, named, sameList, codes, questioned, bare, first, some-of}
+use Rattle.horn.specs.Tokens.{tokens}
+use Rattle.horn.specs.NestedLists.{Sexp, leaf, list, Sexps, []ₛ, _∷ₛ_, items, sexps}
+
+-- A symbol is a constructor, with the sort that it gives, or a predicate, which gives a judgment. A sort is its name.
+pub data Output : Type 0 where
+  sort : Name → Output
+  judgment : Output
+
+unfoldable pub sameOutput : Output → Output → Bool
+sameOutput (sort s) (sort t) = named s t
+sameOutput (sort s) judgment = false
+sameOutput judgment (sort t) = false
+sameOutput judgment judgment = true
+
+-- Its name, its inputs and its output.
+pub data Symbol : Type 0 where
+  symbol : Name → List Name → Output → Symbol
+
+unfoldable pub sameSymbol : Symbol → Symbol → Bool
+sameSymbol (symbol n is o) (symbol m js p) = named n m && sameList named is js && sameOutput o p
+
+unfoldable pub inputs : Symbol → List Name
+inputs (symbol name ins output) = ins
+
+unfoldable pub output : Symbol → Output
+output (symbol name ins out) = out
+
+-- A rule's variable: its name, with the `?`, and its sort.
+pub data Variable : Type 0 where
+  variable : Name → Name → Variable
+
+unfoldable pub sortOf : Variable → Name
+sortOf (variable name s) = s
+
+mutual
+  pub data Pattern : Type 0 where
+    var : Name → Pattern
+    app : Symbol → Patterns → Pattern
+
+  pub data Patterns : Type 0 where
+    []ₚ : Patterns
+    _∷ₚ_ : Pattern → Patterns → Patterns
+
+infixr 20 _∷ₚ_
+-- Its name, its variables, its premises and its conclusion.
+pub data Rule : Type 0 where
+  rule : Name → List Variable → List Pattern → Pattern → Rule
+
+unfoldable pub variablesOf : Rule → List Variable
+variablesOf (rule name vs premises conclusion) = vs
+
+unfoldable pub premisesOf : Rule → List Pattern
+premisesOf (rule name vs premises conclusion) = premises
+
+unfoldable pub conclusionOf : Rule → Pattern
+conclusionOf (rule name vs premises conclusion) = conclusion
+
+-- What is declared, in order of declaration.
+pub record Theory : Type 0 where
+  pub sorts : List Name
+  pub symbols : List Symbol
+  pub rules : List Rule
+
+-- "Sorts, constructors, predicates and rules have separate names; names are equal when their bytes are."
+unfoldable pub isConstructor : Name → Symbol → Bool
+isConstructor name (symbol n ins (sort s)) = named name n
+isConstructor name (symbol n ins judgment) = false
+
+unfoldable pub isPredicate : Name → Symbol → Bool
+isPredicate name (symbol n ins (sort s)) = false
+isPredicate name (symbol n ins judgment) = named name n
+
+unfoldable pub isRule : Name → Rule → Bool
+isRule name (rule n vs premises conclusion) = named name n
+
+unfoldable pub isVariable : Name → Variable → Bool
+isVariable name (variable n s) = named name n
+
+-- A constructor, a predicate or a rule by its name: "unknown is 12".
+unfoldable pub constructor : Theory → Name → Result Symbol
+constructor th name = found (first (isConstructor name) (th .symbols)) unknown
+
+unfoldable pub predicate : Theory → Name → Result Symbol
+predicate th name = found (first (isPredicate name) (th .symbols)) unknown
+
+unfoldable pub ruleNamed : Theory → Name → Result Rule
+ruleNamed th name = found (first (isRule name) (th .rules)) unknown
+
+-- An atom where one is due: a list there is 7.
+unfoldable pub atomDue : Sexp → Result Name
+atomDue (leaf name) = ok name
+atomDue (list xs) = refused atomOrList
+
+unfoldable pub listDue : Sexp → Result Sexps
+listDue (leaf name) = refused atomOrList
+listDue (list xs) = ok xs
+
+-- "N or S as a list is 7, with a leading `?` 11".
+unfoldable pub declaredName : Sexp → Result Name
+declaredName x = do
+  name ← atomDue x
+  _ ← need (not (questioned name)) variableName
+  ok name
+
+-- "S unknown is 12."
+unfoldable pub sortNamed : Theory → Sexp → Result Name
+sortNamed th x = do
+  name ← declaredName x
+  _ ← need (some-of (named name) (th .sorts)) unknown
+  ok name
+
+unfoldable pub sortsNamed : Theory → Sexps → Result (List Name)
+sortsNamed th []ₛ = ok []
+sortsNamed th (x ∷ₛ xs) = do
+  s ← sortNamed th x
+  ss ← sortsNamed th xs
+  ok (s ∷ ss)
+
+unfoldable pub count : Sexps → ℕ
+count []ₛ = zero
+count (x ∷ₛ xs) = suc (count xs)
+
+-- "Then, atom or list, output sort and length, 15, before the arguments."
+unfoldable pub fits : Symbol → Output → ℕ → Bool
+fits (symbol name ins out) expected arguments = sameOutput out expected && eqb (length ins) arguments
+
+-- A pattern, and the rule's variables so far.
+abbrev pub Read : Type 0 → Type 0
+Read A = Result (A × List Variable)
+
+-- "In a term, `?` alone is 11; `?v` takes its place's sort, and at another sort is 14."
+unfoldable pub schematic : Name → Name → List Variable → Read Pattern
+schematic name s vs = do
+  _ ← need (not (bare name)) variableName
+  elim (first (isVariable name) vs) [
+    | none ↦ ok (var name, vs ++ (variable name s ∷ []))
+    | some (variable n t) ↦ need (named s t) twoSorts >>= λ _. ok (var name, vs)
+  ]
+
+-- "An atom is a constructor (12)."
+unfoldable pub constant : Theory → Name → Name → List Variable → Read Pattern
+constant th name s vs = do
+  c ← constructor th name
+  _ ← need (fits c (sort s) zero) sortArity
+  ok (app c []ₚ, vs)
+
+unfoldable pub isEmpty : Sexps → Bool
+isEmpty []ₛ = true
+isEmpty (x ∷ₛ xs) = false
+
+-- A term at a place of sort s.
+unfoldable mutual
+  pub pattern : Theory → Sexp → Name → List Variable → Read Pattern
+  pattern th (leaf name) s vs = elim (questioned name) [ true ↦ schematic name s vs | false ↦ constant th name s vs ]
+  pattern th (list xs) s vs = compound th xs s vs
+
+  -- "A list: empty 8, head not an atom 7, length one 16, unknown 12."
+  pub compound : Theory → Sexps → Name → List Variable → Read Pattern
+  compound th []ₛ s vs = refused emptyList
+  compound th (x ∷ₛ xs) s vs = do
+    name ← atomDue x
+    _ ← need (not (isEmpty xs)) bracketedConstant
+    c ← constructor th name
+    _ ← need (fits c (sort s) (count xs)) sortArity
+    (ps, ws) ← patterns th xs (inputs c) vs
+    ok (app c ps, ws)
+
+  -- The arguments, one for each input. Their number was tested before.
+  pub patterns : Theory → Sexps → List Name → List Variable → Read Patterns
+  patterns th []ₛ [] vs = ok ([]ₚ, vs)
+  patterns th []ₛ (s ∷ ss) vs = refused sortArity
+  patterns th (x ∷ₛ xs) [] vs = refused sortArity
+  patterns th (x ∷ₛ xs) (s ∷ ss) vs = do
+    (p, us) ← pattern th x s vs
+    (ps, ws) ← patterns th xs ss us
+    ok (p ∷ₚ ps, ws)
+
+-- "A judgment J is a list (else 7), not empty (8), its head an atom (7) and a predicate (12), its length right (15),
+-- then its terms."
+unfoldable pub judgmentOf : Theory → Sexps → List Variable → Read Pattern
+judgmentOf th []ₛ vs = refused emptyList
+judgmentOf th (x ∷ₛ xs) vs = do
+  name ← atomDue x
+  p ← predicate th name
+  _ ← need (fits p judgment (count xs)) sortArity
+  (ps, ws) ← patterns th xs (inputs p) vs
+  ok (app p ps, ws)
+
+unfoldable pub judgmentPattern : Theory → Sexp → List Variable → Read Pattern
+judgmentPattern th x vs = listDue x >>= λ xs. judgmentOf th xs vs
+
+unfoldable pub judgmentPatterns : Theory → Sexps → List Variable → Read (List Pattern)
+judgmentPatterns th []ₛ vs = ok ([], vs)
+judgmentPatterns th (x ∷ₛ xs) vs = do
+  (p, us) ← judgmentPattern th x vs
+  (ps, ws) ← judgmentPatterns th xs us
+  ok (p ∷ ps, ws)
+
+-- "`(sort N)`: N, then duplicate."
+unfoldable pub declareSort : Theory → Sexp → Result Theory
+declareSort th n = do
+  name ← declaredName n
+  _ ← need (not (some-of (named name) (th .sorts))) duplicate
+  ok record { sorts = th .sorts ++ (name ∷ []); symbols = th .symbols; rules = th .rules }
+
+unfoldable pub withSymbol : Theory → Symbol → Theory
+withSymbol th s = record { sorts = th .sorts; symbols = th .symbols ++ (s ∷ []); rules = th .rules }
+
+-- "`(ctor N (S...) S)`, `(pred N (S...))`: N, inputs left to right, output, duplicate." "Inputs or premises given as an
+-- atom 7".
+unfoldable pub declareConstructor : Theory → Sexp → Sexp → Sexp → Result Theory
+declareConstructor th n is o = do
+  name ← declaredName n
+  xs ← listDue is
+  ins ← sortsNamed th xs
+  out ← sortNamed th o
+  _ ← need (not (some-of (isConstructor name) (th .symbols))) duplicate
+  ok (withSymbol th (symbol name ins (sort out)))
+
+unfoldable pub declarePredicate : Theory → Sexp → Sexp → Result Theory
+declarePredicate th n is = do
+  name ← declaredName n
+  xs ← listDue is
+  ins ← sortsNamed th xs
+  _ ← need (not (some-of (isPredicate name) (th .symbols))) duplicate
+  ok (withSymbol th (symbol name ins judgment))
+
+-- "`(rule N (J...) J)`: premises left to right, conclusion, N, duplicate."
+unfoldable pub declareRule : Theory → Sexp → Sexp → Sexp → Result Theory
+declareRule th n js j = do
+  xs ← listDue js
+  (premises, us) ← judgmentPatterns th xs []
+  (conclusion, vs) ← judgmentPattern th j us
+  name ← declaredName n
+  _ ← need (not (some-of (isRule name) (th .rules))) duplicate
+  ok record { sorts = th .sorts; symbols = th .symbols; rules = th .rules ++ (rule name vs premises conclusion ∷ []) }
+
+-- "A head and length other than these 9": what follows the head is one, two or three members.
+unfoldable pub oneMember : {A : Type 0} → Sexps → (Sexp → Result A) → Result A
+oneMember []ₛ f = refused form
+oneMember (x ∷ₛ []ₛ) f = f x
+oneMember (x ∷ₛ y ∷ₛ xs) f = refused form
+
+unfoldable pub twoMembers : {A : Type 0} → Sexps → (Sexp → Sexp → Result A) → Result A
+twoMembers []ₛ f = refused form
+twoMembers (x ∷ₛ xs) f = oneMember xs (f x)
+
+unfoldable pub threeMembers : {A : Type 0} → Sexps → (Sexp → Sexp → Sexp → Result A) → Result A
+threeMembers []ₛ f = refused form
+threeMembers (x ∷ₛ xs) f = twoMembers xs (f x)
+
+-- The four forms by their heads.
+pub data Keyword : Type 0 where
+  sortWord ctorWord predWord ruleWord otherWord : Keyword
+
+unfoldable pub keyword : Name → Keyword
+keyword name =
+    elim (named name (codes "sort")) [
+      | true ↦ sortWord
+      | false ↦ elim (named name (codes "ctor")) [
+        | true ↦ ctorWord
+        | false ↦ elim (named name (codes "pred")) [
+          | true ↦ predWord
+          | false ↦ elim (named name (codes "rule")) [ true ↦ ruleWord | false ↦ otherWord ]
+        ]
+      ]
+    ]
+
+unfoldable pub declare : Theory → Keyword → Sexps → Result Theory
+declare th sortWord xs = oneMember xs (declareSort th)
+declare th ctorWord xs = threeMembers xs (declareConstructor th)
+declare th predWord xs = twoMembers xs (declarePredicate th)
+declare th ruleWord xs = threeMembers xs (declareRule th)
+declare th otherWord xs = refused form
+
+-- "Declarations, in order: an atom is 7, `()` 8, a head that is a list 7".
+unfoldable pub headed : Theory → Sexps → Result Theory
+headed th []ₛ = refused emptyList
+headed th (x ∷ₛ xs) = do
+  name ← atomDue x
+  declare th (keyword name) xs
+
+unfoldable pub declaration : Theory → Sexp → Result Theory
+declaration th x = listDue x >>= headed th
+
+unfoldable pub declarations : Theory → Sexps → Result Theory
+declarations th []ₛ = ok th
+declarations th (x ∷ₛ xs) = do
+  next ← declaration th x
+  declarations next xs
+
+unfoldable pub emptyTheory : Theory
+emptyTheory = record { sorts = []; symbols = []; rules = [] }
+
+-- The theory of a rulebook, or the first refusal.
+unfoldable pub theory : List ℕ → Result Theory
+theory text = do
+  xs ← sexps (items (tokens text))
+  declarations emptyTheory xs
