@@ -167,12 +167,24 @@ fn form(d: &mut Draft, rng: &mut Random) -> Option<()> {
     Some(())
 }
 
+/// An abbreviation of the certificate, put there where it has none.
+fn abbreviation(d: &mut Draft, rng: &mut Random) -> Option<usize> {
+    if let Some(i) = any(rng, &d.certificate("def")) {
+        return Some(i);
+    }
+    let sort = rng.below(d.book.sorts.len());
+    let term = crate::aim_steps::ground(d, rng, sort)?;
+    let at = rng.below(d.forms[C].len() + 1);
+    d.forms[C].insert(at, list([atom("def"), atom("?a"), term]));
+    Some(at)
+}
+
 fn excess(d: &mut Draft, rng: &mut Random) -> Option<()> {
     let extra = if rng.chance(50) { atom("a") } else { list([]) };
     let (which, path) = match rng.below(4) {
         0 => (G, vec![rng.below(d.forms[G].len())]),
         1 => (C, any(rng, &d.bindings())?),
-        2 => (C, vec![any(rng, &d.certificate("def"))?]),
+        2 => (C, vec![abbreviation(d, rng)?]),
         _ => (C, vec![any(rng, &d.certificate("result"))?]),
     };
     d.at(which, &path).members_mut()?.push(extra);
@@ -180,7 +192,7 @@ fn excess(d: &mut Draft, rng: &mut Random) -> Option<()> {
 }
 
 fn question(d: &mut Draft, rng: &mut Random) -> Option<()> {
-    let (which, path) = match rng.below(8) {
+    let (which, path) = match rng.below(9) {
         0..3 => (R, vec![rng.below(d.forms[R].len()), 1]),
         3 => {
             // A sort where it is used: inputs or output.
@@ -199,7 +211,7 @@ fn question(d: &mut Draft, rng: &mut Random) -> Option<()> {
         }
         5 | 6 => (G, vec![rng.below(d.forms[G].len()), 1]),
         _ => {
-            let path = vec![any(rng, &d.certificate("def"))?, 1];
+            let path = vec![abbreviation(d, rng)?, 1];
             *d.at(C, &path) = atom(rng.pick(&["?", "a", "a?", "\u{feff}?a"]));
             return Some(());
         }
@@ -267,7 +279,7 @@ fn unknown(d: &mut Draft, rng: &mut Random) -> Option<()> {
 fn duplicate(d: &mut Draft, rng: &mut Random) -> Option<()> {
     let which = rng.below(3);
     let i = match which {
-        C => any(rng, &d.certificate("def"))?,
+        C => abbreviation(d, rng)?,
         _ => rng.below(d.forms[which].len()),
     };
     let forms = &mut d.forms[which];

@@ -9,6 +9,11 @@ pub const R: usize = 0;
 pub const G: usize = 1;
 pub const C: usize = 2;
 
+/// Whether an item of a step is a binding.
+fn binds(item: &Tree) -> bool {
+    item.members().first().is_some_and(Tree::variable)
+}
+
 pub struct Draft {
     pub book: Rulebook,
     /// The forms of rulebook, goals and certificate.
@@ -51,14 +56,13 @@ impl Draft {
         for (i, form) in self.forms[which].iter().enumerate() {
             let xs = form.members();
             match which {
-                R if form.form("rule") => {
+                R if form.form("rule") && xs.len() == 4 => {
                     out.extend((0..xs[2].members().len()).map(|k| vec![i, 2, k]));
                     out.push(vec![i, 3]);
                 }
-                G => out.push(vec![i, 2]),
+                G if xs.len() > 2 => out.push(vec![i, 2]),
                 C if form.form("step") => {
-                    let stated = |k: &usize| !xs[*k].members()[0].variable();
-                    out.extend((4..xs.len()).filter(stated).map(|k| vec![i, k]));
+                    out.extend((4..xs.len()).filter(|&k| !binds(&xs[k])).map(|k| vec![i, k]));
                 }
                 _ => {}
             }
@@ -71,8 +75,7 @@ impl Draft {
         let mut out = Vec::new();
         for i in self.certificate("step") {
             let xs = self.forms[C][i].members();
-            let bound = |k: &usize| xs[*k].members()[0].variable();
-            out.extend((4..xs.len()).filter(bound).map(|k| vec![i, k]));
+            out.extend((4..xs.len()).filter(|&k| binds(&xs[k])).map(|k| vec![i, k]));
         }
         out
     }
@@ -81,16 +84,18 @@ impl Draft {
     pub fn terms(&self, which: usize) -> Vec<Path> {
         let mut roots = Vec::new();
         for j in self.judgments(which) {
-            let n = tree::at(&mut self.forms[which].clone(), &j).members().len();
+            let n = tree::get(&self.forms[which], &j).members().len();
             roots.extend((1..n).map(|k| [&j[..], &[k]].concat()));
         }
         if which == C {
             roots.extend(self.bindings().into_iter().map(|b| [&b[..], &[1]].concat()));
             roots.extend(self.certificate("def").into_iter().map(|i| vec![i, 2]));
+            // A draft that is damaged twice may lack some of these.
+            roots.retain(|path| tree::get(&self.forms[C], &path[..path.len() - 1]).members().len() > path[path.len() - 1]);
         }
         let mut out = Vec::new();
         while let Some(path) = roots.pop() {
-            let n = tree::at(&mut self.forms[which].clone(), &path).members().len();
+            let n = tree::get(&self.forms[which], &path).members().len();
             roots.extend((1..n).map(|k| [&path[..], &[k]].concat()));
             out.push(path);
         }
@@ -101,11 +106,12 @@ impl Draft {
     pub fn indices(&self) -> [Vec<Path>; 3] {
         let mut out = [const { Vec::new() }; 3];
         for (i, form) in self.forms[C].iter().enumerate() {
-            if form.form("step") {
+            let n = form.members().len();
+            if form.form("step") && n > 3 {
                 out[0].push(vec![i, 1]);
                 let refs = form.members()[3].members().len();
                 out[1].extend((0..refs).map(|k| vec![i, 3, k]));
-            } else if form.form("result") {
+            } else if form.form("result") && n > 2 {
                 out[2].push(vec![i, 2]);
             }
         }

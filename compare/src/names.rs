@@ -15,7 +15,7 @@ pub fn name(rng: &mut Random) -> Vec<u8> {
         0..60 => {
             let mut s = String::from(*rng.pick(&["a", "b", "c", "f", "g", "p", "q", "s", "t", "x", "y", "z"]));
             if rng.chance(25) {
-                s.push_str(rng.pick(&["0", "1", "2", "a", "b"]));
+                s.push(*rng.pick(&['0', '1', '2', 'a', 'b']));
             }
             s
         }

@@ -94,7 +94,8 @@ impl Rulebook {
         for _ in 0..rng.from(0, [1, 4, 8][size]) {
             let p = rng.below(book.preds.len());
             let premises = if size == 2 && rng.chance(20) { rng.from(4, 9) } else { rng.from(0, 3) };
-            book.rule(rng, p, premises, 1 + rng.below(1 + size), &mut used);
+            let depth = rng.from(1, 1 + size);
+            book.rule(rng, p, premises, depth, &mut used);
         }
         book
     }

@@ -60,6 +60,10 @@ pub fn at<'a>(forms: &'a mut [Tree], path: &[usize]) -> &'a mut Tree {
     tree
 }
 
+pub fn get<'a>(forms: &'a [Tree], path: &[usize]) -> &'a Tree {
+    path[1..].iter().fold(&forms[path[0]], |tree, &i| &tree.members()[i])
+}
+
 /// Paths of every node, forms included.
 pub fn nodes(forms: &[Tree]) -> Vec<Path> {
     fn walk(tree: &Tree, path: &mut Path, out: &mut Vec<Path>) {
