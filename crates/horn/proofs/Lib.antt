@@ -1,2 +1,4 @@
 pub mod Run
 pub mod Firings
+pub mod Equality
+pub mod Inversion
