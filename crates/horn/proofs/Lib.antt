@@ -4,3 +4,8 @@ pub mod Post
 pub mod Counts
 pub mod Kept
 pub mod Limits
+pub mod Equality
+pub mod Inversion
+pub mod SoundnessWords
+pub mod SoundnessPatterns
+pub mod SoundnessRulebook
