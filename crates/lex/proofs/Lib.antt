@@ -3,3 +3,4 @@ pub mod Grammar
 pub mod Whiteness
 pub mod Turns
 pub mod Answering
+pub mod Streams
