@@ -6,3 +6,4 @@ pub mod Nodes
 pub mod Holds
 pub mod Limits
 pub mod Interning
+pub mod Trees
