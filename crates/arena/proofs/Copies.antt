@@ -22,9 +22,9 @@ wordsAt-same a b i j (suc n) same =
     let j0 : j + 0 ≡ j = omega arith in
     let here : getD a i 0 ≡ getD b j 0 = rw (i0, j0) at (same 0 (omega arith)) in
     let rest = wordsAt-same a b (i + 1) (j + 1) n (λ d h.
-      let p : i + 1 + d ≡ i + suc d = omega arith in
-      let q : j + 1 + d ≡ j + suc d = omega arith in
-      rw (p, q) (same (suc d) (omega arith))) in
+    let p : i + 1 + d ≡ i + suc d = omega arith in
+    let q : j + 1 + d ≡ j + suc d = omega arith in
+    rw (p, q) (same (suc d) (omega arith))) in
     cc
 
 pub wordsAt-slice : (s : List ℕ) (i n : ℕ) → i + n ≤ length s → wordsAt s i n ≡ take n (drop i s)
@@ -54,7 +54,7 @@ copied-before (suc n) a i s j m h =
     copied-before n (set a i (getD s j 0)) (i + 1) s (j + 1) m (omega arith) ∙ getD-set-other a i m (getD s j 0) 0 (λ e. omega arith)
 
 pub copied-there : (n : ℕ) (a : List ℕ) (i : ℕ) (s : List ℕ) (j d : ℕ) → i + n ≤ length a → d < n →
-  getD (copied a i s j n) (i + d) 0 ≡ getD s (j + d) 0
+    getD (copied a i s j n) (i + d) 0 ≡ getD s (j + d) 0
 unfolding copied
 copied-there zero a i s j d fits h = absurd (omega arith)
 copied-there (suc n) a i s j zero fits h =

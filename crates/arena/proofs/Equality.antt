@@ -36,6 +36,7 @@ list-decides {A} {test} d = record { sound = sound; complete = complete }
         go : (t : Bool) → test a b ≡ t → elim t [ true ↦ sameList test x y | false ↦ false ] ≡ true → (sameList test x y ≡ true → x ≡ y) → a ∷ x ≡ b ∷ y
         go true p e ih = let h = d .sound a b p in let t = ih e in cc
         go false p e ih = not-both e refl
+
     complete : (x : List A) → sameList test x x ≡ true
     complete [] = refl
     complete (a ∷ x) = rw (d .complete a, sameList) (complete x)
@@ -67,6 +68,7 @@ output-decides = record { sound = sound; complete = complete }
     sound (sort s) judgment e = not-both e refl
     sound judgment (sort t) e = not-both e refl
     sound judgment judgment e = refl
+
     complete : (a : Output) → sameOutput a a ≡ true
     complete (sort s) = named-decides .complete s
     complete judgment = refl
@@ -83,6 +85,7 @@ symbol-decides = record { sound = sound; complete = complete }
         let y = list-decides named-decides .sound is js (inner .1) in
         let z = output-decides .sound o p (outer .1) in
         cc
+
     complete : (a : Symbol) → sameSymbol a a ≡ true
     complete (symbol n is o) = rw (named-decides .complete n, list-decides named-decides .complete is, output-decides .complete o)
 
@@ -92,6 +95,7 @@ chosen false b e k = not-both e refl
 
 mutual
   unfolding sameTerm
+
   pub term-sound : (t u : Term) → sameTerm t u ≡ true → t ≡ u
   term-sound (node c ts) (node d us) e =
       chosen (sameSymbol c d) (sameTerms ts us) e (λ p q. let x = symbol-decides .sound c d p in let y = terms-sound ts us q in cc)
@@ -109,6 +113,7 @@ choose false b e h = e
 
 mutual
   unfolding sameTerm
+
   pub term-complete : (t : Term) → sameTerm t t ≡ true
   term-complete (node c ts) = choose (sameSymbol c c) (sameTerms ts ts) (symbol-decides .complete c) (terms-complete ts)
 
@@ -123,8 +128,8 @@ held-place t d [] e = not-both e refl
 held-place t d (u ∷ ts) e = go (sameTerm t u) refl e (held-place t d ts)
   where
     go : (b : Bool) → sameTerm t u ≡ b → elim b [ true ↦ true | false ↦ some-of (sameTerm t) ts ] ≡ true →
-      (some-of (sameTerm t) ts ≡ true → (k : ℕ) × (k < length ts) × (getD ts k d ≡ t)) →
-      (k : ℕ) × (k < length (u ∷ ts)) × (getD (u ∷ ts) k d ≡ t)
+        (some-of (sameTerm t) ts ≡ true → (k : ℕ) × (k < length ts) × (getD ts k d ≡ t)) →
+        (k : ℕ) × (k < length (u ∷ ts)) × (getD (u ∷ ts) k d ≡ t)
     go true p e ih = (0, omega arith, sym (term-sound t u p))
     go false p e ih = let r = ih e in (suc (r .0), omega arith, r .2)
 

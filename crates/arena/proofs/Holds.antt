@@ -15,8 +15,8 @@ use Rattle.arena.specs.Probing.{probe, startPlace}
 use Rattle.arena.specs.Store.{startAt, placeAt, wordAt, areaWords, wordsAt, copied, count, start, isKey, searched, addedAnswer, withNode, addedArea, internAnswer, internArea}
 use Rattle.arena.specs.declared.Probe.{Probe}
 use Rattle.arena.specs.declared.Probe.the-variants.{Held, Free, Nowhere}
-use Rattle.arena.specs.declared.Intern.{Intern}
-use Rattle.arena.specs.declared.Intern.the-variants.{Found, Made, Full}
+use Rattle.arena.specs.declared.Answer.{Answer}
+use Rattle.arena.specs.declared.Answer.the-variants.{Found, Made, Full}
 use Rattle.arena.proofs.Cases.{split, not-both, equal-tests}
 use Rattle.arena.proofs.Copies.{wordsAt-same, wordsAt-all, wordsAt-part, length-copied, copied-before, copied-there}
 use Rattle.arena.proofs.Nodes.{Node, Nodes, nodeOf, total, total-next, total-most, total-one-more, asked, last-or-before, Indexed}
@@ -68,14 +68,14 @@ module _ (nodes : ℕ) (c : List ℕ) (n v p : ℕ) where
       (rw (length-set (set c (startAt (n + 1)) v) 0 (n + 1), length-set c (startAt (n + 1)) v) h)
 
 with-node : (a : List ℕ) (nodes places : ℕ) (key : List ℕ) (p : ℕ) →
-  withNode a nodes places key p ≡ grown nodes (copied a (wordAt nodes places (start a (count a))) key 0 (length key)) (count a) (start a (count a) + length key) p
+    withNode a nodes places key p ≡ grown nodes (copied a (wordAt nodes places (start a (count a))) key 0 (length key)) (count a) (start a (count a) + length key) p
 unfolding withNode grown
 with-node a nodes places key p = refl
 
 module _ (nodes words places : ℕ) (pos : 0 < places) (place : Node → ℕ) (place-below : (x : Node) → place x < places) where
   -- An area whose counts and index are zero holds the empty store, whatever its other words are.
   pub holds-empty : (a : List ℕ) → areaWords nodes words places ≤ length a → count a ≡ 0 → start a 0 ≡ 0 →
-    ((i : ℕ) → i < places → getD a (placeAt nodes i) 0 ≡ 0) → Holds nodes words places place a []
+      ((i : ℕ) → i < places → getD a (placeAt nodes i) 0 ≡ 0) → Holds nodes words places place a []
   unfolding total
   holds-empty a long none first zeros =
       record {
@@ -98,13 +98,14 @@ module _ (nodes words places : ℕ) (pos : 0 < places) (place : Node → ℕ) (p
       where
         first : start a k ≡ total (take k s)
         first = h .starts k (omega arith)
+
         next : start a (k + 1) ≡ total (take k s) + length (nodeOf s k)
         next = h .starts (k + 1) (omega arith) ∙ total-next s k b
 
     module _ (key : Node) where
       -- Probing the words is probing the nodes.
       pub search-is : probe places places (λ (p : ℕ). getD a (placeAt nodes p) 0) (isKey a nodes places key) (place key) ≡
-        probe places places (λ (p : ℕ). getD a (placeAt nodes p) 0) (asked s key) (place key)
+          probe places places (λ (p : ℕ). getD a (placeAt nodes p) 0) (asked s key) (place key)
       unfolding isKey asked
       search-is =
           Walks.same-walk places pos (λ (p : ℕ). getD a (placeAt nodes p) 0) (isKey a nodes places key) (asked s key)
@@ -116,7 +117,7 @@ module _ (nodes words places : ℕ) (pos : 0 < places) (place : Node → ℕ) (p
 
       -- After the writes the area holds the store with the node added last.
       module _ (p : ℕ) (free : probe places places (λ (p : ℕ). getD a (placeAt nodes p) 0) (asked s key) (place key) ≡ Free p)
-        (room : length s < nodes) (space : total s + length key ≤ words) where
+          (room : length s < nodes) (space : total s + length key ≤ words) where
         copy : List ℕ
         copy = copied a (wordAt nodes places (total s)) key 0 (length key)
 
@@ -167,30 +168,31 @@ module _ (nodes words places : ℕ) (pos : 0 < places) (place : Node → ℕ) (p
         new-words m = new-else (wordAt nodes places m) (λ e. omega (arith, p-below)) (λ e. omega arith) (λ e. omega arith)
 
         new-contents : (k : ℕ) → k < length (s ++ (key ∷ [])) →
-          wordsAt new (wordAt nodes places (total (take k (s ++ (key ∷ []))))) (length (nodeOf (s ++ (key ∷ [])) k)) ≡ nodeOf (s ++ (key ∷ [])) k
+            wordsAt new (wordAt nodes places (total (take k (s ++ (key ∷ []))))) (length (nodeOf (s ++ (key ∷ [])) k)) ≡ nodeOf (s ++ (key ∷ [])) k
         unfolding copy
         new-contents k b = last-or-before s key k b old latest
           where
             old : k < length s →
-              wordsAt new (wordAt nodes places (total (take k (s ++ (key ∷ []))))) (length (nodeOf (s ++ (key ∷ [])) k)) ≡ nodeOf (s ++ (key ∷ [])) k
+                wordsAt new (wordAt nodes places (total (take k (s ++ (key ∷ []))))) (length (nodeOf (s ++ (key ∷ [])) k)) ≡ nodeOf (s ++ (key ∷ [])) k
             old b =
                 let below : total (take k s) + length (nodeOf s k) ≤ total s = omega (arith, total-next s k b, total-most s (k + 1)) in
                 rw (take-append-le k s (key ∷ []) (omega arith), List·getD-append s (key ∷ []) [] k b)
                 (wordsAt-same new a (wordAt nodes places (total (take k s))) (wordAt nodes places (total (take k s))) (length (nodeOf s k))
                 (λ d i.
-                  let sum : wordAt nodes places (total (take k s)) + d ≡ wordAt nodes places (total (take k s) + d) = omega arith in
-                  rw sum (new-words (total (take k s) + d) ∙ before (wordAt nodes places (total (take k s) + d)) (omega arith))) ∙
+                let sum : wordAt nodes places (total (take k s)) + d ≡ wordAt nodes places (total (take k s) + d) = omega arith in
+                rw sum (new-words (total (take k s) + d) ∙ before (wordAt nodes places (total (take k s) + d)) (omega arith))) ∙
                 h .contents k b)
+
             latest : k ≡ length s →
-              wordsAt new (wordAt nodes places (total (take k (s ++ (key ∷ []))))) (length (nodeOf (s ++ (key ∷ [])) k)) ≡ nodeOf (s ++ (key ∷ [])) k
+                wordsAt new (wordAt nodes places (total (take k (s ++ (key ∷ []))))) (length (nodeOf (s ++ (key ∷ [])) k)) ≡ nodeOf (s ++ (key ∷ [])) k
             latest e =
                 rw (e, take-append-le (length s) s (key ∷ []) (omega arith), take-length s, getD-append-seam s key [] [])
                 (wordsAt-same new key (wordAt nodes places (total s)) 0 (length key)
                 (λ d i.
-                  let sum : wordAt nodes places (total s) + d ≡ wordAt nodes places (total s + d) = omega arith in
-                  let there : getD copy (wordAt nodes places (total s + d)) 0 ≡ getD key (0 + d) 0 =
-                      rw sum at (copied-there (length key) a (wordAt nodes places (total s)) key 0 d (omega (arith, long)) i) in
-                  rw sum (new-words (total s + d) ∙ there)) ∙
+                let sum : wordAt nodes places (total s) + d ≡ wordAt nodes places (total s + d) = omega arith in
+                let there : getD copy (wordAt nodes places (total s + d)) 0 ≡ getD key (0 + d) 0 =
+                rw sum at (copied-there (length key) a (wordAt nodes places (total s)) key 0 d (omega (arith, long)) i) in
+                rw sum (new-words (total s + d) ∙ there)) ∙
                 wordsAt-all key)
 
         new-index : Indexed places place (λ (p : ℕ). getD new (placeAt nodes p) 0) (s ++ (key ∷ []))
@@ -199,7 +201,7 @@ module _ (nodes words places : ℕ) (pos : 0 < places) (place : Node → ℕ) (p
             N.indexed-more places pos place place-below (λ (p : ℕ). getD a (placeAt nodes p) 0) s (h .index) key
             (λ (p : ℕ). getD new (placeAt nodes p) 0) p free
             (λ i b ne.
-              new-else (placeAt nodes i) (λ e. ne (omega arith)) (λ e. omega arith) (λ e. omega arith) ∙ before (placeAt nodes i) (omega arith))
+            new-else (placeAt nodes i) (λ e. ne (omega arith)) (λ e. omega arith) (λ e. omega arith) ∙ before (placeAt nodes i) (omega arith))
             (grown-place nodes copy (length s) (total s + length key) p (omega (arith, copy-length, long, p-below)) ∙ native.Mathlib.Numerals.add-one (length s))
 
         new-length : length new ≡ length a

@@ -12,8 +12,8 @@ use Rattle.arena.specs.Probing.{probe, startPlace}
 use Rattle.arena.specs.Store.{areaWords, placeAt, count, start, searched, addedAnswer, withNode, addedArea, answerAt, areaAt, internAnswer, internArea}
 use Rattle.arena.specs.declared.Probe.{Probe}
 use Rattle.arena.specs.declared.Probe.the-variants.{Held, Free, Nowhere}
-use Rattle.arena.specs.declared.Intern.{Intern}
-use Rattle.arena.specs.declared.Intern.the-variants.{Found, Made, Full}
+use Rattle.arena.specs.declared.Answer.{Answer}
+use Rattle.arena.specs.declared.Answer.the-variants.{Found, Made, Full}
 use Rattle.arena.proofs.Nodes.{Node, Nodes, nodeOf, total, asked}
 use Rattle.arena.proofs.Limits.{Limits, places-positive, few-nodes, place-below}
 use Rattle.arena.proofs.Holds.{Holds}
@@ -32,24 +32,24 @@ abbrev pub Absent : Nodes → Node → Type 0
 Absent s x = (k : ℕ) → k < length s → nodeOf s k ≡ x → ⊥
 
 -- The three answers, each with what it says of the nodes and with the area that it leaves.
-pub data Interned (nodes words places : ℕ) (a : List ℕ) (s : Nodes) (x : Node) (answer : Intern) (left : List ℕ) : Type 0 where
+pub data Interned (nodes words places : ℕ) (a : List ℕ) (s : Nodes) (x : Node) (answer : Answer) (left : List ℕ) : Type 0 where
   found : (k : ℕ) → answer ≡ Found k → left ≡ a → k < length s → nodeOf s k ≡ x → Interned nodes words places a s x answer left
   made : answer ≡ Made (length s) → Kept nodes words places left (s ++ (x ∷ [])) → Absent s x →
-    length s + 1 ≤ nodes → total s + length x ≤ words → Interned nodes words places a s x answer left
+      length s + 1 ≤ nodes → total s + length x ≤ words → Interned nodes words places a s x answer left
   full : answer ≡ Full → left ≡ a → Absent s x → (length s + 1 ≤ nodes → total s + length x ≤ words → ⊥) →
-    Interned nodes words places a s x answer left
+      Interned nodes words places a s x answer left
 
 module _ (nodes words places : ℕ) (l : Limits nodes words places) where
   -- An area whose counts and index are zero holds the empty store, whatever its other words are.
   pub kept-empty : (a : List ℕ) → areaWords nodes words places ≤ length a → count a ≡ 0 → start a 0 ≡ 0 →
-    ((i : ℕ) → i < places → getD a (placeAt nodes i) 0 ≡ 0) → Kept nodes words places a []
+      ((i : ℕ) → i < places → getD a (placeAt nodes i) 0 ≡ 0) → Kept nodes words places a []
   kept-empty = H.holds-empty nodes words places (places-positive nodes words places l) (place places) (place-below nodes words places l)
 
   module _ (a : List ℕ) (s : Nodes) (h : Kept nodes words places a s) where
     -- Numbers are equal exactly when nodes are.
     pub one-number : (j k : ℕ) → j < length s → k < length s → nodeOf s j ≡ nodeOf s k → j ≡ k
     one-number = N.same-number places (places-positive nodes words places l) (place places) (place-below nodes words places l)
-      (λ (p : ℕ). getD a (placeAt nodes p) 0) s (h .index)
+        (λ (p : ℕ). getD a (placeAt nodes p) 0) s (h .index)
 
     module _ (x : Node) where
       walk : Probe
@@ -66,15 +66,19 @@ module _ (nodes words places : ℕ) (l : Limits nodes words places) where
         where
           absent : Absent s x
           absent = N.absent places (places-positive nodes words places l) (place places) (place-below nodes words places l)
-            (λ (p : ℕ). getD a (placeAt nodes p) 0) s (h .index) x p e
+              (λ (p : ℕ). getD a (placeAt nodes p) 0) s (h .index) x p e
+
           counted : count a ≡ length s
           counted = h .counted
+
           used : start a (count a) ≡ total s
           used = H.last-start nodes words places (places-positive nodes words places l) (place places) (place-below nodes words places l) a s h x
+
           fits : total s ≤ words
           fits = h .words-fit
+
           words-left : length s < nodes → Dec (length x ≤ words - total s) →
-            Interned nodes words places a s x (addedAnswer a nodes words x) (addedArea a nodes words places x p)
+              Interned nodes words places a s x (addedAnswer a nodes words x) (addedArea a nodes words places x p)
           words-left room (yes space) =
               let t1 = lt-leb nodes (count a) (omega (arith, counted)) in
               let t2 = le-ltb words (start a (count a)) (omega (arith, used, fits)) in
@@ -92,6 +96,7 @@ module _ (nodes words places : ℕ) (l : Limits nodes words places) where
               let t2 = le-ltb words (start a (count a)) (omega (arith, used, fits)) in
               let t3 = lt-ltb (words - start a (count a)) (length x) (omega (arith, used, fits)) in
               full (rw (t1, t2, t3)) (rw (t1, t2, t3)) absent (λ _ i. omega (arith, fits))
+
           nodes-left : Dec (nodes ≤ length s) → Interned nodes words places a s x (addedAnswer a nodes words x) (addedArea a nodes words places x p)
           nodes-left (yes none) =
               let t1 = le-leb nodes (count a) (omega (arith, counted)) in
@@ -106,7 +111,7 @@ module _ (nodes words places : ℕ) (l : Limits nodes words places) where
           go : (w : Probe) → walk ≡ w → Interned nodes words places a s x (internAnswer a nodes words places x) (internArea a nodes words places x)
           go (Held k) e =
               let f = N.found places (places-positive nodes words places l) (place places) (place-below nodes words places l)
-                (λ (p : ℕ). getD a (placeAt nodes p) 0) s (h .index) x k e in
+              (λ (p : ℕ). getD a (placeAt nodes p) 0) s (h .index) x k e in
               found k (rw (searched-is ∙ e)) (rw (searched-is ∙ e)) (f .0) (f .1)
           go (Free p) e = rw (searched-is ∙ e) (added p e)
           go Nowhere e =

@@ -7,3 +7,4 @@ pub mod Holds
 pub mod Limits
 pub mod Interning
 pub mod Trees
+pub mod Turns

@@ -34,7 +34,7 @@ right-at zero t e h = absurd (omega arith)
 right-at (suc b) t e h = go (eqb (trailingZeros 32 (2 ^ b)) b) refl t (right-at b)
   where
     go : (x : Bool) → eqb (trailingZeros 32 (2 ^ b)) b ≡ x → elim x [ true ↦ rightBelow b | false ↦ false ] ≡ true →
-      (rightBelow b ≡ true → (e : ℕ) → e < b → trailingZeros 32 (2 ^ e) ≡ e) → trailingZeros 32 (2 ^ e) ≡ e
+        (rightBelow b ≡ true → (e : ℕ) → e < b → trailingZeros 32 (2 ^ e) ≡ e) → trailingZeros 32 (2 ^ e) ≡ e
     go false p t ih = not-both t refl
     go true p t ih = last (native.Mathlib.Decide.ℕ-discrete e b)
       where

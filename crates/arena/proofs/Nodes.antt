@@ -116,7 +116,7 @@ module _ (places : ℕ) (pos : 0 < places) (start : Node → ℕ) (start-below :
           omega (arith, index .few)
 
       pub indexed-more : (r′ : ℕ → ℕ) (p : ℕ) → probe places places r (asked s x) (start x) ≡ Free p →
-        ((i : ℕ) → i < places → (i ≡ p → ⊥) → r′ i ≡ r i) → r′ p ≡ suc (length s) → Indexed places start r′ (s ++ (x ∷ []))
+          ((i : ℕ) → i < places → (i ≡ p → ⊥) → r′ i ≡ r i) → r′ p ≡ suc (length s) → Indexed places start r′ (s ++ (x ∷ []))
       unfolding asked
       indexed-more r′ p e others here =
           record {
@@ -127,22 +127,27 @@ module _ (places : ℕ) (pos : 0 < places) (start : Node → ℕ) (start-below :
         where
           free : (p < places) × (r p ≡ 0)
           free = Walks.free-at places pos r (asked s x) p places (start x) (start-below x) e
+
           more : (y : Node) (i v : ℕ) → i < places → r i ≡ suc v → asked (s ++ (x ∷ [])) y v ≡ asked s y v
           more y i v b h = asked-more s x y v (in-use i v b h)
+
           old : (k : ℕ) → k < length s →
-            probe places places r′ (asked (s ++ (x ∷ [])) (nodeOf (s ++ (x ∷ [])) k)) (start (nodeOf (s ++ (x ∷ [])) k)) ≡ Held k
+              probe places places r′ (asked (s ++ (x ∷ [])) (nodeOf (s ++ (x ∷ [])) k)) (start (nodeOf (s ++ (x ∷ [])) k)) ≡ Held k
           old k h =
               rw (List·getD-append s (x ∷ []) [] k h)
               (Walks.still-held places pos r r′ (length s) p others here (free .1)
               (asked s (nodeOf s k)) (asked (s ++ (x ∷ [])) (nodeOf s k)) (more (nodeOf s k)) k places (start (nodeOf s k)) (start-below (nodeOf s k)) (index .each k h))
+
           itself : asked (s ++ (x ∷ [])) x (length s) ≡ true
           itself = rw (getD-append-seam s x [] []) (words-decide .complete x)
+
           new : {k : ℕ} → k ≡ length s →
-            probe places places r′ (asked (s ++ (x ∷ [])) (nodeOf (s ++ (x ∷ [])) k)) (start (nodeOf (s ++ (x ∷ [])) k)) ≡ Held k
+              probe places places r′ (asked (s ++ (x ∷ [])) (nodeOf (s ++ (x ∷ [])) k)) (start (nodeOf (s ++ (x ∷ [])) k)) ≡ Held k
           new h =
               rw (h, getD-append-seam s x [] [])
               (Walks.now-held places pos r r′ (length s) p others here (free .1)
               (asked s x) (asked (s ++ (x ∷ [])) x) (more x) itself places (start x) (start-below x) e)
+
           bounded : (i : ℕ) → i < places → r′ i ≤ length (s ++ (x ∷ []))
           bounded i h = go (native.Mathlib.Decide.ℕ-discrete i p)
             where

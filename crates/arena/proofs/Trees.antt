@@ -15,8 +15,8 @@ use Rattle.horn.specs.Setting.{Setting}
 use Rattle.horn.specs.Rulebook.{Symbol}
 use Rattle.horn.specs.StoredTerms.{Term, node, Terms, []ₜ, _∷ₜ_, width, nodeSize, size, holds, withinLimits, intern}
 use Rattle.arena.specs.Store.{internAnswer, internArea}
-use Rattle.arena.specs.declared.Intern.{Intern}
-use Rattle.arena.specs.declared.Intern.the-variants.{Found, Made, Full}
+use Rattle.arena.specs.declared.Answer.{Answer}
+use Rattle.arena.specs.declared.Answer.the-variants.{Found, Made, Full}
 use Rattle.arena.proofs.Cases.{split, not-both}
 use Rattle.arena.proofs.Equality.{held-place, place-held}
 use Rattle.arena.proofs.Nodes.{Node, Nodes, nodeOf, total, last-or-before}
@@ -113,13 +113,13 @@ module _ (symbolAt : ℕ → Symbol) where
       pub stand : Stand ts nodesOf
 
     -- The three answers beside the definition's.
-    pub data InternedTree (limits : Setting) (places : ℕ) (a : List ℕ) (ts : List Term) (t : Term) (answer : Intern) (left : List ℕ) : Type 0 where
+    pub data InternedTree (limits : Setting) (places : ℕ) (a : List ℕ) (ts : List Term) (t : Term) (answer : Answer) (left : List ℕ) : Type 0 where
       known : (k : ℕ) → answer ≡ Found k → left ≡ a → k < length ts → treeOf ts k ≡ t → holds ts t ≡ true → intern limits t ts ≡ ok ts →
-        InternedTree limits places a ts t answer left
+          InternedTree limits places a ts t answer left
       new : answer ≡ Made (length ts) → Trees (limits .nodes) (limits .nodeWords) places left (ts ++ (t ∷ [])) → holds ts t ≡ false →
-        intern limits t ts ≡ ok (ts ++ (t ∷ [])) → InternedTree limits places a ts t answer left
+          intern limits t ts ≡ ok (ts ++ (t ∷ [])) → InternedTree limits places a ts t answer left
       refuses : answer ≡ Full → left ≡ a → holds ts t ≡ false → intern limits t ts ≡ refused storeFull →
-        InternedTree limits places a ts t answer left
+          InternedTree limits places a ts t answer left
 
     module _ (injective : (g h : ℕ) → used g → used h → symbolAt g ≡ symbolAt h → g ≡ h) where
       module _ (ts : List Term) (s : Nodes) (h : Stand ts s) where
@@ -174,31 +174,38 @@ module _ (symbolAt : ℕ → Symbol) where
             where
               t : Term
               t = build ts x
+
               before : (k : ℕ) → k < length s → treeOf (ts ++ (build ts x ∷ [])) k ≡ treeOf ts k
               before k i = List·getD-append ts (build ts x ∷ []) blank k (omega (arith, h .same))
+
               last : treeOf (ts ++ (build ts x ∷ [])) (length s) ≡ build ts x
               last = rw (← h .same) (getD-append-seam ts (build ts x) [] blank)
+
               in-range : {k : ℕ} {y : Node} → k ≤ length s → Formed used k y → Formed used (length ts) y
               in-range i f = formed-more (length ts) (omega (arith, h .same)) f
+
               built-before : (k : ℕ) → k < length s → treeOf (ts ++ (build ts x ∷ [])) k ≡ build (ts ++ (build ts x ∷ [])) (nodeOf (s ++ (x ∷ [])) k)
               built-before k i =
                   rw (List·getD-append s (x ∷ []) [] k i)
                   (before k i ∙ h .built k i ∙ sym (build-more ts (build ts x ∷ []) (in-range (omega arith) (h .each k i))))
+
               built-last : treeOf (ts ++ (build ts x ∷ [])) (length s) ≡ build (ts ++ (build ts x ∷ [])) (nodeOf (s ++ (x ∷ [])) (length s))
               built-last = rw (getD-append-seam s x [] []) (last ∙ sym (build-more ts (build ts x ∷ []) (in-range (omega arith) fx)))
+
               -- An old tree is never the new one.
               fresh : (k : ℕ) → k < length s → treeOf ts k ≡ build ts x → ⊥
               fresh k i e = not-both (place-held (build ts x) blank ts k (omega (arith, h .same)) e) (not-held absent)
+
               apart : (j k : ℕ) → j < length (s ++ (x ∷ [])) → k < length (s ++ (x ∷ [])) →
-                treeOf (ts ++ (build ts x ∷ [])) j ≡ treeOf (ts ++ (build ts x ∷ [])) k → j ≡ k
+                  treeOf (ts ++ (build ts x ∷ [])) j ≡ treeOf (ts ++ (build ts x ∷ [])) k → j ≡ k
               apart j k bj bk e =
                   last-or-before s x j bj
                   (λ ij. last-or-before s x k bk
-                    (λ ik. h .apart j k ij ik (sym (before j ij) ∙ e ∙ before k ik))
-                    (λ ik. absurd (fresh j ij (sym (before j ij) ∙ e ∙ rw ik last))))
+                  (λ ik. h .apart j k ij ik (sym (before j ij) ∙ e ∙ before k ik))
+                  (λ ik. absurd (fresh j ij (sym (before j ij) ∙ e ∙ rw ik last))))
                   (λ ij. last-or-before s x k bk
-                    (λ ik. absurd (fresh k ik (sym (before k ik) ∙ sym e ∙ rw ij last)))
-                    (λ ik. ij ∙ sym ik))
+                  (λ ik. absurd (fresh k ik (sym (before k ik) ∙ sym e ∙ rw ij last)))
+                  (λ ik. ij ∙ sym ik))
 
           -- What the definition answers.
           defined-held : (limits : Setting) → holds ts (build ts x) ≡ true → intern limits (build ts x) ts ≡ ok ts
@@ -206,7 +213,7 @@ module _ (symbolAt : ℕ → Symbol) where
           defined-held limits e = rw (e, intern)
 
           defined-new : (limits : Setting) → holds ts (build ts x) ≡ false → length s + 1 ≤ limits .nodes → total s + length x ≤ limits .nodeWords →
-            intern limits (build ts x) ts ≡ ok (ts ++ (build ts x ∷ []))
+              intern limits (build ts x) ts ≡ ok (ts ++ (build ts x ∷ []))
           unfolding intern withinLimits need _>>=_
           defined-new limits e a b =
               let p = le-leb (length (ts ++ (build ts x ∷ []))) (limits .nodes) (omega (arith, length-append ts (build ts x ∷ []), h .same)) in
@@ -214,16 +221,18 @@ module _ (symbolAt : ℕ → Symbol) where
               rw (e, intern) (rw (p, q))
 
           defined-full : (limits : Setting) → holds ts (build ts x) ≡ false → (length s + 1 ≤ limits .nodes → total s + length x ≤ limits .nodeWords → ⊥) →
-            intern limits (build ts x) ts ≡ refused storeFull
+              intern limits (build ts x) ts ≡ refused storeFull
           unfolding intern withinLimits need _>>=_
           defined-full limits e over = rw (e, intern) (nodes-first (decLe (length s + 1) (limits .nodes)))
             where
               count : length (ts ++ (build ts x ∷ [])) ≡ length s + 1
               count = length-append ts (build ts x ∷ []) ∙ ap (λ (n : ℕ). n + 1) (h .same)
+
               words : size (ts ++ (build ts x ∷ [])) ≡ total s + length x
               words = omega (arith, size-append ts (build ts x), all-size, build-size ts fx)
+
               nodes-first : Dec (length s + 1 ≤ limits .nodes) →
-                (need (leb (length (ts ++ (build ts x ∷ []))) (limits .nodes) && leb (size (ts ++ (build ts x ∷ []))) (limits .nodeWords)) storeFull >>= λ _. ok (ts ++ (build ts x ∷ []))) ≡ refused storeFull
+                  (need (leb (length (ts ++ (build ts x ∷ []))) (limits .nodes) && leb (size (ts ++ (build ts x ∷ []))) (limits .nodeWords)) storeFull >>= λ _. ok (ts ++ (build ts x ∷ []))) ≡ refused storeFull
               nodes-first (yes i) =
                   let p = le-leb (length (ts ++ (build ts x ∷ []))) (limits .nodes) (omega (arith, count)) in
                   let q = lt-leb (size (ts ++ (build ts x ∷ []))) (limits .nodeWords) (lt-of-not-le (λ j. over i (omega (arith, words)))) in
@@ -234,19 +243,22 @@ module _ (symbolAt : ℕ → Symbol) where
 
       -- `intern` of a head and argument numbers is the definition's store applied to the tree that they stand for.
       pub interned-tree : (limits : Setting) (places : ℕ) → Limits (limits .nodes) (limits .nodeWords) places →
-        (a : List ℕ) (ts : List Term) → Trees (limits .nodes) (limits .nodeWords) places a ts →
-        (x : Node) → Formed used (length ts) x →
-        InternedTree limits places a ts (build ts x) (internAnswer a (limits .nodes) (limits .nodeWords) places x) (internArea a (limits .nodes) (limits .nodeWords) places x)
+          (a : List ℕ) (ts : List Term) → Trees (limits .nodes) (limits .nodeWords) places a ts →
+          (x : Node) → Formed used (length ts) x →
+          InternedTree limits places a ts (build ts x) (internAnswer a (limits .nodes) (limits .nodeWords) places x) (internArea a (limits .nodes) (limits .nodeWords) places x)
       interned-tree limits places l a ts trees x fx = go (interned (limits .nodes) (limits .nodeWords) places l a s (trees .kept) x)
         where
           s : Nodes
           s = trees .nodesOf
+
           h : Stand ts s
           h = trees .stand
+
           fs : Formed used (length s) x
           fs = rw (h .same) at fx
+
           go : Interned (limits .nodes) (limits .nodeWords) places a s x (internAnswer a (limits .nodes) (limits .nodeWords) places x) (internArea a (limits .nodes) (limits .nodeWords) places x) →
-            InternedTree limits places a ts (build ts x) (internAnswer a (limits .nodes) (limits .nodeWords) places x) (internArea a (limits .nodes) (limits .nodeWords) places x)
+              InternedTree limits places a ts (build ts x) (internAnswer a (limits .nodes) (limits .nodeWords) places x) (internArea a (limits .nodes) (limits .nodeWords) places x)
           go (found k e left b same) =
               let t = held ts s h x fs k b same in
               known k e left (omega (arith, h .same)) (t .0) (t .1) (defined-held ts s h x fs limits (t .1))

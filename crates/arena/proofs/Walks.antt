@@ -24,16 +24,16 @@ unfolding probe
 turn-held places f r q i v e h = rw (e, probe) (rw (h, probe))
 
 pub turn-on : (places f : ℕ) (r : ℕ → ℕ) (q : ℕ → Bool) (i v : ℕ) → r i ≡ suc v → q v ≡ false →
-  probe places (suc f) r q i ≡ probe places f r q ((i + 1) % places)
+    probe places (suc f) r q i ≡ probe places f r q ((i + 1) % places)
 unfolding probe
 turn-on places f r q i v e h = rw (e, probe) (rw (h, probe))
 
 -- One turn, by its three ways. Every induction below goes through it.
 turn {ℓ} : {C : Type ℓ} (places f : ℕ) (r : ℕ → ℕ) (q : ℕ → Bool) (i : ℕ) →
-  (r i ≡ 0 → probe places (suc f) r q i ≡ Free i → C) →
-  ((v : ℕ) → r i ≡ suc v → q v ≡ true → probe places (suc f) r q i ≡ Held v → C) →
-  ((v : ℕ) → r i ≡ suc v → q v ≡ false → probe places (suc f) r q i ≡ probe places f r q ((i + 1) % places) → C) →
-  C
+    (r i ≡ 0 → probe places (suc f) r q i ≡ Free i → C) →
+    ((v : ℕ) → r i ≡ suc v → q v ≡ true → probe places (suc f) r q i ≡ Held v → C) →
+    ((v : ℕ) → r i ≡ suc v → q v ≡ false → probe places (suc f) r q i ≡ probe places f r q ((i + 1) % places) → C) →
+    C
 turn {C} places f r q i free held on = go (r i) refl
   where
     go : (w : ℕ) → r i ≡ w → C
@@ -52,7 +52,7 @@ nowhere-free e = let z : _≡_ {A = ℕ} 0 1 = cc in absurd (omega arith)
 module _ (places : ℕ) (pos : 0 < places) where
   -- A walk depends only on what it reads below `places`, and on the test at the numbers that it meets.
   pub same-walk : (r : ℕ → ℕ) (q q′ : ℕ → Bool) → ((i v : ℕ) → i < places → r i ≡ suc v → q v ≡ q′ v) →
-    (f i : ℕ) → i < places → probe places f r q i ≡ probe places f r q′ i
+      (f i : ℕ) → i < places → probe places f r q i ≡ probe places f r q′ i
   same-walk r q q′ eq zero i b = turn-none places r q i ∙ sym (turn-none places r q′ i)
   same-walk r q q′ eq (suc f) i b =
       turn places f r q i
@@ -62,7 +62,7 @@ module _ (places : ℕ) (pos : 0 < places) where
 
   -- Where it found a number, a place holds that number plus 1, and the test holds of it.
   pub held-at : (r : ℕ → ℕ) (q : ℕ → Bool) (k f i : ℕ) → i < places → probe places f r q i ≡ Held k →
-    (q k ≡ true) × ((p : ℕ) × (p < places) × (r p ≡ suc k))
+      (q k ≡ true) × ((p : ℕ) × (p < places) × (r p ≡ suc k))
   held-at r q k zero i b e = nowhere-held (sym (turn-none places r q i) ∙ e)
   held-at r q k (suc f) i b e =
       turn places f r q i
@@ -81,7 +81,7 @@ module _ (places : ℕ) (pos : 0 < places) where
 
   -- A walk that ends nowhere met only places in use, and with as many turns as places it met all of them.
   used : (r : ℕ → ℕ) (q : ℕ → Bool) (f i : ℕ) → i < places → probe places f r q i ≡ Nowhere →
-    (d : ℕ) → d < f → r ((i + d) % places) ≡ 0 → ⊥
+      (d : ℕ) → d < f → r ((i + d) % places) ≡ 0 → ⊥
   used r q zero i b e d h z = absurd (omega arith)
   used r q (suc f) i b e d h z =
       turn places f r q i
@@ -90,7 +90,7 @@ module _ (places : ℕ) (pos : 0 < places) where
       (λ v e′ h′ p. later v e′ d h z (used r q f ((i + 1) % places) (mod-lt (i + 1) pos) (sym p ∙ e)))
     where
       later : (v : ℕ) → r i ≡ suc v → (d : ℕ) → d < suc f → r ((i + d) % places) ≡ 0 →
-        ((d : ℕ) → d < f → r (((i + 1) % places + d) % places) ≡ 0 → ⊥) → ⊥
+          ((d : ℕ) → d < f → r (((i + 1) % places + d) % places) ≡ 0 → ⊥) → ⊥
       later v e′ zero h z more =
           let same : (i + 0) % places ≡ i = rw native.Mathlib.Nat.add-zero (mod-eq-of-lt b) in
           let y : r i ≡ 0 = rw same at z in
@@ -100,7 +100,7 @@ module _ (places : ℕ) (pos : 0 < places) where
           more d (le-of-suc-le-suc h) (ap r (mod-add-mod (i + 1) places d ∙ ap (λ (n : ℕ). n % places) sum) ∙ z)
 
   pub all-used : (r : ℕ → ℕ) (q : ℕ → Bool) (i : ℕ) → i < places → probe places places r q i ≡ Nowhere →
-    (p : ℕ) → p < places → r p ≡ 0 → ⊥
+      (p : ℕ) → p < places → r p ≡ 0 → ⊥
   all-used r q i b e p h z =
       used r q places i b e ((p + (places - i)) % places) (mod-lt (p + (places - i)) pos)
       (ap r (add-mod-mod i (p + (places - i)) places ∙ ap (λ (n : ℕ). n % places) sum ∙ add-mod-right p places ∙ mod-eq-of-lt h) ∙ z)
@@ -110,34 +110,34 @@ module _ (places : ℕ) (pos : 0 < places) where
 
   -- What a new number n at the free place p does to the walks.
   module _ (r r′ : ℕ → ℕ) (n p : ℕ)
-    (others : (i : ℕ) → i < places → (i ≡ p → ⊥) → r′ i ≡ r i)
-    (here : r′ p ≡ suc n)
-    (free : r p ≡ 0)
+      (others : (i : ℕ) → i < places → (i ≡ p → ⊥) → r′ i ≡ r i)
+      (here : r′ p ≡ suc n)
+      (free : r p ≡ 0)
     where
-    busy : (i v : ℕ) → i < places → r i ≡ suc v → r′ i ≡ suc v
-    busy i v b e = others i b (λ same. let z : r i ≡ 0 = rw same free in omega arith) ∙ e
+      busy : (i v : ℕ) → i < places → r i ≡ suc v → r′ i ≡ suc v
+      busy i v b e = others i b (λ same. let z : r i ≡ 0 = rw same free in omega arith) ∙ e
 
-    -- A walk that found k never met the free place.
-    pub still-held : (q q′ : ℕ → Bool) → ((i v : ℕ) → i < places → r i ≡ suc v → q′ v ≡ q v) →
-      (k f i : ℕ) → i < places → probe places f r q i ≡ Held k → probe places f r′ q′ i ≡ Held k
-    still-held q q′ eq k zero i b e = nowhere-held (sym (turn-none places r q i) ∙ e)
-    still-held q q′ eq k (suc f) i b e =
-        turn places f r q i
-        (λ z s. free-held (sym s ∙ e))
-        (λ v e′ h s. turn-held places f r′ q′ i v (busy i v b e′) (eq i v b e′ ∙ h) ∙ sym s ∙ e)
-        (λ v e′ h s.
+      -- A walk that found k never met the free place.
+      pub still-held : (q q′ : ℕ → Bool) → ((i v : ℕ) → i < places → r i ≡ suc v → q′ v ≡ q v) →
+          (k f i : ℕ) → i < places → probe places f r q i ≡ Held k → probe places f r′ q′ i ≡ Held k
+      still-held q q′ eq k zero i b e = nowhere-held (sym (turn-none places r q i) ∙ e)
+      still-held q q′ eq k (suc f) i b e =
+          turn places f r q i
+          (λ z s. free-held (sym s ∙ e))
+          (λ v e′ h s. turn-held places f r′ q′ i v (busy i v b e′) (eq i v b e′ ∙ h) ∙ sym s ∙ e)
+          (λ v e′ h s.
           turn-on places f r′ q′ i v (busy i v b e′) (eq i v b e′ ∙ h) ∙
           still-held q q′ eq k f ((i + 1) % places) (mod-lt (i + 1) pos) (sym s ∙ e))
 
-    -- The walk that ended at the free place now finds the new number there.
-    pub now-held : (q q′ : ℕ → Bool) → ((i v : ℕ) → i < places → r i ≡ suc v → q′ v ≡ q v) → q′ n ≡ true →
-      (f i : ℕ) → i < places → probe places f r q i ≡ Free p → probe places f r′ q′ i ≡ Held n
-    now-held q q′ eq new zero i b e = nowhere-free (sym (turn-none places r q i) ∙ e)
-    now-held q q′ eq new (suc f) i b e =
-        turn places f r q i
-        (λ z s. let same : p ≡ i = cc in turn-held places f r′ q′ i n (rw same at here) new)
-        (λ v e′ h s. free-held (sym e ∙ s))
-        (λ v e′ h s.
+      -- The walk that ended at the free place now finds the new number there.
+      pub now-held : (q q′ : ℕ → Bool) → ((i v : ℕ) → i < places → r i ≡ suc v → q′ v ≡ q v) → q′ n ≡ true →
+          (f i : ℕ) → i < places → probe places f r q i ≡ Free p → probe places f r′ q′ i ≡ Held n
+      now-held q q′ eq new zero i b e = nowhere-free (sym (turn-none places r q i) ∙ e)
+      now-held q q′ eq new (suc f) i b e =
+          turn places f r q i
+          (λ z s. let same : p ≡ i = cc in turn-held places f r′ q′ i n (rw same at here) new)
+          (λ v e′ h s. free-held (sym e ∙ s))
+          (λ v e′ h s.
           turn-on places f r′ q′ i v (busy i v b e′) (eq i v b e′ ∙ h) ∙
           now-held q q′ eq new f ((i + 1) % places) (mod-lt (i + 1) pos) (sym s ∙ e))
 
@@ -178,7 +178,7 @@ pub occupied-one-more : (r r′ : ℕ → ℕ) (p b : ℕ) → ((i : ℕ) → i 
 unfolding occupied
 occupied-one-more r r′ p zero others = omega arith
 occupied-one-more r r′ p (suc b) others = go (native.Mathlib.Decide.ℕ-discrete b p)
-  (occupied-one-more r r′ p b (λ i h ne. others i (omega arith) ne))
+    (occupied-one-more r r′ p b (λ i h ne. others i (omega arith) ne))
   where
     go : Dec (b ≡ p) → occupied r′ b ≤ suc (occupied r b) → inUse (r′ b) + occupied r′ b ≤ suc (inUse (r b) + occupied r b)
     go (yes same) ih =

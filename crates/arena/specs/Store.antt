@@ -11,8 +11,8 @@ use Rattle.horn.specs.Refusals.{number, storeFull}
 use Rattle.arena.specs.Probing.{probe, startPlace}
 use Rattle.arena.specs.declared.Probe.{Probe}
 use Rattle.arena.specs.declared.Probe.the-variants.{Held, Free, Nowhere}
-use Rattle.arena.specs.declared.Intern.{Intern}
-use Rattle.arena.specs.declared.Intern.the-variants.{Found, Made, Full}
+use Rattle.arena.specs.declared.Answer.{Answer}
+use Rattle.arena.specs.declared.Answer.the-variants.{Found, Made, Full}
 
 abbrev pub startAt : ℕ → ℕ
 startAt k = k + 1
@@ -58,11 +58,11 @@ pick true x y = x tt
 pick false x y = y tt
 
 -- "Refusal 28 comes when a node not yet held would pass either, and otherwise never."
-unfoldable pub addedAnswer : List ℕ → ℕ → ℕ → List ℕ → Intern
+unfoldable pub addedAnswer : List ℕ → ℕ → ℕ → List ℕ → Answer
 addedAnswer a nodes words key =
     pick (leb nodes (count a)) (λ _. Full) (λ _.
-      pick (ltb words (start a (count a))) (λ _. Full) (λ _.
-        pick (ltb (words - start a (count a)) (length key)) (λ _. Full) (λ _. Made (count a))))
+    pick (ltb words (start a (count a))) (λ _. Full) (λ _.
+    pick (ltb (words - start a (count a)) (length key)) (λ _. Full) (λ _. Made (count a))))
 
 -- The area with the key as the last node, whose number plus 1 stands at place p of the index.
 unfoldable pub withNode : List ℕ → ℕ → ℕ → List ℕ → ℕ → List ℕ
@@ -78,11 +78,11 @@ withNode a nodes places key p =
 unfoldable pub addedArea : List ℕ → ℕ → ℕ → ℕ → List ℕ → ℕ → List ℕ
 addedArea a nodes words places key p =
     pick (leb nodes (count a)) (λ _. a) (λ _.
-      pick (ltb words (start a (count a))) (λ _. a) (λ _.
-        pick (ltb (words - start a (count a)) (length key)) (λ _. a) (λ _. withNode a nodes places key p)))
+    pick (ltb words (start a (count a))) (λ _. a) (λ _.
+    pick (ltb (words - start a (count a)) (length key)) (λ _. a) (λ _. withNode a nodes places key p)))
 
 -- What follows from where probing ended.
-unfoldable pub answerAt : List ℕ → ℕ → ℕ → List ℕ → Probe → Intern
+unfoldable pub answerAt : List ℕ → ℕ → ℕ → List ℕ → Probe → Answer
 answerAt a nodes words key (Held k) = Found k
 answerAt a nodes words key (Free p) = addedAnswer a nodes words key
 answerAt a nodes words key Nowhere = Full
@@ -92,7 +92,7 @@ areaAt a nodes words places key (Held k) = a
 areaAt a nodes words places key (Free p) = addedArea a nodes words places key p
 areaAt a nodes words places key Nowhere = a
 
-unfoldable pub internAnswer : List ℕ → ℕ → ℕ → ℕ → List ℕ → Intern
+unfoldable pub internAnswer : List ℕ → ℕ → ℕ → ℕ → List ℕ → Answer
 internAnswer a nodes words places key = answerAt a nodes words key (searched a nodes places key)
 
 unfoldable pub internArea : List ℕ → ℕ → ℕ → ℕ → List ℕ → List ℕ
@@ -109,12 +109,15 @@ unfoldable pub argumentOf : List ℕ → ℕ → ℕ → ℕ → ℕ → ℕ
 argumentOf a nodes places k j = getD a (wordAt nodes places (start a k) + 1 + j) 0
 
 -- 01's number and values for each answer: 0 and the node's number, with whether the node is new; or 28, and no value.
-pub record Answer : Type 0 where
+pub record Reported : Type 0 where
   pub number : ℕ
   pub value : ℕ
   pub fresh : Bool
 
-unfoldable pub answered : Intern → Answer
+unfoldable pub answered : Answer → Reported
 answered (Found k) = record { number = 0; value = k; fresh = false }
 answered (Made k) = record { number = 0; value = k; fresh = true }
 answered Full = record { number = number storeFull; value = 0; fresh = false }
+
+unfoldable pub internReport : List ℕ → ℕ → ℕ → ℕ → List ℕ → Reported
+internReport a nodes words places key = answered (internAnswer a nodes words places key)
