@@ -42,6 +42,12 @@ wordsAt-part s i j n e h =
     let d : j - i ≡ n = omega arith in
     rw d (sym (wordsAt-slice s i n (omega arith)))
 
+pub getD-wordsAt : (s : List ℕ) (i n d : ℕ) → d < n → getD (wordsAt s i n) d 0 ≡ getD s (i + d) 0
+unfolding wordsAt
+getD-wordsAt s i zero d h = absurd (omega arith)
+getD-wordsAt s i (suc n) zero h = let z : i + 0 ≡ i = omega arith in rw z
+getD-wordsAt s i (suc n) (suc d) h = let z : i + 1 + d ≡ i + suc d = omega arith in rw (getD-wordsAt s (i + 1) n d (omega arith), z)
+
 pub length-copied : (n : ℕ) (a : List ℕ) (i : ℕ) (s : List ℕ) (j : ℕ) → length (copied a i s j n) ≡ length a
 unfolding copied
 length-copied zero a i s j = refl

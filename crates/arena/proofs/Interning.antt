@@ -118,3 +118,19 @@ module _ (nodes words places : ℕ) (l : Limits nodes words places) where
               absurd
               (N.ends places (places-positive nodes words places l) (place places) (place-below nodes words places l)
               (λ (p : ℕ). getD a (placeAt nodes p) 0) s (h .index) x (omega (arith, few-nodes nodes words places l, h .nodes-fit)) e)
+
+  -- Where probing ends never shows in the answer: areas that hold the same nodes give the same answers.
+  pub one-answer : (a b : List ℕ) (s : Nodes) → Kept nodes words places a s → Kept nodes words places b s → (x : Node) →
+    internAnswer a nodes words places x ≡ internAnswer b nodes words places x
+  one-answer a b s ha hb x = go (interned a s ha x) (interned b s hb x)
+    where
+      go : {p q : Answer} {c d : List ℕ} → Interned nodes words places a s x p c → Interned nodes words places b s x q d → p ≡ q
+      go (found k e _ h t) (found j f _ i u) = let n : k ≡ j = one-number a s ha k j h i (t ∙ sym u) in cc
+      go (found k e _ h t) (made f _ none _ _) = absurd (none k h t)
+      go (found k e _ h t) (full f _ none _) = absurd (none k h t)
+      go (made e _ none _ _) (found j f _ i u) = absurd (none j i u)
+      go (made e _ _ _ _) (made f _ _ _ _) = e ∙ sym f
+      go (made e _ _ i j) (full f _ _ over) = absurd (over i j)
+      go (full e _ none _) (found j f _ i u) = absurd (none j i u)
+      go (full e _ _ over) (made f _ _ i j) = absurd (over i j)
+      go (full e _ _ _) (full f _ _ _) = e ∙ sym f

@@ -8,3 +8,5 @@ pub mod Limits
 pub mod Interning
 pub mod Trees
 pub mod Turns
+pub mod Readings
+pub mod Settings
