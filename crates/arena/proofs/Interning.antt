@@ -121,7 +121,7 @@ module _ (nodes words places : ℕ) (l : Limits nodes words places) where
 
   -- Where probing ends never shows in the answer: areas that hold the same nodes give the same answers.
   pub one-answer : (a b : List ℕ) (s : Nodes) → Kept nodes words places a s → Kept nodes words places b s → (x : Node) →
-    internAnswer a nodes words places x ≡ internAnswer b nodes words places x
+      internAnswer a nodes words places x ≡ internAnswer b nodes words places x
   one-answer a b s ha hb x = go (interned a s ha x) (interned b s hb x)
     where
       go : {p q : Answer} {c d : List ℕ} → Interned nodes words places a s x p c → Interned nodes words places b s x q d → p ≡ q

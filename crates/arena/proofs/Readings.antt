@@ -43,7 +43,7 @@ module _ (nodes words places : ℕ) (a : List ℕ) (s : Nodes) (h : Kept nodes w
 module _ (symbolAt : ℕ → Symbol) (used : ℕ → Type 0) (nodes words places : ℕ) where
   -- An area whose counts and index are zero holds no tree.
   pub trees-empty : Limits nodes words places → (a : List ℕ) → areaWords nodes words places ≤ length a → count a ≡ 0 → start a 0 ≡ 0 →
-    ((i : ℕ) → i < places → getD a (placeAt nodes i) 0 ≡ 0) → Trees symbolAt used nodes words places a []
+      ((i : ℕ) → i < places → getD a (placeAt nodes i) 0 ≡ 0) → Trees symbolAt used nodes words places a []
   trees-empty l a long none first zeros =
       record { nodesOf = []; kept = kept-empty nodes words places l a long none first zeros; stand = stand-empty symbolAt used }
 
@@ -53,8 +53,8 @@ module _ (symbolAt : ℕ → Symbol) (used : ℕ → Type 0) (nodes words places
 
     -- Number k stands for the k-th tree, which its words build from trees with lower numbers.
     pub tree-read : (k : ℕ) → k < length ts →
-      (treeOf symbolAt ts k ≡ build symbolAt ts (wordsAt a (wordAt nodes places (start a k)) (sizeOf a k))) ×
-      Formed used k (wordsAt a (wordAt nodes places (start a k)) (sizeOf a k))
+        (treeOf symbolAt ts k ≡ build symbolAt ts (wordsAt a (wordAt nodes places (start a k)) (sizeOf a k))) ×
+        Formed used k (wordsAt a (wordAt nodes places (start a k)) (sizeOf a k))
     tree-read k b =
         let i : k < length (t .nodesOf) = omega (arith, t .stand .same) in
         let e = node-read nodes words places a (t .nodesOf) (t .kept) k i in
