@@ -1,1 +1,4 @@
 pub mod Turns
+pub mod Holds
+pub mod Kept
+pub mod Declared

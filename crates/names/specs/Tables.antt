@@ -72,3 +72,8 @@ pub data Stands {A : Type 0} (test : Name → A → Bool) (Means : ℕ → A →
 pub data Agree {A : Type 0} (Means : ℕ → A → Type 0) : Option ℕ → Option A → Type 0 where
   both-none : Agree Means none none
   both-some : {e : ℕ} {a : A} → Means e a → Agree Means (some e) (some a)
+
+-- Whether there is one.
+abbrev pub present : {A : Type 0} → Option A → Bool
+present none = false
+present (some a) = true
