@@ -99,11 +99,11 @@ module _ {A : Type 0} (test : Name → A → Bool) (Means : ℕ → A → Type 0
   lookup-agrees key (declared {entries} {things} {a} {e} {name} q n m f s) =
       by-name key name
       (λ t.
-        rw (q, lookup-here e name entries key t, first-last (test key) a things (first-nothing (test key) things (rw t f)) (n key ∙ rw t (named-decides .same name)))
-        (both-some m))
+      rw (q, lookup-here e name entries key t, first-last (test key) a things (first-nothing (test key) things (rw t f)) (n key ∙ rw t (named-decides .same name)))
+      (both-some m))
       (λ t.
-        rw (q, lookup-on e name entries key t, first-before (test key) a things (n key ∙ apart named-decides key name t))
-        (lookup-agrees key s))
+      rw (q, lookup-on e name entries key t, first-before (test key) a things (n key ∙ apart named-decides key name t))
+      (lookup-agrees key s))
 
   -- `find` agrees with the definition's search among what is declared.
   pub find-agrees : {area : List ℕ} {buckets count base : ℕ} {text : List ℕ} {entries : List Entry} {things : List A} (key : Name)

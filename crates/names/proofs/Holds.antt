@@ -70,21 +70,21 @@ module _ {area : List ℕ} {count base : ℕ} {text : List ℕ} where
       let q : 0 < e = omega (arith, base-below c) in
       by-name key name
       (λ t.
-        rw (newest-here e name entries count (bucketOf count key) (ap (bucketOf count) (sym t)))
-        (chased-here area text key e q (same-named (nameAt area text e) key ∙ rw (n, t) (named-decides .same name))
-        ∙ sym (lookup-here e name entries key t)))
+      rw (newest-here e name entries count (bucketOf count key) (ap (bucketOf count) (sym t)))
+      (chased-here area text key e q (same-named (nameAt area text e) key ∙ rw (n, t) (named-decides .same name))
+      ∙ sym (lookup-here e name entries key t)))
       (λ t.
-        by-number (bucketOf count name) (bucketOf count key)
-        (λ s.
-          let k : getD area (e + 2) 0 ≡ newest count (bucketOf count key) entries = rw s at l in
-          rw (newest-here e name entries count (bucketOf count key) s)
-          (chased-on area text key e q (same-named (nameAt area text e) key ∙ rw n (apart named-decides name key (λ u. t (sym u))))
-          ∙ ap (chased area text key) (before-link area e (omega (arith, newest-below p (bucketOf count key) c)) ∙ k)
-          ∙ chain-found key p c
-          ∙ sym (lookup-on e name entries key t)))
-        (λ s.
-          rw (newest-on e name entries count (bucketOf count key) s)
-          (chain-found key p c ∙ sym (lookup-on e name entries key t))))
+      by-number (bucketOf count name) (bucketOf count key)
+      (λ s.
+      let k : getD area (e + 2) 0 ≡ newest count (bucketOf count key) entries = rw s at l in
+      rw (newest-here e name entries count (bucketOf count key) s)
+      (chased-on area text key e q (same-named (nameAt area text e) key ∙ rw n (apart named-decides name key (λ u. t (sym u))))
+      ∙ ap (chased area text key) (before-link area e (omega (arith, newest-below p (bucketOf count key) c)) ∙ k)
+      ∙ chain-found key p c
+      ∙ sym (lookup-on e name entries key t)))
+      (λ s.
+      rw (newest-on e name entries count (bucketOf count key) s)
+      (chain-found key p c ∙ sym (lookup-on e name entries key t))))
 
 -- `find` answers what the entries' list does: the newest entry that has the name.
 pub find-law : {area : List ℕ} {buckets count base : ℕ} {text : List ℕ} {entries : List Entry} (key : Name)

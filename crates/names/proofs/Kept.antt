@@ -48,6 +48,13 @@ module _ {area : List ℕ} {count base : ℕ} {text : List ℕ} where
   member-bounds (one-more h n l c) (List·Memᴰ·tail m) =
       let (low, high) = member-bounds c m in (low, omega arith)
 
+  pub member-named : {entries : List Entry} {e : ℕ} {name : Name} → Chained area count base text entries
+      → List·Memᴰ (entry e name) entries
+      → nameAt area text e ≡ name
+  member-named {e} {name} (one-more {e = d} {name = other} h n l c) (List·Memᴰ·head m) =
+      let k : e ≡ d = cc in let q : name ≡ other = cc in rw (k, q) n
+  member-named (one-more h n l c) (List·Memᴰ·tail m) = member-named c m
+
   chain-kept : {area′ : List ℕ} {entries : List Entry} → Chained area count base text entries
       → ((e : ℕ) (name : Name) → List·Memᴰ (entry e name) entries → (i : ℕ) → e ≤ i → i < e + 3 → getD area′ i 0 ≡ getD area i 0)
       → Chained area′ count base text entries
@@ -172,32 +179,38 @@ add-law {area} {buckets} {count} {base} {text} {entries} e start end t h fits s 
       buckets-first = first;
       inside = rw (length-linked area place e (start % 4294967296) (end % 4294967296)) (t .inside);
       heads = λ b k.
-        by-number b′ b
-        (λ u. rw (← u) (linked-place area place e _ _ fits low ∙ sym (newest-here e name entries count b′ refl)))
-        (λ u.
+          by-number b′ b
+          (λ u. rw (← u) (linked-place area place e _ _ fits low ∙ sym (newest-here e name entries count b′ refl)))
+          (λ u.
           linked-other area place e _ _ (buckets + b) (λ q. u (omega arith)) (λ q r. omega (arith, above))
           ∙ t .heads b k
           ∙ sym (newest-on e name entries count b u));
       chain =
-        one-more {name = name} h
-        (rw (linked-start area place e (start % 4294967296) (end % 4294967296) fits low, linked-end area place e (start % 4294967296) (end % 4294967296) fits low, mod-eq-of-lt s, mod-eq-of-lt d))
-        (linked-link area place e _ _ fits low ∙ t .heads b′ below)
-        (chain-kept (t .chain) (λ d′ other m i l k.
+          one-more {name = name} h
+          (rw (linked-start area place e (start % 4294967296) (end % 4294967296) fits low, linked-end area place e (start % 4294967296) (end % 4294967296) fits low, mod-eq-of-lt s, mod-eq-of-lt d))
+          (linked-link area place e _ _ fits low ∙ t .heads b′ below)
+          (chain-kept (t .chain) (λ d′ other m i l k.
           let (b₀, b₁) = member-bounds (t .chain) m in
           linked-other area place e _ _ i (λ q. omega (arith, below, first)) (λ q r. omega arith)));
     } where
       name : Name
       name = part start end text
+
       b′ : ℕ
       b′ = bucketOf count name
+
       place : ℕ
       place = buckets + b′
+
       below : b′ < count
       below = bucket-below count name (t .some-bucket)
+
       first : buckets + count ≤ base
       first = t .buckets-first
+
       above : base ≤ e
       above = omega (arith, base-below (t .chain))
+
       low : place < e
       low = omega (arith, above, below, first)
 

@@ -78,12 +78,12 @@ module _ (area text key : List ℕ) where
       case (eqb e 0)
       (λ z. gone (suc f) (suc g) e (eqb-true e 0 z))
       (λ z.
-        let p : 0 < e = omega (arith, eqb-false e 0 z) in
-        case (sameBytes (nameAt area text e) key)
-        (λ t. searched-here (suc f) e p h t ∙ sym (searched-here (suc g) e p k t))
-        (λ t.
-          let b = before-falls area e p in
-          searched-on f e p t ∙ any-fuel f g (before area e) (omega arith) (omega arith) ∙ sym (searched-on g e p t)))
+      let p : 0 < e = omega (arith, eqb-false e 0 z) in
+      case (sameBytes (nameAt area text e) key)
+      (λ t. searched-here (suc f) e p h t ∙ sym (searched-here (suc g) e p k t))
+      (λ t.
+      let b = before-falls area e p in
+      searched-on f e p t ∙ any-fuel f g (before area e) (omega arith) (omega arith) ∙ sym (searched-on g e p t)))
 
   -- One turn of the search at an entry that has the name, at one that has not, and at the end of the chain.
   pub chased-here : (e : ℕ) → 0 < e → sameBytes (nameAt area text e) key ≡ true → chased area text key e ≡ some e

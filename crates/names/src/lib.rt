@@ -57,7 +57,15 @@ fn link(area: &[u32], e: u32) -> u32
 }
 
 // The newest entry that has a name, which is given as a part of any text.
-pub fn find(area: &[u32], buckets: u32, count: u32, text: &[u8], from: &[u8], start: usize, end: usize) -> Found
+pub fn find(
+    area: &[u32],
+    buckets: u32,
+    count: u32,
+    text: &[u8],
+    from: &[u8],
+    start: usize,
+    end: usize,
+) -> Found
     ensures { λ r. ⌜ answered r ≡ found (now (area .entry)) buckets count (now (text .entry)) (part start end (now (from .entry))) ⌝ }
 {
     let key = words::bytes_part(from, start, end);
@@ -73,7 +81,15 @@ pub fn find(area: &[u32], buckets: u32, count: u32, text: &[u8], from: &[u8], st
 }
 
 // Makes e the newest entry of its bucket, named by a part of the text.
-pub fn add(area: &mut [u32], buckets: u32, count: u32, e: u32, text: &[u8], start: usize, end: usize)
+pub fn add(
+    area: &mut [u32],
+    buckets: u32,
+    count: u32,
+    e: u32,
+    text: &[u8],
+    start: usize,
+    end: usize,
+)
     ensures { λ r. ⌜ now (area .exit) ≡ added (now (area .entry)) buckets count e (now (text .entry)) start end ⌝ }
 {
     let name = words::bytes_part(text, start, end);

@@ -5,27 +5,19 @@ use Rattle.names.proofs.Turns.{bucket-none, bucket-some}
 use borrow.Author.Needs.{needs}
 use Rattle.names.proofs.bucket.Statement.{statement}
 use Rattle.names.proofs.bucket.Tie as tie
-use Rattle.names.proofs.bucket.Reads as reads
-use Rattle.names.proofs.bucket.Lts as lts
-use Rattle.names.proofs.hash.Reads as hash-reads
 
--- src/lib.rt:32:9
 returns : tie.Need-returns
 returns c = omega (arith, bucket-none (c .before .before .args .count) (c .before .before .args .name .now) (c .if1 .taken))
 
--- src/lib.rt:34:9
 hash-requires : tie.Need-hash-requires
 hash-requires c κs = search needs
 
--- src/lib.rt:35:14
 rem-result : tie.Need-rem-result
 rem-result c = search needs
 
--- src/lib.rt:35:5
 add-result : tie.Need-add-result
 add-result c = omega (arith, mod-lt (c .hash .result) {m = c .before .before .before .args .count} (search needs))
 
--- src/lib.rt:27:1
 returns-2 : tie.Need-returns-2
 returns-2 c = rw (bucket-some (c .before .before .before .args .count) (c .before .before .before .args .name .now) (search needs), ← c .hash .ensures)
 

@@ -6,13 +6,6 @@ use Rattle.names.proofs.Turns.{before-falls, chased-here, chased-on, ch
 use borrow.Author.Needs.{needs}
 use Rattle.names.proofs.find.Statement.{statement}
 use Rattle.names.proofs.find.Tie as tie
-use Rattle.names.proofs.find.Reads as reads
-use Rattle.names.proofs.find.Lts as lts
-use Rattle.names.proofs.bucket.Reads as bucket-reads
-use Rattle.names.proofs.is_named.Reads as is-named-reads
-use Rattle.names.proofs.link.Reads as link-reads
-use Rattle.words.proofs.at.Reads as at-reads
-use Rattle.words.proofs.bytes_part.Reads as bytes-part-reads
 
 abbrev Inv-loop : tie.InvT-loop
 Inv-loop area buckets count text from start end key place e₀ e = found area buckets count text (part start end from) ≡ chased area text key e
@@ -20,44 +13,34 @@ Inv-loop area buckets count text from start end key place e₀ e = found area bu
 abbrev μ-loop : tie.MeasureT-loop
 μ-loop area buckets count text from start end key place e₀ e = e
 
--- src/lib.rt:63:9
 bytes-part-requires : tie.Need-bytes-part-requires Inv-loop μ-loop
 bytes-part-requires c κs = search needs
 
--- src/lib.rt:64:9
 bucket-requires : tie.Need-bucket-requires Inv-loop μ-loop
 bucket-requires c κs = search needs
 
--- src/lib.rt:65:9
 at-requires : tie.Need-at-requires Inv-loop μ-loop
 at-requires c κs = search needs
 
--- src/lib.rt:66:5
 loop-holds : tie.Need-loop-holds Inv-loop μ-loop
 unfolding found
 loop-holds c = rw (← c .before .before .bytes-part .ensures, ← c .before .bucket .ensures, ← c .at .ensures)
 
--- src/lib.rt:67:12
 is-named-requires : tie.Need-is-named-requires Inv-loop μ-loop
 is-named-requires c κs = search needs
 
--- src/lib.rt:68:13
 returns : tie.Need-returns Inv-loop μ-loop
 returns c = sym (c .before .before .before .loop .inv ∙ chased-here _ _ _ _ (search needs) (sym (c .before .is-named .ensures) ∙ c .if1 .taken))
 
--- src/lib.rt:70:9
 link-requires : tie.Need-link-requires Inv-loop μ-loop
 link-requires c κs = search needs
 
--- src/lib.rt:66:5
 loop-less : tie.Need-loop-less Inv-loop μ-loop
 loop-less c = rw (c .link .ensures) (before-falls _ _ (search needs))
 
--- src/lib.rt:66:5
 loop-again : tie.Need-loop-again Inv-loop μ-loop
 loop-again c = rw (c .link .ensures) (c .before .before .before .before .loop .inv ∙ chased-on _ _ _ _ (search needs) (sym (c .before .before .is-named .ensures) ∙ c .before .if1 .left))
 
--- src/lib.rt:60:1
 returns-2 : tie.Need-returns-2 Inv-loop μ-loop
 returns-2 c = sym (c .before .loop .inv ∙ chased-none _ _ _ _ (search needs))
 

@@ -9,8 +9,6 @@ use Rattle.names.proofs.Turns.{hash-on, hash-end}
 use borrow.Author.Needs.{needs}
 use Rattle.names.proofs.hash.Statement.{statement}
 use Rattle.names.proofs.hash.Tie as tie
-use Rattle.names.proofs.hash.Reads as reads
-use Rattle.names.proofs.hash.Lts as lts
 
 abbrev Inv-loop : tie.InvT-loop
 Inv-loop name h₀ i₀ h i = (hashedAll 0 name ≡ hashedAll h (drop i name)) × (i ≤ length name) × (h < 4294967296)
@@ -18,39 +16,30 @@ Inv-loop name h₀ i₀ h i = (hashedAll 0 name ≡ hashedAll h (drop i name)) �
 abbrev μ-loop : tie.MeasureT-loop
 μ-loop name h₀ i₀ h i = length name - i
 
--- src/lib.rt:19:5
 loop-holds : tie.Need-loop-holds Inv-loop μ-loop
 loop-holds c = (refl, search needs, search needs)
 
--- src/lib.rt:20:14
 mul-h : tie.Need-mul-h Inv-loop μ-loop
 mul-h c = search needs
 
--- src/lib.rt:20:23
 shared-slice-read-h : tie.Need-shared-slice-read-h Inv-loop μ-loop
 shared-slice-read-h c = search needs
 
--- src/lib.rt:20:23
 cast-h : tie.Need-cast-h Inv-loop μ-loop
 cast-h c = omega (arith, c .shared-slice-known .given (c .before .before .loop .i))
 
--- src/lib.rt:20:14
 add-h : tie.Need-add-h Inv-loop μ-loop
 add-h c = omega (arith, c .shared-slice-known .given (c .before .before .loop .i))
 
--- src/lib.rt:21:9
 add-i : tie.Need-add-i Inv-loop μ-loop
 add-i c = search needs
 
--- src/lib.rt:19:5
 loop-less : tie.Need-loop-less Inv-loop μ-loop
 loop-less c = search needs
 
--- src/lib.rt:19:5
 loop-again : tie.Need-loop-again Inv-loop μ-loop
 loop-again c = (c .before .before .loop .inv .0 ∙ hash-on (c .before .before .before .args .name .now) (c .before .before .loop .i) (c .before .before .loop .h) (search needs), search needs, search needs)
 
--- src/lib.rt:14:1
 returns : tie.Need-returns Inv-loop μ-loop
 unfolding hashOf
 returns c = sym (c .before .loop .inv .0 ∙ hash-end (c .before .before .args .name .now) (c .before .loop .i) (c .before .loop .h) (search needs))

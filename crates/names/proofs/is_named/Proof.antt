@@ -3,41 +3,28 @@ use Rattle.names.specs.Chains.{nameAt}
 use borrow.Author.Needs.{needs}
 use Rattle.names.proofs.is_named.Statement.{statement}
 use Rattle.names.proofs.is_named.Tie as tie
-use Rattle.names.proofs.is_named.Reads as reads
-use Rattle.names.proofs.is_named.Lts as lts
-use Rattle.words.proofs.at.Reads as at-reads
-use Rattle.words.proofs.bytes_part.Reads as bytes-part-reads
-use Rattle.words.proofs.same.Reads as same-reads
 
--- src/lib.rt:42:9
 at-requires : tie.Need-at-requires
 at-requires c κs = search needs
 
--- src/lib.rt:43:31
 add-at : tie.Need-add-at
 add-at c = search needs
 
--- src/lib.rt:43:9
 at-requires-2 : tie.Need-at-requires-2
 at-requires-2 c κs = search needs
 
--- src/lib.rt:44:40
 cast-bytes-part : tie.Need-cast-bytes-part
 cast-bytes-part c = search needs
 
--- src/lib.rt:44:56
 cast-bytes-part-2 : tie.Need-cast-bytes-part-2
 cast-bytes-part-2 c = search needs
 
--- src/lib.rt:44:9
 bytes-part-requires : tie.Need-bytes-part-requires
 bytes-part-requires c κs = search needs
 
--- src/lib.rt:45:5
 same-requires : tie.Need-same-requires
 same-requires c κs = search needs
 
--- src/lib.rt:39:1
 returns : tie.Need-returns
 unfolding nameAt
 returns c = rw (← c .before .before .before .at .ensures, ← c .before .before .at2 .ensures, ← c .before .bytes-part .ensures) (c .same .ensures)

@@ -4,23 +4,16 @@ use Rattle.names.proofs.Turns.{before-link, before-none}
 use borrow.Author.Needs.{needs}
 use Rattle.names.proofs.link.Statement.{statement}
 use Rattle.names.proofs.link.Tie as tie
-use Rattle.names.proofs.link.Reads as reads
-use Rattle.names.proofs.link.Lts as lts
-use Rattle.words.proofs.at.Reads as at-reads
 
--- src/lib.rt:52:32
 add-at : tie.Need-add-at
 add-at c = search needs
 
--- src/lib.rt:52:9
 at-requires : tie.Need-at-requires
 at-requires c κs = search needs
 
--- src/lib.rt:54:9
 returns : tie.Need-returns
 returns c = c .before .at .ensures ∙ sym (before-link (c .before .before .before .args .area .now) (c .before .before .before .args .e) (search needs))
 
--- src/lib.rt:49:1
 returns-2 : tie.Need-returns-2
 returns-2 c = sym (before-none (c .before .before .before .args .area .now) (c .before .before .before .args .e) (search needs))
 
