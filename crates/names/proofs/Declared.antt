@@ -3,25 +3,32 @@ use mathlib.Core.Path.{_≡_, refl, ap, sym, _∙_}
 use mathlib.Core.Bool.{Bool, true, false, true≢false}
 use mathlib.Core.List.{List, [], _∷_, _++_, List·Memᴰ, List·Memᴰ·head, List·Memᴰ·tail}
 use mathlib.Core.Option.{Option, none, some}
-use Prim.Native.Nat.{ℕ}
+use Prim.Native.Nat.{ℕ, _+_, _≤_}
 use Rattle.horn.specs.Names.{Name, named, first, some-of}
 use Rattle.horn.proofs.Equality.{case, named-decides, apart, some-of-member, first-some}
 use Rattle.horn.proofs.Inversion.{none-some, some-equal}
 use Rattle.names.specs.Chains.{found}
-use Rattle.names.specs.Tables.{Entry, entry, lookup, Table, Stands, none-yet, other-kind, declared, Agree, both-none, both-some, present}
+use Rattle.names.specs.Tables.{Entry, entry, lookup, top, Table, Stands, none-yet, other-kind, declared, Agree, both-none, both-some, present}
+use Rattle.names.proofs.Kept.{member-bounds}
 use Rattle.names.proofs.Holds.{by-name, lookup-here, lookup-on, find-law}
 
 -- Names that are pairwise different: none of an older entry is met again.
 pub data Distinct : List Entry → Type 0 where
   no-names : Distinct []
-  new-name : {e : ℕ} {name : Name} {entries : List Entry} → lookup name entries ≡ none → Distinct entries → Distinct (entry e name ∷ entries)
+  new-name : {e : ℕ} {name : Name} {entries : List Entry}
+      → lookup name entries ≡ none
+      → Distinct entries
+      → Distinct (entry e name ∷ entries)
 
 pub lookup-some : (key : Name) (entries : List Entry) {e : ℕ} → lookup key entries ≡ some e → List·Memᴰ (entry e key) entries
 unfolding lookup
 lookup-some key [] h = none-some h
 lookup-some key (entry d name ∷ entries) {e} h =
     by-name key name
-    (λ t. let q : some d ≡ some e = sym (lookup-here d name entries key t) ∙ h in let k : entry e key ≡ entry d name = cc in List·Memᴰ·head k)
+    (λ t.
+    let q : some d ≡ some e = sym (lookup-here d name entries key t) ∙ h in
+    let k : entry e key ≡ entry d name = cc in
+    List·Memᴰ·head k)
     (λ t. List·Memᴰ·tail (lookup-some key entries (sym (lookup-on d name entries key t) ∙ h)))
 
 pub lookup-none : (key : Name) (entries : List Entry) → lookup key entries ≡ none → (e : ℕ) → List·Memᴰ (entry e key) entries → ⊥
@@ -33,7 +40,9 @@ lookup-none key (entry d name ∷ entries) h e (List·Memᴰ·tail m) =
     (λ t. none-some (sym h ∙ lookup-here d name entries key t))
     (λ t. lookup-none key entries (sym (lookup-on d name entries key t) ∙ h) e m)
 
-pub lookup-member : (key : Name) {entries : List Entry} (e : ℕ) → Distinct entries → List·Memᴰ (entry e key) entries → lookup key entries ≡ some e
+pub lookup-member : (key : Name) {entries : List Entry} (e : ℕ) → Distinct entries
+    → List·Memᴰ (entry e key) entries
+    → lookup key entries ≡ some e
 lookup-member key e (new-name {e = d} {name} {entries} n s) (List·Memᴰ·head m) =
     let k : key ≡ name = cc in let q : e ≡ d = cc in lookup-here d name entries key k ∙ ap some (sym q)
 lookup-member key e (new-name {e = d} {name} {entries} n s) (List·Memᴰ·tail m) =
@@ -41,10 +50,14 @@ lookup-member key e (new-name {e = d} {name} {entries} n s) (List·Memᴰ·tail 
     (λ t. absurd (lookup-none key entries (rw (← t) at n) e m))
     (λ t. lookup-on d name entries key t ∙ lookup-member key e s m)
 
-module _ {area : List ℕ} {buckets count base : ℕ} {text : List ℕ} {entries : List Entry} (t : Table area buckets count base text entries) (key : Name) where
+module _ {area : List ℕ} {buckets count base : ℕ} {text : List ℕ} {entries : List Entry}
+    (t : Table area buckets count base text entries) (key : Name) where
   -- An address is found exactly where an entry has the name, and then it is that entry.
   pub found-some : {e : ℕ} → found area buckets count text key ≡ some e → List·Memᴰ (entry e key) entries
   found-some h = lookup-some key entries (sym (find-law key t) ∙ h)
+
+  pub found-bounds : {e : ℕ} → found area buckets count text key ≡ some e → (base ≤ e) × (e + 3 ≤ top base entries)
+  found-bounds h = member-bounds (t .chain) (found-some h)
 
   pub found-none : found area buckets count text key ≡ none → (e : ℕ) → List·Memᴰ (entry e key) entries → ⊥
   found-none h = lookup-none key entries (sym (find-law key t) ∙ h)
@@ -104,6 +117,15 @@ module _ {A : Type 0} (test : Name → A → Bool) (Means : ℕ → A → Type 0
       (λ t.
       rw (q, lookup-on e name entries key t, first-before (test key) a things (n key ∙ apart named-decides key name t))
       (lookup-agrees key s))
+
+  -- Names are pairwise different where each was new when it was declared.
+  pub stands-distinct : {entries : List Entry} {things : List A} → Stands test Means entries things → Distinct entries
+  stands-distinct none-yet = no-names
+  stands-distinct (other-kind q n s) = stands-distinct s
+  stands-distinct (declared {entries} {things} {name} q n m f s) =
+      new-name (nothing (rw (first-nothing (test name) things f) at (lookup-agrees name s))) (stands-distinct s) where
+        nothing : {o : Option ℕ} → Agree Means o none → o ≡ none
+        nothing both-none = refl
 
   -- `find` agrees with the definition's search among what is declared.
   pub find-agrees : {area : List ℕ} {buckets count base : ℕ} {text : List ℕ} {entries : List Entry} {things : List A} (key : Name)

@@ -187,7 +187,12 @@ add-law {area} {buckets} {count} {base} {text} {entries} e start end t h fits s 
           ∙ sym (newest-on e name entries count b u));
       chain =
           one-more {name = name} h
-          (rw (linked-start area place e (start % 4294967296) (end % 4294967296) fits low, linked-end area place e (start % 4294967296) (end % 4294967296) fits low, mod-eq-of-lt s, mod-eq-of-lt d))
+          (rw (
+            linked-start area place e (start % 4294967296) (end % 4294967296) fits low,
+            linked-end area place e (start % 4294967296) (end % 4294967296) fits low,
+            mod-eq-of-lt s,
+            mod-eq-of-lt d,
+          ))
           (linked-link area place e _ _ fits low ∙ t .heads b′ below)
           (chain-kept (t .chain) (λ d′ other m i l k.
           let (b₀, b₁) = member-bounds (t .chain) m in
@@ -215,7 +220,8 @@ add-law {area} {buckets} {count} {base} {text} {entries} e start end t h fits s 
       low = omega (arith, above, below, first)
 
 -- A table and an addition to another one in the same area.
-module _ {area : List ℕ} {buckets count base : ℕ} {text : List ℕ} {entries : List Entry} (buckets′ count′ e : ℕ) (text′ : List ℕ) (start end : ℕ) where
+module _ {area : List ℕ} {buckets count base : ℕ} {text : List ℕ} {entries : List Entry}
+    (buckets′ count′ e : ℕ) (text′ : List ℕ) (start end : ℕ) where
   pub kept-added : Table area buckets count base text entries
       → 0 < count′
       → ((i : ℕ) → Owns buckets count entries i → buckets′ ≤ i → i < buckets′ + count′ → ⊥)

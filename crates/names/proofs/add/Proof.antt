@@ -43,7 +43,16 @@ same-length c = search needs
 
 returns : tie.Need-returns
 unfolding added linked
-returns c = rw (c .before .before .put4 .ensures, c .before .before .before .before .before .before .put3 .ensures, c .before .before .before .before .before .before .before .before .before .before .put2 .ensures, c .before .before .before .before .before .before .before .before .before .before .before .before .before .before .put .ensures, c .before .before .before .before .before .before .before .before .before .before .before .before .before .before .before .before .at .ensures, c .before .before .before .before .before .before .before .before .before .before .before .before .before .before .before .before .before .before .bucket .ensures, c .before .before .before .before .before .before .before .before .before .before .before .before .before .before .before .before .before .before .before .bytes-part .ensures)
+returns c =
+    rw (
+      c .before .before .put4 .ensures,
+      c .before .before .before .before .before .before .put3 .ensures,
+      c .before .before .before .before .before .before .before .before .before .before .put2 .ensures,
+      c .before .before .before .before .before .before .before .before .before .before .before .before .before .before .put .ensures,
+      c .before .before .before .before .before .before .before .before .before .before .before .before .before .before .before .before .at .ensures,
+      c .before .before .before .before .before .before .before .before .before .before .before .before .before .before .before .before .before .before .bucket .ensures,
+      c .before .before .before .before .before .before .before .before .before .before .before .before .before .before .before .before .before .before .before .bytes-part .ensures,
+    )
 
 pub add-spec : {M : Type 1} → statement M
 add-spec =
