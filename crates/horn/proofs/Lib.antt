@@ -6,3 +6,4 @@ pub mod CompleteUtf8
 pub mod CompleteLines
 pub mod CompleteTokens
 pub mod CompleteItems
+pub mod CompleteTheory
