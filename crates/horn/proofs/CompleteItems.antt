@@ -84,7 +84,7 @@ WordPlace (inAtom bs) = Word bs
 abbrev WordMove : Move → Type 0
 WordMove m = All WordToken (m .0) × WordPlace (m .1)
 
-first-word : (bs : List ℕ) (v : ℕ) → Proper (char bs v) → kind v ≡ ordinary → Word bs
+pub first-word : (bs : List ℕ) (v : ℕ) → Proper (char bs v) → kind v ≡ ordinary → Word bs
 first-word bs v p o =
     record { first = char bs v; others = []; decodes = p; bytes = append-nil bs; ordinarily = (o, tt) }
 
@@ -92,17 +92,17 @@ bytesOf-append : (cs ds : List Char) → bytesOf (cs ++ ds) ≡ bytesOf cs ++ by
 bytesOf-append [] ds = refl
 bytesOf-append (char bs v ∷ cs) ds = ap (bs ++_) (bytesOf-append cs ds) ∙ sym (append-assoc bs (bytesOf cs) (bytesOf ds))
 
-more-word : (as′ bs : List ℕ) (v : ℕ) → Word as′ → Proper (char bs v) → kind v ≡ ordinary → Word (as′ ++ bs)
-more-word as′ bs v w p o =
+pub word-append : {as′ bs : List ℕ} → Word as′ → Word bs → Word (as′ ++ bs)
+word-append {as′} {bs} w v =
     record {
       first = w .first;
-      others = w .others ++ (char bs v ∷ []);
-      decodes = decoded-append as′ bs (w .decodes) p;
+      others = w .others ++ (v .first ∷ v .others);
+      decodes = decoded-append as′ bs (w .decodes) (v .decodes);
       bytes =
-          bytesOf-append (w .first ∷ w .others) (char bs v ∷ [])
-          ∙ ap (_++ (bs ++ [])) (w .bytes)
-          ∙ ap (as′ ++_) (append-nil bs);
-      ordinarily = All-append Ordinary (w .first ∷ w .others) (char bs v ∷ []) (w .ordinarily) (o, tt);
+          bytesOf-append (w .first ∷ w .others) (v .first ∷ v .others)
+          ∙ ap (_++ bytesOf (v .first ∷ v .others)) (w .bytes)
+          ∙ ap (as′ ++_) (v .bytes);
+      ordinarily = All-append Ordinary (w .first ∷ w .others) (v .first ∷ v .others) (w .ordinarily) (v .ordinarily);
     }
 
 begins-words : (k : Kind) (bs : List ℕ) (v : ℕ) → Proper (char bs v) → kind v ≡ k → WordMove (begins k bs)
@@ -119,7 +119,7 @@ continues-words blank as′ bs v w p e = ((w, tt), tt)
 continues-words opens as′ bs v w p e = ((w, (tt, tt)), tt)
 continues-words closes as′ bs v w p e = ((w, (tt, tt)), tt)
 continues-words comments as′ bs v w p e = ((w, tt), tt)
-continues-words ordinary as′ bs v w p e = (tt, more-word as′ bs v w p e)
+continues-words ordinary as′ bs v w p e = (tt, word-append w (first-word bs v p e))
 
 comment-words : (b : Bool) → WordMove (elim b [ true ↦ ([], between) | false ↦ ([], inComment) ])
 comment-words true = (tt, tt)

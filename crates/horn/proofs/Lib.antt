@@ -7,3 +7,6 @@ pub mod CompleteLines
 pub mod CompleteTokens
 pub mod CompleteItems
 pub mod CompleteTheory
+pub mod CompleteNumbers
+pub mod CompleteCount
+pub mod CompleteStore
