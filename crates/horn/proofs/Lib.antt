@@ -5,3 +5,5 @@ pub mod Inversion
 pub mod SoundnessWords
 pub mod SoundnessPatterns
 pub mod SoundnessRulebook
+pub mod SoundnessMatching
+pub mod SoundnessReading

@@ -51,6 +51,16 @@ mutual
     in-none : ThroughoutAll P []ₚ
     in-next : {p : Pattern} {ps : Patterns} → Throughout P p → ThroughoutAll P ps → ThroughoutAll P (p ∷ₚ ps)
 
+module _ {P Q : Name → Type 0} (f : (name : Name) → P name → Q name) where
+  mutual
+    pub throughout-by : {p : Pattern} → Throughout P p → Throughout Q p
+    throughout-by (at-variable h) = at-variable (f _ h)
+    throughout-by (in-term hs) = in-term (throughout-all-by hs)
+
+    pub throughout-all-by : {ps : Patterns} → ThroughoutAll P ps → ThroughoutAll Q ps
+    throughout-all-by in-none = in-none
+    throughout-all-by (in-next h hs) = in-next (throughout-by h) (throughout-all-by hs)
+
 abbrev pub Covers : (Name → Type 0) → List Variable → Type 0
 Covers P vs = (name s : Name) → List·Memᴰ (variable name s) vs → P name
 
