@@ -2,6 +2,11 @@ pub mod Run
 pub mod Firings
 pub mod Equality
 pub mod Inversion
+pub mod SoundnessWords
+pub mod SoundnessPatterns
+pub mod SoundnessRulebook
+pub mod SoundnessMatching
+pub mod SoundnessReading
 pub mod CompleteUtf8
 pub mod CompleteLines
 pub mod CompleteTokens
