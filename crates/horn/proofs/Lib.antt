@@ -15,3 +15,4 @@ pub mod CompleteTheory
 pub mod CompleteNumbers
 pub mod CompleteCount
 pub mod CompleteStore
+pub mod CompleteTerms
