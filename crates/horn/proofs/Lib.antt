@@ -16,3 +16,4 @@ pub mod CompleteNumbers
 pub mod CompleteCount
 pub mod CompleteStore
 pub mod CompleteTerms
+pub mod CompleteGoals
