@@ -17,3 +17,4 @@ pub mod CompleteCount
 pub mod CompleteStore
 pub mod CompleteTerms
 pub mod CompleteGoals
+pub mod CompleteMatching
