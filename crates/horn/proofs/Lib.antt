@@ -18,3 +18,4 @@ pub mod CompleteStore
 pub mod CompleteTerms
 pub mod CompleteGoals
 pub mod CompleteMatching
+pub mod CompleteSteps
