@@ -19,3 +19,5 @@ pub mod CompleteTerms
 pub mod CompleteGoals
 pub mod CompleteMatching
 pub mod CompleteSteps
+pub mod CompleteLayout
+pub mod Complete
