@@ -95,3 +95,101 @@ module _ (limits : Setting) (th : Theory) (l : Lookups th) (formed : WellFormed 
   results-back [] steps store a n e = refl
   results-back (g ∷ gs) steps store a n e =
       on _ _ _ (result-back limits th g gs steps store a n (e .0)) ∙ results-back gs steps store (a .1) n (e .1)
+
+  -- The whole certificate, after goals whose judgments have the instances' conclusions among them.
+  certificate-back : (goals : List Goal) (is : List Instance) (store : Store) → Proves th goals is → Known goals store
+      → length is ≤ 2 ^ 64
+      → depth (forms goals is) ≤ 256
+      → allSubterms (map conclusion is) ⊆ us
+      → Fits us store
+      → certificateOf limits th goals (laidOut goals is) store ≡ ok (made [] is, withAll (map conclusion is) store)
+  unfolding certificateOf laidOut forms judgments isEmptyList give
+  certificate-back goals is store p k n d sub f =
+      let cs = map conclusion is in
+      let results = map (Layout.resultForm cs) goals in
+      let final = withAll cs store in
+      let concluded : map judgmentOf (made [] is) ≡ cs = made-conclusions [] is [] refl in
+      let count = made-length [] is in
+      let closing =
+        subst
+        (λ x. Each (λ j. List·Memᴰ j x) (map goalJudgment goals)
+        → certificateForms limits th (progress goals (made [] is)) (topItems (map (Layout.resultForm x) goals)) final
+        ≡ ok (progress [] (made [] is), final))
+        concluded (results-back goals (made [] is) final (k .others) (omega arith)) (p .reached) in
+      on _ _ _
+      (ap (λ x. certificateForms limits th (progress goals []) x store) (items-printed (forms goals is) (forms-words th l formed goals (p .supported) (k .words)))
+      ∙ steps-back (p .supported) goals [] results store refl (omega arith) d sub f
+      ∙ closing)
+      ∙ on-lift _ _ _ (need-on _ refl)
+
+-- Subterms of a part are subterms of the whole.
+first-part : (xs ys : List Term) → allSubterms xs ⊆ allSubterms (xs ++ ys)
+unfolding allSubterms
+first-part [] ys u m = elim m [ ]
+first-part (x ∷ xs) ys u m =
+    ⊎-elim
+    (λ k. Memᴰ·append-left (allSubterms (xs ++ ys)) k)
+    (λ k. Memᴰ·append-right (subterms x) (first-part xs ys u k))
+    (List·Memᴰ·append-cases (subterms x) m)
+
+second-part : (xs ys : List Term) → allSubterms ys ⊆ allSubterms (xs ++ ys)
+unfolding allSubterms
+second-part [] ys u m = m
+second-part (x ∷ xs) ys u m = Memᴰ·append-right (subterms x) (second-part xs ys u m)
+
+-- What an accepted rulebook is.
+accepted-parts {ℓ} : {C : Type ℓ} {limits : Setting} {rulebook : List ℕ} {th : Theory} → Accepted limits rulebook th
+    → (leb (length rulebook) (limits .rulebookBytes) ≡ true → theory rulebook ≡ ok th → C)
+    → C
+unfolding rulebookJudged
+accepted-parts a k = afterᵣ _ (a .judged) λ u e₁ e₂. afterNeedᵣ _ _ _ e₂ λ h e₃. k h e₃
+
+areas-long : (limits : Setting) (a b c d : ℕ) → limits .areaWords ≤ a → limits .areaWords ≤ b → limits .areaWords ≤ c
+    → limits .lastAreaWords ≤ d
+    → areasLong limits a b c d ≡ ok tt
+unfolding areasLong
+areas-long limits a b c d ha hb hc hd =
+    onᵣ _ (need-on _ (le-leb (limits .areaWords) a ha))
+    ∙ onᵣ _ (need-on _ (le-leb (limits .areaWords) b hb))
+    ∙ onᵣ _ (need-on _ (le-leb (limits .areaWords) c hc))
+    ∙ need-on _ (le-leb (limits .lastAreaWords) d hd)
+
+-- "For every accepted rulebook, every goals text read without refusal under it, and every list of well-sorted rule
+-- instances in which each premise is an earlier instance's conclusion and each goal's judgment some instance's
+-- conclusion: if the certificate laid out for the list is within the limits, the release is accepted", with its counts.
+-- A number of a certificate is below 2 to the 64, so a setting may let a certificate have no more bytes than that.
+pub complete : (limits : Setting) (a b c d : ℕ) (rulebook text : List ℕ) {th : Theory} {goals : List Goal} {store : Store}
+    (is : List Instance)
+    → limits .certificateBytes ≤ 2 ^ 64
+    → Accepted limits rulebook th
+    → ReadWithoutRefusal limits th text goals store
+    → Proves th goals is
+    → WithinLimits limits a b c d goals is
+    → releaseCall limits a b c d rulebook text (laidOut goals is)
+    ≡ report 0 (length is) (length goals) (length (spread goals is)) (length (laidOut goals is))
+unfolding releaseCall releaseJudged releaseAnswer spread
+complete limits a b c d rulebook text {th} {goals} {store} is bound acc read p w =
+    accepted-parts acc λ short e.
+    let js = judgments goals ++ map conclusion is in
+    let us = distinct (allSubterms js) in
+    let k = read-known limits th text (read .read) in
+    let in-us : allSubterms js ⊆ us = to-distinct (allSubterms js) in
+    let f : Fits us store =
+      subst (Fits us) (sym (k .has))
+      (fits-all us (judgments goals) [] (fits-none us) (λ u m. in-us u (first-part (judgments goals) (map conclusion is) u m))) in
+    let n : length is ≤ 2 ^ 64 = omega (arith, layout-long goals is, w .short) in
+    let certificate =
+      certificate-back limits th (theory-looks rulebook e) (theory-formed rulebook e) us (w .small) goals is store p k n (w .shallow)
+      (λ u m. in-us u (second-part (judgments goals) (map conclusion is) u m)) f in
+    let final = ap (withAll (map conclusion is)) (k .has) ∙ sym (withAll-append (judgments goals) (map conclusion is) []) in
+    let count : length (made [] is) ≡ length is = let h = made-length [] is in omega arith in
+    ap releaseAnswer
+    (onᵣ _ (areas-long limits a b c d (w .first-area) (w .second-area) (w .third-area) (w .fourth-area))
+    ∙ onᵣ _ (need-on _ short)
+    ∙ onᵣ _ (need-on _ (le-leb (length text) (limits .goalsBytes) (read .short)))
+    ∙ onᵣ _ (need-on _ (le-leb (length (laidOut goals is)) (limits .certificateBytes) (w .short)))
+    ∙ onᵣ _ e
+    ∙ onᵣ _ (read .read)
+    ∙ onᵣ _ certificate)
+    ∙ ap (λ x. report 0 x (length goals) (length (withAll (map conclusion is) store)) (length (laidOut goals is))) count
+    ∙ ap (λ x. report 0 (length is) (length goals) x (length (laidOut goals is))) (ap length final ∙ stored-count js)
