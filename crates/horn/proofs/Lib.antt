@@ -21,3 +21,4 @@ pub mod CompleteMatching
 pub mod CompleteSteps
 pub mod CompleteLayout
 pub mod Complete
+pub mod CompleteBench
