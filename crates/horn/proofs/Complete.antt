@@ -193,3 +193,17 @@ complete limits a b c d rulebook text {th} {goals} {store} is bound acc read p w
     ∙ onᵣ _ certificate)
     ∙ ap (λ x. report 0 x (length goals) (length (withAll (map conclusion is) store)) (length (laidOut goals is))) count
     ∙ ap (λ x. report 0 (length is) (length goals) x (length (laidOut goals is))) (ap length final ∙ stored-count js)
+
+-- Under 01's own limits.
+pub complete-01 : (a b c d : ℕ) (rulebook text : List ℕ) {th : Theory} {goals : List Goal} {store : Store} (is : List Instance)
+    → Accepted document01 rulebook th
+    → ReadWithoutRefusal document01 th text goals store
+    → Proves th goals is
+    → WithinLimits document01 a b c d goals is
+    → releaseCall document01 a b c d rulebook text (laidOut goals is)
+    ≡ report 0 (length is) (length goals) (length (spread goals is)) (length (laidOut goals is))
+complete-01 a b c d rulebook text is acc read p w =
+    complete document01 a b c d rulebook text is short acc read p w
+  where
+    short : document01 .certificateBytes ≤ 2 ^ 64
+    short = unfold document01 in omega arith
