@@ -142,17 +142,27 @@ fits-all us (t ∷ ts) store f s =
     (fits-term us t store f (λ u m. s u (Memᴰ·append-left (allSubterms ts) m)))
     (λ u m. s u (Memᴰ·append-right (subterms t) m))
 
+-- Both limits may be met exactly.
+pub at-most : (limits : Setting) (store : Store) → length store ≤ limits .nodes → size store ≤ limits .nodeWords
+    → withinLimits limits store ≡ true
+unfolding withinLimits
+at-most limits store h k = rw (le-leb (length store) (limits .nodes) h, le-leb (size store) (limits .nodeWords) k)
+
+pub no-more : (limits : Setting) (store : Store) → withinLimits limits store ≡ true
+    → (length store ≤ limits .nodes) × (size store ≤ limits .nodeWords)
+unfolding withinLimits
+no-more limits store w =
+    let (h, k) = both (leb (length store) (limits .nodes)) (leb (size store) (limits .nodeWords)) w in
+    (leb-true (length store) (limits .nodes) h, leb-true (size store) (limits .nodeWords) k)
+
 -- It is within limits that the list is within, and so is refused nothing of the list.
 within-fits : (limits : Setting) (us : List Term) (store : Store) → withinLimits limits us ≡ true → Fits us store
     → withinLimits limits store ≡ true
-unfolding withinLimits
 within-fits limits us store w f =
-    let (a, b) = both (leb (length us) (limits .nodes)) (leb (size us) (limits .nodeWords)) w in
-    let h = leb-true (length us) (limits .nodes) a in
-    let k = leb-true (size us) (limits .nodeWords) b in
+    let m = no-more limits us w in
     let l = length-below store us (f .apart) (f .among) in
     let s = size-below store us (f .apart) (f .among) in
-    rw (le-leb (length store) (limits .nodes) (omega arith), le-leb (size store) (limits .nodeWords) (omega arith))
+    at-most limits store (omega arith) (omega arith)
 
 pub intern-fits : (limits : Setting) (us : List Term) (t : Term) (store : Store) → withinLimits limits us ≡ true
     → Fits us store
