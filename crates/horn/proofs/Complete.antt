@@ -111,11 +111,11 @@ module _ (limits : Setting) (th : Theory) (l : Lookups th) (formed : WellFormed 
       let concluded : map judgmentOf (made [] is) ≡ cs = made-conclusions [] is [] refl in
       let count = made-length [] is in
       let closing =
-        subst
-        (λ x. Each (λ j. List·Memᴰ j x) (map goalJudgment goals)
-        → certificateForms limits th (progress goals (made [] is)) (topItems (map (Layout.resultForm x) goals)) final
-        ≡ ok (progress [] (made [] is), final))
-        concluded (results-back goals (made [] is) final (k .others) (omega arith)) (p .reached) in
+      subst
+      (λ x. Each (λ j. List·Memᴰ j x) (map goalJudgment goals)
+      → certificateForms limits th (progress goals (made [] is)) (topItems (map (Layout.resultForm x) goals)) final
+      ≡ ok (progress [] (made [] is), final))
+      concluded (results-back goals (made [] is) final (k .others) (omega arith)) (p .reached) in
       on _ _ _
       (ap (λ x. certificateForms limits th (progress goals []) x store) (items-printed (forms goals is) (forms-words th l formed goals (p .supported) (k .words)))
       ∙ steps-back (p .supported) goals [] results store refl (omega arith) d sub f
@@ -175,12 +175,12 @@ complete limits a b c d rulebook text {th} {goals} {store} is bound acc read p w
     let k = read-known limits th text (read .read) in
     let in-us : allSubterms js ⊆ us = to-distinct (allSubterms js) in
     let f : Fits us store =
-      subst (Fits us) (sym (k .has))
-      (fits-all us (judgments goals) [] (fits-none us) (λ u m. in-us u (first-part (judgments goals) (map conclusion is) u m))) in
+    subst (Fits us) (sym (k .has))
+    (fits-all us (judgments goals) [] (fits-none us) (λ u m. in-us u (first-part (judgments goals) (map conclusion is) u m))) in
     let n : length is ≤ 2 ^ 64 = omega (arith, layout-long goals is, w .short) in
     let certificate =
-      certificate-back limits th (theory-looks rulebook e) (theory-formed rulebook e) us (w .small) goals is store p k n (w .shallow)
-      (λ u m. in-us u (second-part (judgments goals) (map conclusion is) u m)) f in
+    certificate-back limits th (theory-looks rulebook e) (theory-formed rulebook e) us (w .small) goals is store p k n (w .shallow)
+    (λ u m. in-us u (second-part (judgments goals) (map conclusion is) u m)) f in
     let final = ap (withAll (map conclusion is)) (k .has) ∙ sym (withAll-append (judgments goals) (map conclusion is) []) in
     let count : length (made [] is) ≡ length is = let h = made-length [] is in omega arith in
     ap releaseAnswer

@@ -15,7 +15,6 @@ abbrev pub _⊆_ : List Term → List Term → Type 0
 xs ⊆ ys = (t : Term) → List·Memᴰ t xs → List·Memᴰ t ys
 
 infixl 20 _⊆_
-
 -- No entry twice.
 abbrev pub Distinct : List Term → Type 0
 Distinct [] = Unit
@@ -23,9 +22,10 @@ Distinct (x ∷ xs) = (List·Memᴰ x xs → ⊥) × Distinct xs
 
 pub distinct-more : (xs : List Term) (t : Term) → Distinct xs → (List·Memᴰ t xs → ⊥) → Distinct (xs ++ (t ∷ []))
 distinct-more [] t d n = (λ m. elim m [ ], tt)
-distinct-more (x ∷ xs) t d n =
-    (λ m. member-cases xs m (d .0) (λ e. n (List·Memᴰ·head (sym e))),
-    distinct-more xs t (d .1) (λ m. n (List·Memᴰ·tail m)))
+distinct-more (x ∷ xs) t d n = (
+  λ m. member-cases xs m (d .0) (λ e. n (List·Memᴰ·head (sym e))),
+  distinct-more xs t (d .1) (λ m. n (List·Memᴰ·tail m)),
+)
 
 -- A sum over a list, by what each entry counts.
 module _ (w : Term → ℕ) where
@@ -56,7 +56,7 @@ module _ (w : Term → ℕ) where
       let m = s x (List·Memᴰ·head refl) in
       let h = rest-total m in
       let below = total-below xs (rest m) (d .1)
-        (λ t k. rest-keeps m (λ e. d .0 (subst (λ z. List·Memᴰ z xs) e k)) (s t (List·Memᴰ·tail k))) in
+      (λ t k. rest-keeps m (λ e. d .0 (subst (λ z. List·Memᴰ z xs) e k)) (s t (List·Memᴰ·tail k))) in
       omega arith
 
 one : Term → ℕ

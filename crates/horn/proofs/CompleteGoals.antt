@@ -50,6 +50,7 @@ module _ (limits : Setting) (th : Theory) where
 
   mutual
     unfolding Checker.term withTerm
+
     term-with : (item : Item) (depth : ℕ) (s : Store) {s′ : Store} {t : Term} → Checker.term limits th [] depth item s ≡ ok (t, s′)
         → s′ ≡ withTerm t s
     term-with (word name) depth s e = atom-with name s e
@@ -151,9 +152,10 @@ other-last (goal m k) n j e = apart named-decides m n (λ p. differ named-decide
 apart-more : (gs : List Goal) (n : Name) (j : Term) → Apart gs → ((h : Goal) → List·Memᴰ h gs → isGoal n h ≡ false)
     → Apart (gs ++ (goal n j ∷ []))
 apart-more [] n j a e = (tt, tt)
-apart-more (g ∷ gs) n j a e =
-    (All-append (Other g) gs (goal n j ∷ []) (a .0) (other-last g n j (e g (List·Memᴰ·head refl)), tt),
-    apart-more gs n j (a .1) (λ h m. e h (List·Memᴰ·tail m)))
+apart-more (g ∷ gs) n j a e = (
+  All-append (Other g) gs (goal n j ∷ []) (a .0) (other-last g n j (e g (List·Memᴰ·head refl)), tt),
+  apart-more gs n j (a .1) (λ h m. e h (List·Memᴰ·tail m)),
+)
 
 -- What is known of goals that were read, and of the store.
 pub record Known (goals : List Goal) (store : Store) : Type 0 where

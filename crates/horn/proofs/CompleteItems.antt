@@ -32,6 +32,7 @@ topItems (x ∷ xs) = asItem x then topItems xs
 
 mutual
   unfolding around add innermost outer tok asItem
+
   around-tok : (x : Sexp) (ts : Stream Token) → around (tok x ts) ≡ (asItem x then innermost (around ts)) inside outer (around ts)
   around-tok (leaf name) ts = refl
   around-tok (list xs) ts = ap (add opening) (around-toks xs ts)
@@ -159,13 +160,11 @@ mutual
     _then-words_ : {item : Item} {rest : Items} → WordItem item → WordItems rest → WordItems (item then rest)
 
 infixr 20 _then-words_
-
 data WordAround : Around → Type 0 where
   all-words : {is : Items} → WordItems is → WordAround (all is)
   _inside-words_ : {is : Items} {a : Around} → WordItems is → WordAround a → WordAround (is inside a)
 
 infixr 20 _inside-words_
-
 innermost-words : {a : Around} → WordAround a → WordItems (innermost a)
 unfolding innermost
 innermost-words (all-words w) = w
@@ -196,6 +195,7 @@ items-words text =
 -- Nested lists that were read have words for atoms.
 mutual
   unfolding sexp absent
+
   sexp-words : (item : Item) (depth : ℕ) {x : Sexp} → WordItem item → sexp depth item ≡ ok x → WordsIn x
   sexp-words (word bs) depth (a-word w) e = rw (← ok-equal e) (leaf-word w)
   sexp-words (group inner) depth (a-group w) e =

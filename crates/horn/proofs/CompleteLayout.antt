@@ -33,6 +33,7 @@ plain-words (n ∷ ns) = leaf-word (plain-word n) and-words plain-words ns
 module _ (th : Theory) (l : Lookups th) where
   mutual
     unfolding termForm symbolName
+
     term-words : {s : Name} {t : Term} → Ground th s t → WordsIn (termForm t)
     term-words (ground {name = name} {s = s} {ins = ins} {ts = ts} m gs) =
         constant-words name (termForms ts) ((l .symbol-word (symbol name ins (sort s)) m) .0) (terms-words gs)
@@ -66,10 +67,11 @@ module _ (th : Theory) (l : Lookups th) where
   results-words : (cs : List Term) (gs : List Goal) → All GoalWord gs → All WordsIn (map (resultForm cs) gs)
   unfolding resultForm
   results-words cs [] ws = tt
-  results-words cs (goal n j ∷ gs) ws =
-      (list-words
-      (leaf-word result-word and-words leaf-word (ws .0) and-words leaf-word (plain-word _) and-words no-words),
-      results-words cs gs (ws .1))
+  results-words cs (goal n j ∷ gs) ws = (
+    list-words
+        (leaf-word result-word and-words leaf-word (ws .0) and-words leaf-word (plain-word _) and-words no-words),
+    results-words cs gs (ws .1),
+  )
 
   pub forms-words : WellFormed th → (goals : List Goal) {is : List Instance} → Supported th [] is → All GoalWord goals
       → All WordsIn (forms goals is)

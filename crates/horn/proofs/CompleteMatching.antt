@@ -64,6 +64,7 @@ next-matches σ o f m k = rw (m .found-some) (k (m .binds) (m .by))
 
 mutual
   unfolding match substitute
+
   pub pattern-matches : (p : Pattern) (σ : Assignment) (binds : List Bind) → All (By σ) binds
       → Matches σ (match p (substitute σ p) binds)
   pattern-matches (var name) σ binds a = variable-matches σ name binds (lookup name binds) refl a

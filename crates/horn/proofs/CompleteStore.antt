@@ -62,6 +62,7 @@ new-kept t store =
 
 mutual
   unfolding withTerm
+
   pub old-term : (t : Term) (store : Store) → store ⊆ withTerm t store
   old-term (node c ts) store u m = old-kept (node c ts) (withTerms ts store) u (old-terms ts store u m)
 
@@ -71,6 +72,7 @@ mutual
 
 mutual
   unfolding withTerm subterms
+
   new-term : (t : Term) (store : Store) → subterms t ⊆ withTerm t store
   new-term (node c ts) store u (List·Memᴰ·head e) =
       subst (λ z. List·Memᴰ z (kept (node c ts) (withTerms ts store))) (sym e) (new-kept (node c ts) (withTerms ts store))
@@ -122,6 +124,7 @@ fits-kept us t store f m =
 
 mutual
   unfolding withTerm subterms
+
   pub fits-term : (us : List Term) (t : Term) (store : Store) → Fits us store → subterms t ⊆ us → Fits us (withTerm t store)
   fits-term us (node c ts) store f s =
       fits-kept us (node c ts) (withTerms ts store)

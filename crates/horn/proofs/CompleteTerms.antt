@@ -93,6 +93,7 @@ module _ (limits : Setting) (th : Theory) (l : Lookups th) (us : List Term) (wit
 
   mutual
     unfolding term termForm asItem withTerm heights subterms give
+
     pub term-back : {s : Name} {t : Term} → Ground th s t → (depth : ℕ) (store : Store)
         → depth + height (termForm t) ≤ 256
         → subterms t ⊆ us

@@ -122,7 +122,6 @@ mutual
     _and-words_ : {x : Sexp} {xs : Sexps} → WordsIn x → AllWords xs → AllWords (x ∷ₛ xs)
 
 infixr 20 _and-words_
-
 -- The tokens of a form, in front of what follows.
 unfoldable mutual
   pub tok : Sexp → Stream Token → Stream Token
@@ -142,6 +141,7 @@ recast e l = rw e l
 
 mutual
   unfolding printed tok
+
   sexp-lexed : (x : Sexp) {tl : List ℕ} {ts : Stream Token} → WordsIn x → Delimiting tl ts → Lexed (printed x ++ tl) (tok x ts)
   sexp-lexed (leaf name) (leaf-word w) d = word-lexed w d
   sexp-lexed (list xs) {tl} (list-words ws) d =
