@@ -7,3 +7,6 @@ pub mod SoundnessPatterns
 pub mod SoundnessRulebook
 pub mod SoundnessMatching
 pub mod SoundnessReading
+pub mod SoundnessSteps
+pub mod SoundnessCertificate
+pub mod Soundness
