@@ -10,3 +10,4 @@ pub mod SoundnessReading
 pub mod SoundnessSteps
 pub mod SoundnessCertificate
 pub mod Soundness
+pub mod SoundnessBench
