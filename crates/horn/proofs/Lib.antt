@@ -1,5 +1,9 @@
 pub mod Run
 pub mod Firings
+pub mod Post
+pub mod Counts
+pub mod Kept
+pub mod Limits
 pub mod Equality
 pub mod Inversion
 pub mod SoundnessWords
