@@ -19,7 +19,7 @@ use Rattle.horn.specs.Calls.{Report, report, areasLong, rulebookJudged, 
 use Rattle.horn.specs.Forced.{Derivable, Forced, IsClosed, Accepted, ReadWithoutRefusal}
 use Rattle.horn.proofs.Equality.{true-of-T, T-of-true, eqb-decides}
 use Rattle.horn.proofs.Inversion.{not-ok, ok-equal, afterᵣ, onᵣ, afterNeedᵣ, need-on}
-use Rattle.horn.proofs.SoundnessWords.{forced, derivable-closed}
+use Rattle.horn.proofs.SoundnessWords.{forced, derivable-closed, derivable-of-forced}
 use Rattle.horn.proofs.SoundnessRulebook.{theory-formed}
 use Rattle.horn.proofs.SoundnessReading.{goals-read}
 use Rattle.horn.proofs.SoundnessCertificate.{certificate-sound}
@@ -141,6 +141,11 @@ soundness-forced limits a b c d rulebook text certificate zero-number =
       each = λ g m. forced (x .each g m);
     }
 
--- What is derivable from a rulebook's theory is itself a closed set, so neither word is empty of sense.
+-- What is derivable from a rulebook's theory is itself a closed set, and what is forced at any level is derivable: at no
+-- level does the second theorem say less than the first.
 pub derivable-is-closed : (rulebook : List ℕ) {th : Theory} → theory rulebook ≡ ok th → IsClosed th (Derivable th)
 derivable-is-closed rulebook e = derivable-closed (theory-formed rulebook e)
+
+pub forced-is-derivable {ℓ} : (rulebook : List ℕ) {th : Theory} {j : Term} → theory rulebook ≡ ok th → Forced {ℓ} th j
+    → Derivable th j
+forced-is-derivable rulebook e f = derivable-of-forced (theory-formed rulebook e) f
