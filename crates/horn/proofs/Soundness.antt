@@ -2,23 +2,23 @@
 -- in every set of judgments that is closed under the rules. Over all settings, all area lengths and all byte texts.
 use Prim.Native.Nat.{ℕ, _≤_}
 use native.Mathlib.Omega.{arith}
-use mathlib.Core.Path.{_≡_, refl, sym, ap, subst, _∙_}
-use mathlib.Core.Bool.{Bool, true, false, true≢false}
+use mathlib.Core.Path.{_≡_, refl, sym, ap, _∙_}
+use mathlib.Core.Bool.{true, false, true≢false}
 use mathlib.Core.List.{List, [], _∷_, List·Memᴰ}
-use lib.Dec.{T, leb, eqb, leb→le, le→leb}
+use lib.Dec.{leb, eqb, leb→le, le→leb}
 use lib.ListN.{length}
 use Rattle.horn.specs.Refusals.{areaShort, textLong, notUtf8, nesting, textEnds, strayClosing, atomOrList, emptyList, form, excess}
 use Rattle.horn.specs.Refusals.{variableName, unknown, duplicate, twoSorts, sortArity, bracketedConstant, noGoal, notNumber, stepOrder, referenceCount}
 use Rattle.horn.specs.Refusals.{badBinding, secondConclusion, badConclusion, noSuchStep, badPremise, unbound, otherJudgment, storeFull, goalOpen, notOpened}
-use Rattle.horn.specs.Refusals.{Refusal, number, Result, ok, refused, need}
+use Rattle.horn.specs.Refusals.{Refusal, number, Result, ok, refused}
 use Rattle.horn.specs.Setting.{Setting}
 use Rattle.horn.specs.Rulebook.{Theory, theory}
 use Rattle.horn.specs.StoredTerms.{Term, Store}
-use Rattle.horn.specs.Checker.{Goal, goalJudgment, goalsOf, isEmptyList}
-use Rattle.horn.specs.Calls.{Report, report, areasLong, rulebookJudged, releaseJudged, releaseAnswer, releaseCall}
+use Rattle.horn.specs.Checker.{Goal, goalJudgment, isEmptyList}
+use Rattle.horn.specs.Calls.{Report, areasLong, rulebookJudged, releaseJudged, releaseAnswer, releaseCall}
 use Rattle.horn.specs.Forced.{Derivable, Forced, IsClosed, Accepted, ReadWithoutRefusal}
 use Rattle.horn.proofs.Equality.{true-of-T, T-of-true, eqb-decides}
-use Rattle.horn.proofs.Inversion.{not-ok, ok-equal, afterᵣ, onᵣ, afterNeedᵣ, need-on}
+use Rattle.horn.proofs.Inversion.{afterᵣ, onᵣ, afterNeedᵣ, need-on}
 use Rattle.horn.proofs.SoundnessWords.{forced, derivable-closed, derivable-of-forced}
 use Rattle.horn.proofs.SoundnessRulebook.{theory-formed}
 use Rattle.horn.proofs.SoundnessReading.{goals-read}

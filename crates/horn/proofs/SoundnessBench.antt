@@ -4,7 +4,7 @@ use mathlib.Core.Path.{_≡_, refl, sym, ap, subst, _∙_}
 use mathlib.Core.List.{List, [], _∷_, List·Memᴰ, List·Memᴰ·head}
 use Rattle.horn.specs.Refusals.{ok}
 use Rattle.horn.specs.Setting.{document01}
-use Rattle.horn.specs.Names.{Name, codes}
+use Rattle.horn.specs.Names.{codes}
 use Rattle.horn.specs.Rulebook.{Symbol, symbol, sort, judgment, variable, var, app, []ₚ, _∷ₚ_, rule, Theory, theory}
 use Rattle.horn.specs.StoredTerms.{Term, node, []ₜ, _∷ₜ_, Store}
 use Rattle.horn.specs.Checker.{Goal, goal, goalJudgment, goalsOf}
@@ -12,7 +12,6 @@ use Rattle.horn.specs.Calls.{releaseCall}
 use Rattle.horn.specs.Forced.{Derivable, Forced}
 use Rattle.horn.proofs.Inversion.{ok-equal}
 use Rattle.horn.proofs.Run.{release}
-use Rattle.horn.proofs.SoundnessWords.{forced}
 use Rattle.horn.proofs.Soundness.{Established, soundness, soundness-forced}
 
 abbrev R : List ℕ

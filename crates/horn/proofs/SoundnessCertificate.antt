@@ -1,22 +1,22 @@
 -- A certificate that is read to its end has derived each goal that was open before it.
 use Prim.Native.Nat.{ℕ}
-use mathlib.Core.Path.{_≡_, refl, sym, ap, subst, _∙_}
-use mathlib.Core.Bool.{Bool, true, false, true≢false}
+use mathlib.Core.Path.{_≡_, sym, ap, subst, _∙_}
+use mathlib.Core.Bool.{true, true≢false}
 use mathlib.Core.List.{List, [], _∷_, _++_, List·Memᴰ, List·Memᴰ·head, List·Memᴰ·tail}
 use mathlib.Core.Logic.{_⊎_, inl, inr, ⊎-elim}
 use Rattle.horn.specs.Refusals.{ok}
 use Rattle.horn.specs.Setting.{Setting}
-use Rattle.horn.specs.Names.{Name, first}
+use Rattle.horn.specs.Names.{Name}
 use Rattle.horn.specs.Tokens.{tokens}
 use Rattle.horn.specs.NestedLists.{Item, Items, closed, ended, badLine, _then_, items}
 use Rattle.horn.specs.Rulebook.{Rule, Theory}
-use Rattle.horn.specs.StoredTerms.{Term, sameTerm, Store}
+use Rattle.horn.specs.StoredTerms.{Term, Store}
 use Rattle.horn.specs.Checker.{Def, def, meaning, Goal, isGoal, goalJudgment, isEmptyList}
 use Rattle.horn.specs.Matching.{Step, step, judgmentOf}
 use Rattle.horn.specs.Certificate
 use Rattle.horn.specs.Certificate.{Progress, Keyword, stepWord, resultWord, defWord, otherWord, without}
 use Rattle.horn.specs.Forced.{Derivable}
-use Rattle.horn.proofs.Equality.{case, chosen, chose-true, chose-false, sameTerm-decides, first-some}
+use Rattle.horn.proofs.Equality.{case, chose-true, chose-false, sameTerm-decides, first-some}
 use Rattle.horn.proofs.Inversion.{after, given-is, afterₗ, afterNeed, afterFound}
 use Rattle.horn.proofs.SoundnessWords.{WellFormed}
 use Rattle.horn.proofs.SoundnessPatterns.{in-or-last}

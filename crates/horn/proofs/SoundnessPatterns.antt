@@ -1,24 +1,23 @@
 -- A rule's patterns that were read are well-sorted under the variables that were read with them.
 use Prim.Native.Nat.{ℕ, zero}
 use mathlib.Core.Path.{_≡_, refl, sym, ap, subst, _∙_}
-use mathlib.Core.Bool.{Bool, true, false, not, true≢false}
+use mathlib.Core.Bool.{true, true≢false}
 use mathlib.Core.List.{List, [], _∷_, _++_, List·Memᴰ, List·Memᴰ·head, List·Memᴰ·tail}
-use mathlib.Core.Option.{Option, none, some}
+use mathlib.Core.Option.{none, some}
 use lib.Dec.{eqb}
 use lib.ListN.{length}
 use native.Mathlib.Omega.{arith}
-use Rattle.horn.specs.Refusals
-use Rattle.horn.specs.Refusals.{Result, ok, refused, need, found, _>>=_}
-use Rattle.horn.specs.Names.{Name, named, questioned, bare, first, some-of}
+use Rattle.horn.specs.Refusals.{ok}
+use Rattle.horn.specs.Names.{Name, named, questioned, first}
 use Rattle.horn.specs.NestedLists.{Sexp, leaf, list, Sexps, []ₛ, _∷ₛ_}
 use Rattle.horn.specs.Rulebook
 use Rattle.horn.specs.Rulebook.{Symbol, symbol, Output, sameOutput, sort, judgment, Variable, variable, Pattern, var, app, Patterns, []ₚ, _∷ₚ_}
-use Rattle.horn.specs.Rulebook.{Rule, rule, Theory, Keyword, sortWord, ctorWord, predWord, ruleWord, otherWord}
-use Rattle.horn.proofs.Equality.{both, chosen, case, eqb-decides, named-decides, sameOutput-decides, first-some, first-none}
-use Rattle.horn.proofs.Inversion.{not-ok, none-some, ok-equal, afterᵣ, afterNeedᵣ, afterFoundᵣ, was-found, chosen-option}
+use Rattle.horn.specs.Rulebook.{Theory}
+use Rattle.horn.proofs.Equality.{both, chosen, eqb-decides, named-decides, sameOutput-decides, first-some, first-none}
+use Rattle.horn.proofs.Inversion.{not-ok, ok-equal, afterᵣ, afterNeedᵣ, was-found, chosen-option}
 use Rattle.horn.proofs.SoundnessWords.{Sorted, a-variable, a-term, AllSorted, no-pattern, pattern-then, SortedJudgment}
-use Rattle.horn.proofs.SoundnessWords.{a-judgment, sorted-in-more, all-sorted-in-more, judgment-in-more, Throughout}
-use Rattle.horn.proofs.SoundnessWords.{at-variable, in-term, ThroughoutAll, in-none, in-next, Covers, OneSort, RuleFormed, WellFormed}
+use Rattle.horn.proofs.SoundnessWords.{a-judgment, sorted-in-more, judgment-in-more, Throughout}
+use Rattle.horn.proofs.SoundnessWords.{at-variable, in-term, ThroughoutAll, in-next, Covers, OneSort}
 
 -- Members of a list with one entry more.
 pub in-longer : {A : Type 0} {a : A} {xs : List A} (ys : List A) → List·Memᴰ a xs → List·Memᴰ a (xs ++ ys)

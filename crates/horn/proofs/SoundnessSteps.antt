@@ -1,26 +1,26 @@
 -- Every step is sound: an instance of its own rule concludes it, whose premises are derivable.
 use Prim.Native.Nat.{ℕ, zero, suc}
-use mathlib.Core.Path.{_≡_, refl, sym, ap, subst, _∙_}
-use mathlib.Core.Bool.{Bool, true, false, not, _&&_, true≢false}
+use mathlib.Core.Path.{_≡_, refl, sym, subst}
+use mathlib.Core.Bool.{true, not}
 use mathlib.Core.List.{List, [], _∷_, _++_, map, List·Memᴰ, List·Memᴰ·head, List·Memᴰ·tail}
 use mathlib.Core.Option.{Option, none, some}
 use lib.ListN.{getElem?}
 use Rattle.horn.specs.Refusals.{ok}
 use Rattle.horn.specs.Setting.{Setting}
-use Rattle.horn.specs.Names.{Name, questioned, first}
+use Rattle.horn.specs.Names.{Name, questioned}
 use Rattle.horn.specs.NestedLists.{Item, Items, closed, ended, badLine, _then_}
 use Rattle.horn.specs.Rulebook.{symbol, judgment, Variable, variable, isVariable, sortOf, Pattern, Rule, isRule, ruleNamed, Theory}
 use Rattle.horn.specs.Rulebook.{variablesOf, premisesOf, conclusionOf}
 use Rattle.horn.specs.StoredTerms.{Term, node, []ₜ, Store}
 use Rattle.horn.specs.Checker.{Def, hasSort}
-use Rattle.horn.specs.Matching.{Step, step, judgmentOf, Bind, bind, lookup, match, matchPremises}
+use Rattle.horn.specs.Matching.{Step, step, judgmentOf, Bind, bind, lookup, matchPremises}
 use Rattle.horn.specs.Certificate
 use Rattle.horn.specs.Certificate.{Given, given}
 use Rattle.horn.specs.Forced.{Ground, WellSorted, Assignment, substitute, Instance, IsInstance, premises, conclusion, Derivable}
 use Rattle.horn.specs.Forced.{derive, Derivables, all-derived, derived}
 use Rattle.horn.proofs.Equality.{both, case, named-decides, first-some}
-use Rattle.horn.proofs.Inversion.{not-ok, none-some, ok-equal, some-equal, after, given-is, lifted, was-found, afterₗ, afterNeed, afterFound, afterFoundᵣ}
-use Rattle.horn.proofs.SoundnessWords.{SortedJudgment, Throughout, OneSort, RuleFormed, WellFormed, derivable-well-sorted}
+use Rattle.horn.proofs.Inversion.{not-ok, none-some, ok-equal, some-equal, after, given-is, was-found, afterₗ, afterNeed, afterFound, afterFoundᵣ}
+use Rattle.horn.proofs.SoundnessWords.{SortedJudgment, Throughout, OneSort, WellFormed, derivable-well-sorted}
 use Rattle.horn.proofs.SoundnessMatching.{Bound, Keeps, Agrees, GroundBinds, ground-binds-more, bound-in-more, Matched, matched}
 use Rattle.horn.proofs.SoundnessMatching.{match-judgment-ground, built}
 use Rattle.horn.proofs.SoundnessReading.{lift-absent, lift-refused, SomeSort, has-sort, GroundDefs, asked-term-read, judgment-read}

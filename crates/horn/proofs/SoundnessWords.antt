@@ -2,11 +2,11 @@
 -- closed set.
 use mathlib.Core.Path.{_≡_, refl, sym, subst}
 use mathlib.Core.Logic.{Lift}
-use mathlib.Core.List.{List, [], _∷_, map, List·Memᴰ}
+use mathlib.Core.List.{List, [], _∷_, List·Memᴰ}
 use Rattle.horn.specs.Names.{Name}
 use Rattle.horn.specs.Rulebook.{Symbol, symbol, sort, judgment, Variable, variable, Pattern, var, app, Patterns, []ₚ, _∷ₚ_}
 use Rattle.horn.specs.Rulebook.{Rule, Theory, variablesOf, premisesOf, conclusionOf}
-use Rattle.horn.specs.StoredTerms.{Term, node, Terms, []ₜ, _∷ₜ_}
+use Rattle.horn.specs.StoredTerms.{Term}
 use Rattle.horn.specs.Forced.{Ground, ground, Grounds, none-left, and-then, WellSorted, well-sorted, Assignment, substitute}
 use Rattle.horn.specs.Forced.{substituteAll, Instance, IsInstance, premises, conclusion, Each, IsClosed, Forced, Derivable}
 use Rattle.horn.specs.Forced.{derive, Derivables, all-derived, derived}
