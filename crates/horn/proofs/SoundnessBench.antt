@@ -12,16 +12,8 @@ use Rattle.horn.specs.Calls.{releaseCall}
 use Rattle.horn.specs.Forced.{Derivable, Forced}
 use Rattle.horn.proofs.Inversion.{ok-equal}
 use Rattle.horn.proofs.Run.{release}
+use Rattle.horn.proofs.Firings.{R, G, C}
 use Rattle.horn.proofs.Soundness.{Established, soundness, soundness-forced}
-
-abbrev R : List ℕ
-R = codes "(sort t)(ctor z () t)(ctor s (t) t)(pred hold (t))(rule base () (hold z))(rule more ((hold ?x)) (hold (s ?x)))"
-
-abbrev G : List ℕ
-G = codes "(goal g (hold (s z)))"
-
-abbrev C : List ℕ
-C = codes "(step 0 base ())\n(step 1 more (0))\n(result g 1)\n"
 
 abbrev z : Symbol
 z = symbol (codes "z") [] (sort (codes "t"))
@@ -49,18 +41,18 @@ abbrev bench-judgment : Term
 bench-judgment = node hold (node s (node z []ₜ ∷ₜ []ₜ) ∷ₜ []ₜ)
 
 bench-gives : theory R ≡ ok bench-theory
-unfolding release
+unfolding release R G C
 bench-gives = refl
 
 abbrev bench-store : Store
 bench-store = node z []ₜ ∷ node s (node z []ₜ ∷ₜ []ₜ) ∷ bench-judgment ∷ []
 
 bench-read : goalsOf document01 bench-theory G [] ≡ ok (goal (codes "g") bench-judgment ∷ [], bench-store)
-unfolding release
+unfolding release R G C
 bench-read = refl
 
 bench-zero : (releaseCall document01 16_384 16_384 16_384 16_384 R G C) .number ≡ 0
-unfolding release
+unfolding release R G C
 bench-zero = refl
 
 -- Whatever is said of the goals of these texts is said of that judgment.
