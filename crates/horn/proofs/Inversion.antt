@@ -1,5 +1,5 @@
 -- What an answer that is no refusal says of the parts that it came from, in continuation style.
-use mathlib.Core.Path.{_≡_, refl, sym, ap, _∙_}
+use mathlib.Core.Path.{_≡_, refl, ap, _∙_}
 use mathlib.Core.Bool.{Bool, true, false, true≢false}
 use mathlib.Core.Option.{Option, none, some}
 use Rattle.horn.specs.Refusals.{Refusal, Result, ok, refused, need, found, _>>=_ as _>>=ᵣ_}

@@ -1,5 +1,9 @@
 pub mod Run
 pub mod Firings
+pub mod Post
+pub mod Counts
+pub mod Kept
+pub mod Limits
 pub mod Equality
 pub mod Inversion
 pub mod SoundnessWords
@@ -7,6 +11,10 @@ pub mod SoundnessPatterns
 pub mod SoundnessRulebook
 pub mod SoundnessMatching
 pub mod SoundnessReading
+pub mod SoundnessSteps
+pub mod SoundnessCertificate
+pub mod Soundness
+pub mod SoundnessBench
 pub mod CompleteUtf8
 pub mod CompleteLines
 pub mod CompleteTokens

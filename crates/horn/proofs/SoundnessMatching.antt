@@ -1,18 +1,17 @@
 -- Matching is sound: bindings are kept, the pattern under the bindings is the term matched, and bindings stay ground. So
 -- is building.
 use mathlib.Core.Path.{_≡_, refl, sym, ap, ap₂, subst, _∙_}
-use mathlib.Core.Bool.{Bool, true, false, true≢false}
 use mathlib.Core.List.{List, [], _∷_, _++_, List·Memᴰ}
 use mathlib.Core.Option.{Option, none, some}
-use Rattle.horn.specs.Refusals.{ok, found, unbound}
+use Rattle.horn.specs.Refusals.{ok}
 use Rattle.horn.specs.Setting.{Setting}
 use Rattle.horn.specs.Names.{Name, named}
 use Rattle.horn.specs.Rulebook.{Symbol, symbol, sort, judgment, sameSymbol, Variable, variable, Pattern, var, app, Patterns, []ₚ, _∷ₚ_, Theory}
-use Rattle.horn.specs.StoredTerms.{Term, node, Terms, []ₜ, _∷ₜ_, sameTerm, Store, intern}
+use Rattle.horn.specs.StoredTerms.{Term, node, Terms, []ₜ, _∷ₜ_, sameTerm, Store}
 use Rattle.horn.specs.Checker.{stored}
 use Rattle.horn.specs.Matching.{Bind, bind, lookup, matchVar, match, matches, build, builds}
 use Rattle.horn.specs.Forced.{Ground, ground, Grounds, none-left, and-then, WellSorted, well-sorted, Assignment, substitute, substituteAll}
-use Rattle.horn.proofs.Equality.{chosen, case, chose-true, chose-false, named-decides, sameSymbol-decides, sameTerm-decides}
+use Rattle.horn.proofs.Equality.{chosen, chose-true, chose-false, named-decides, sameSymbol-decides, sameTerm-decides}
 use Rattle.horn.proofs.Inversion.{none-some, some-equal, ok-equal, afterᵣ, after, given-is, lifted, was-found, chosen-option}
 use Rattle.horn.proofs.SoundnessWords.{Sorted, a-variable, a-term, AllSorted, no-pattern, pattern-then, SortedJudgment, a-judgment}
 use Rattle.horn.proofs.SoundnessWords.{Throughout, at-variable, in-term, ThroughoutAll, in-none, in-next, throughout-by, OneSort}

@@ -1,23 +1,23 @@
 -- Every term that is read is a ground term of some sort, every judgment that is read is well-sorted, and no two goals
 -- that are read share a name.
 use Prim.Native.Nat.{ℕ, suc}
-use mathlib.Core.Path.{_≡_, refl, sym, ap, subst, _∙_}
-use mathlib.Core.Bool.{Bool, true, false, not, true≢false}
+use mathlib.Core.Path.{_≡_, sym, subst, _∙_}
+use mathlib.Core.Bool.{true, false, true≢false}
 use mathlib.Core.List.{List, [], _∷_, _++_, List·Memᴰ}
 use Rattle.horn.specs.Refusals
 use Rattle.horn.specs.Refusals.{ok}
 use Rattle.horn.specs.Tokens
 use Rattle.horn.specs.Setting.{Setting}
-use Rattle.horn.specs.Names.{Name, named, questioned, first, some-of}
+use Rattle.horn.specs.Names.{Name, questioned, some-of}
 use Rattle.horn.specs.NestedLists.{Item, word, group, Items, closed, ended, badLine, _then_, absent}
 use Rattle.horn.specs.NestedLists
 use Rattle.horn.specs.Rulebook.{Symbol, symbol, sort, judgment, inputs, output, Theory, isConstructor, isPredicate}
 use Rattle.horn.specs.StoredTerms.{Term, node, Terms, []ₜ, _∷ₜ_, Store}
 use Rattle.horn.specs.Checker
-use Rattle.horn.specs.Checker.{Def, def, isDef, meaning, Goal, goal, goalJudgment, isGoal, hasSort, accepts, make}
+use Rattle.horn.specs.Checker.{Def, isDef, meaning, Goal, goal, isGoal, hasSort, accepts, make}
 use Rattle.horn.specs.Forced.{Ground, ground, Grounds, none-left, and-then, WellSorted, well-sorted}
-use Rattle.horn.proofs.Equality.{both, not-true, case, chosen, named-decides, sameOutput-decides, first-some, some-of-false}
-use Rattle.horn.proofs.Inversion.{not-ok, ok-equal, afterᵣ, after, given-is, lifted, afterₗ, afterNeed, afterFound}
+use Rattle.horn.proofs.Equality.{both, not-true, case, named-decides, sameOutput-decides, first-some, some-of-false}
+use Rattle.horn.proofs.Inversion.{not-ok, afterᵣ, after, given-is, lifted, afterₗ, afterNeed, afterFound}
 use Rattle.horn.proofs.SoundnessPatterns.{constructor-declared, predicate-declared, in-or-last}
 use Rattle.horn.proofs.SoundnessMatching.{stored-is}
 

@@ -1,12 +1,12 @@
 -- Every theory that a rulebook gives is well-formed.
-use mathlib.Core.Path.{_≡_, refl, sym, ap, subst, _∙_}
-use mathlib.Core.List.{List, [], _∷_, _++_, List·Memᴰ}
+use mathlib.Core.Path.{_≡_, sym, subst}
+use mathlib.Core.List.{List, [], List·Memᴰ}
 use Prim.Native.Nat.{ℕ}
-use Rattle.horn.specs.Refusals.{Result, ok, refused, need, found, _>>=_}
+use Rattle.horn.specs.Refusals.{Result, ok}
 use Rattle.horn.specs.Names.{Name}
-use Rattle.horn.specs.NestedLists.{Sexp, leaf, list, Sexps, []ₛ, _∷ₛ_}
+use Rattle.horn.specs.NestedLists.{Sexp, Sexps, []ₛ, _∷ₛ_}
 use Rattle.horn.specs.Rulebook
-use Rattle.horn.specs.Rulebook.{Symbol, symbol, sort, judgment, Variable, variable, Pattern, Rule, rule, Theory}
+use Rattle.horn.specs.Rulebook.{Symbol, Variable, Pattern, Rule, rule, Theory}
 use Rattle.horn.specs.Rulebook.{Keyword, sortWord, ctorWord, predWord, ruleWord, otherWord}
 use Rattle.horn.proofs.Inversion.{not-ok, ok-equal, afterᵣ, afterNeedᵣ}
 use Rattle.horn.proofs.SoundnessWords.{judgment-in-more, RuleFormed, WellFormed}
