@@ -1,25 +1,23 @@
 -- Completeness: whatever the instances of an accepted rulebook prove, its layout, within the limits, is accepted.
-use Prim.Native.Nat.{ℕ, suc, _+_, _^_, _≤_, _<_, max}
+use Prim.Native.Nat.{ℕ, _+_, _^_, _≤_}
 use native.Mathlib.Omega.{arith}
 use mathlib.Core.Path.{_≡_, refl, sym, ap, subst, _∙_}
-use mathlib.Core.Bool.{Bool, true, false}
-use mathlib.Core.List.{List, [], _∷_, _++_, map, List·Memᴰ, Memᴰ·append-left, Memᴰ·append-right, List·Memᴰ·append-cases, append-assoc, append-nil}
+use mathlib.Core.Bool.{true}
+use mathlib.Core.List.{List, [], _∷_, _++_, map, map-append, List·Memᴰ, Memᴰ·append-left, Memᴰ·append-right, List·Memᴰ·append-cases, append-assoc, append-nil}
 use mathlib.Core.Logic.{⊎-elim}
 use lib.Dec.{leb}
-use lib.ListN.{length, length-append, length-map}
+use lib.ListN.{length, length-append}
 use borrow.Author.Tests.{le-leb}
-use Rattle.horn.specs.Refusals.{Result, ok, need, textLong, _>>=_}
+use Rattle.horn.specs.Refusals.{ok}
 use Rattle.horn.specs.Setting.{Setting, document01}
-use Rattle.horn.specs.NestedLists.{Sexp, items}
-use Rattle.horn.specs.Tokens.{tokens}
-use Rattle.horn.specs.Rulebook.{Rule, Theory, theory}
+use Rattle.horn.specs.NestedLists.{Sexp}
+use Rattle.horn.specs.Rulebook.{Theory, theory}
 use Rattle.horn.specs.StoredTerms.{Term, Store, withinLimits}
-use Rattle.horn.specs.Checker
-use Rattle.horn.specs.Checker.{Goal, goal, goalJudgment, goalsOf, isEmptyList, give}
+use Rattle.horn.specs.Checker.{Goal, goalJudgment, isEmptyList, give}
 use Rattle.horn.specs.Matching.{Step, step, judgmentOf}
 use Rattle.horn.specs.Certificate.{certificateForm, certificateForms, certificateOf}
 use Rattle.horn.specs.Calls.{report, areasLong, rulebookJudged, releaseJudged, releaseAnswer, releaseCall}
-use Rattle.horn.specs.Forced.{Instance, IsInstance, premises, conclusion, Each, judgments, Accepted, ReadWithoutRefusal}
+use Rattle.horn.specs.Forced.{Instance, premises, conclusion, Each, judgments, Accepted, ReadWithoutRefusal}
 use Rattle.horn.specs.Layout
 use Rattle.horn.specs.Layout.{stepForms, forms, laidOut, height, depth, subterms, allSubterms, distinct, spread, WithinLimits, Supported, none-left, and-then, Proves}
 use Rattle.horn.proofs.Inversion.{afterᵣ, afterNeedᵣ, onᵣ, on, need-on}
@@ -30,7 +28,7 @@ use Rattle.horn.proofs.CompleteTheory.{Lookups, theory-looks}
 use Rattle.horn.proofs.CompleteCount.{_⊆_, to-distinct}
 use Rattle.horn.proofs.CompleteStore.{withTerm, withAll, withAll-append, Fits, fits-none, fits-term, fits-all, stored-count}
 use Rattle.horn.proofs.CompleteTerms.{on-lift}
-use Rattle.horn.proofs.CompleteGoals.{Known, read-known, Apart, map-append}
+use Rattle.horn.proofs.CompleteGoals.{Known, read-known, Apart}
 use Rattle.horn.proofs.CompleteSteps.{progress, result-back, step-back}
 use Rattle.horn.proofs.CompleteLayout.{forms-words, layout-long}
 

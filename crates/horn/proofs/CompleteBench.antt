@@ -1,29 +1,22 @@
 -- Completeness at the bench set, under limits that its two instances meet exactly: every hypothesis can be met, and the
 -- conclusion is the report that is computed.
-use Prim.Native.Nat.{ℕ, _≤_, _^_}
+use Prim.Native.Nat.{ℕ}
 use native.Mathlib.Omega.{arith}
-use mathlib.Core.Path.{_≡_, refl, subst, sym, _∙_}
-use mathlib.Core.List.{List, [], _∷_, map, List·Memᴰ, List·Memᴰ·head, List·Memᴰ·tail}
-use lib.ListN.{length}
-use Rattle.horn.specs.Refusals.{ok}
-use Rattle.horn.specs.Setting.{Setting, document01}
+use mathlib.Core.Path.{_≡_, refl, subst}
+use mathlib.Core.List.{List, [], _∷_, List·Memᴰ, List·Memᴰ·head, List·Memᴰ·tail}
+use Rattle.horn.specs.Setting.{Setting}
 use Rattle.horn.specs.Names.{Name, codes}
-use Rattle.horn.specs.Rulebook.{Symbol, symbol, sort, judgment, Variable, variable, var, app, []ₚ, _∷ₚ_, Rule, rule, Theory, variablesOf, premisesOf, conclusionOf}
+use Rattle.horn.specs.Rulebook.{Symbol, symbol, sort, judgment, variable, var, app, []ₚ, _∷ₚ_, Rule, rule, Theory, variablesOf, premisesOf, conclusionOf}
 use Rattle.horn.specs.StoredTerms.{Term, node, []ₜ, _∷ₜ_, Store}
 use Rattle.horn.specs.Checker.{Goal, goal, goalJudgment}
-use Rattle.horn.specs.Calls.{Report, report, releaseCall}
+use Rattle.horn.specs.Calls.{report, releaseCall}
 use Rattle.horn.specs.Forced
-use Rattle.horn.specs.Forced.{Ground, ground, Assignment, Instance, IsInstance, Accepted, ReadWithoutRefusal, substitute, premises, conclusion, judgments}
+use Rattle.horn.specs.Forced.{Ground, ground, Instance, IsInstance, Accepted, ReadWithoutRefusal, substitute, premises, conclusion, judgments}
 use Rattle.horn.specs.Layout
-use Rattle.horn.specs.Layout.{laidOut, spread, WithinLimits, Supported, none-left, and-then, Proves}
+use Rattle.horn.specs.Layout.{laidOut, spread, WithinLimits, none-left, and-then, Proves}
 use Rattle.horn.proofs.Run.{release}
+use Rattle.horn.proofs.Firings.{R, G}
 use Rattle.horn.proofs.Complete.{complete}
-
-abbrev R : List ℕ
-R = codes "(sort t)(ctor z () t)(ctor s (t) t)(pred hold (t))(rule base () (hold z))(rule more ((hold ?x)) (hold (s ?x)))"
-
-abbrev G : List ℕ
-G = codes "(goal g (hold (s z)))"
 
 -- Limits of which each is met.
 abbrev tight : Setting
@@ -75,11 +68,11 @@ abbrev store : Store
 store = zero-term ∷ one-term ∷ node hold (one-term ∷ₜ []ₜ) ∷ []
 
 accepted : Accepted tight R th
-unfolding release
+unfolding release R
 accepted = record { judged = refl }
 
 read : ReadWithoutRefusal tight th G goals store
-unfolding release
+unfolding release G
 read = record { short = omega arith; read = refl }
 
 -- The two instances: `?x` is z.

@@ -1,15 +1,15 @@
 -- Lists without repetition: counted by membership alone. `distinct` gives one, with the members that it was given.
-use Prim.Native.Nat.{ℕ, zero, suc, _+_, _≤_}
+use Prim.Native.Nat.{ℕ, _+_, _≤_}
 use native.Mathlib.Omega.{arith}
 use mathlib.Core.Path.{_≡_, refl, sym, ap, subst, _∙_}
-use mathlib.Core.Bool.{Bool, true, false, true≢false}
+use mathlib.Core.Bool.{true, false}
 use mathlib.Core.List.{List, [], _∷_, _++_, List·Memᴰ, List·Memᴰ·head, List·Memᴰ·tail}
 use lib.ListN.{length}
 use Rattle.horn.specs.Names.{some-of}
-use Rattle.horn.specs.StoredTerms.{Term, node, Terms, width, nodeSize, size, sameTerm}
+use Rattle.horn.specs.StoredTerms.{Term, nodeSize, size, sameTerm}
 use Rattle.horn.specs.Layout.{distinct}
-use Rattle.horn.proofs.Equality.{case, chosen, sameTerm-decides, some-of-true, some-of-false, differ}
-use Rattle.horn.proofs.CompleteTheory.{member-cases}
+use Rattle.horn.proofs.Equality.{case, sameTerm-decides, some-of-true, some-of-false, differ}
+use Rattle.horn.proofs.SoundnessPatterns.{in-or-last}
 
 abbrev pub _⊆_ : List Term → List Term → Type 0
 xs ⊆ ys = (t : Term) → List·Memᴰ t xs → List·Memᴰ t ys
@@ -23,7 +23,7 @@ Distinct (x ∷ xs) = (List·Memᴰ x xs → ⊥) × Distinct xs
 pub distinct-more : (xs : List Term) (t : Term) → Distinct xs → (List·Memᴰ t xs → ⊥) → Distinct (xs ++ (t ∷ []))
 distinct-more [] t d n = (λ m. elim m [ ], tt)
 distinct-more (x ∷ xs) t d n = (
-  λ m. member-cases xs m (d .0) (λ e. n (List·Memᴰ·head (sym e))),
+  λ m. in-or-last xs m (d .0) (λ e. n (List·Memᴰ·head (sym e))),
   distinct-more xs t (d .1) (λ m. n (List·Memᴰ·tail m)),
 )
 

@@ -2,24 +2,24 @@
 -- name is a word, and no goal has the name of another.
 use Prim.Native.Nat.{ℕ, suc}
 use mathlib.Core.Path.{_≡_, refl, sym, ap, subst, _∙_}
-use mathlib.Core.Bool.{Bool, true, false, not}
-use mathlib.Core.List.{List, [], _∷_, _++_, map, List·Memᴰ, List·Memᴰ·head, List·Memᴰ·tail}
-use Rattle.horn.specs.Refusals.{Result, ok, refused, _>>=_ as _>>=ᵣ_}
+use mathlib.Core.Bool.{false}
+use mathlib.Core.List.{List, [], _∷_, _++_, map, map-append, List·Memᴰ, List·Memᴰ·head, List·Memᴰ·tail}
+use Rattle.horn.specs.Refusals.{ok}
 use Rattle.horn.specs.Setting.{Setting}
 use Rattle.horn.specs.Tokens.{tokens}
-use Rattle.horn.specs.Names.{Name, named, questioned, first, some-of}
-use Rattle.horn.specs.NestedLists.{Item, word, group, Items, closed, ended, badLine, _then_, absent, items}
+use Rattle.horn.specs.Names.{Name, questioned, first, some-of}
+use Rattle.horn.specs.NestedLists.{Item, word, group, Items, closed, ended, badLine, _then_, items}
 use Rattle.horn.specs.Rulebook.{Symbol, Theory}
-use Rattle.horn.specs.StoredTerms.{Term, node, Terms, []ₜ, _∷ₜ_, Store}
+use Rattle.horn.specs.StoredTerms.{Term, node, Terms, []ₜ, Store}
 use Rattle.horn.specs.Checker
-use Rattle.horn.specs.Checker.{isDef, Goal, goal, goalJudgment, isGoal, make, stored}
+use Rattle.horn.specs.Checker.{Goal, goal, goalJudgment, isGoal, make, stored}
 use Rattle.horn.specs.Forced.{judgments}
 use Rattle.horn.proofs.Equality.{not-true, case, named-decides, some-of-false, apart, differ}
 use Rattle.horn.proofs.Inversion.{not-ok, none-some, ok-equal, afterᵣ, after, given-is, afterₗ, afterNeed, afterFound}
 use Rattle.horn.proofs.SoundnessReading.{absent-not, lift-absent, lift-refused}
 use Rattle.horn.proofs.CompleteUtf8.{All, All-append}
 use Rattle.horn.proofs.CompleteTokens.{Word}
-use Rattle.horn.proofs.CompleteItems.{WordItem, a-word, a-group, WordItems, at-closed, at-ended, at-bad, _then-words_, items-words}
+use Rattle.horn.proofs.CompleteItems.{WordItem, a-word, a-group, WordItems, _then-words_, items-words}
 use Rattle.horn.proofs.CompleteStore.{kept, withTerm, withTerms, withAll, withAll-append, intern-kept}
 
 stored-kept : (limits : Setting) (t : Term) (s : Store) {s′ : Store} {u : Term} → stored limits t s ≡ ok (u, s′)
@@ -162,10 +162,6 @@ pub record Known (goals : List Goal) (store : Store) : Type 0 where
   pub has : store ≡ withAll (judgments goals) []
   pub words : All GoalWord goals
   pub others : Apart goals
-
-pub map-append : {A B : Type 0} (f : A → B) (xs ys : List A) → map f (xs ++ ys) ≡ map f xs ++ map f ys
-map-append f [] ys = refl
-map-append f (x ∷ xs) ys = ap (f x ∷_) (map-append f xs ys)
 
 known-more : (goals : List Goal) (s : Store) (n : Name) (j : Term) → Known goals s → Word n → some-of (isGoal n) goals ≡ false
     → Known (goals ++ (goal n j ∷ [])) (withTerm j s)

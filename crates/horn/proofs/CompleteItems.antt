@@ -5,7 +5,7 @@ use mathlib.Core.Bool.{Bool, true, false}
 use mathlib.Core.List.{List, [], _∷_, _++_, append-nil, append-assoc}
 use mathlib.Core.Option.{Option, none, some}
 use lib.Dec.{eqb}
-use Rattle.horn.specs.Refusals.{Result, ok, refused, _>>=_}
+use Rattle.horn.specs.Refusals.{ok}
 use Rattle.horn.specs.Utf8.{Char, char, decoded}
 use Rattle.horn.specs.Tokens.{Stream, end, bad, _▹_, before, lines, characters, Kind, blank, opens, closes, comments, ordinary, kind}
 use Rattle.horn.specs.Tokens.{Token, opening, closing, atom, Place, between, inComment, inAtom, Move, begins, continues, move, unended, tokensFrom, tokens}

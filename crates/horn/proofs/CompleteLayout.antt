@@ -1,17 +1,17 @@
 -- Every atom of a layout is a word, and a layout has at least a byte for each instance.
-use Prim.Native.Nat.{ℕ, suc, _+_, _≤_}
+use Prim.Native.Nat.{ℕ, suc, _≤_}
 use native.Mathlib.Omega.{arith}
-use mathlib.Core.Path.{_≡_, refl, sym, ap, _∙_}
-use mathlib.Core.List.{List, [], _∷_, _++_, map, List·Memᴰ}
+use mathlib.Core.Path.{_≡_, refl, ap}
+use mathlib.Core.List.{List, [], _∷_, _++_, map}
 use lib.ListN.{length, length-append}
 use Rattle.horn.specs.Names.{Name}
-use Rattle.horn.specs.NestedLists.{Sexp, leaf, list, Sexps, []ₛ, _∷ₛ_}
-use Rattle.horn.specs.Rulebook.{Symbol, symbol, sort, judgment, Theory}
-use Rattle.horn.specs.StoredTerms.{Term, node, Terms}
+use Rattle.horn.specs.NestedLists.{Sexp, Sexps, []ₛ, _∷ₛ_}
+use Rattle.horn.specs.Rulebook.{symbol, sort, judgment, Theory}
+use Rattle.horn.specs.StoredTerms.{Term, Terms}
 use Rattle.horn.specs.Checker.{Goal, goal}
 use Rattle.horn.specs.Forced.{Ground, ground, Grounds, WellSorted, well-sorted, Instance, IsInstance, conclusion}
 use Rattle.horn.specs.Forced
-use Rattle.horn.specs.Layout.{plainAll, symbolName, ruleName, constantOr, termForm, termForms, judgmentForm, stepForm, stepForms}
+use Rattle.horn.specs.Layout.{plainAll, symbolName, constantOr, termForm, termForms, judgmentForm, stepForm, stepForms}
 use Rattle.horn.specs.Layout.{resultForm, forms, printed, printedLines, laidOut, Supported, none-left, and-then}
 use Rattle.horn.proofs.SoundnessWords.{WellFormed, conclusion-well-sorted}
 use Rattle.horn.proofs.CompleteUtf8.{All, All-append}

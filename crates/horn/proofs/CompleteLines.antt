@@ -1,13 +1,13 @@
 -- A text that decodes whole is read by lines as it is read at once: a line ends where a character does.
 use Prim.Native.Nat.{ℕ, _+_, _*_, _-_}
 use mathlib.Core.Path.{_≡_, refl, sym, ap, _∙_}
-use mathlib.Core.Bool.{Bool, true, false, _&&_, true≢false}
+use mathlib.Core.Bool.{true, false, true≢false}
 use mathlib.Core.List.{List, [], _∷_, _++_, append-nil}
-use mathlib.Core.Option.{Option, none, some, Option·map}
+use mathlib.Core.Option.{some, Option·map}
 use borrow.Author.Tests.{eqb-true}
-use lib.Dec.{leb, eqb}
+use lib.Dec.{eqb}
 use Rattle.horn.specs.Utf8.{Range, range, within, Sequence, sequence, tail, sequences, startedBy, Char, char, resumed, decoded}
-use Rattle.horn.specs.Tokens.{Stream, end, bad, _▹_, before, onto, lines, characters}
+use Rattle.horn.specs.Tokens.{Stream, end, _▹_, before, onto, lines, characters}
 use Rattle.horn.proofs.Equality.{case, chosen, chose-true}
 use Rattle.horn.proofs.Inversion.{none-some, some-equal}
 use Rattle.horn.proofs.CompleteUtf8.{resumed-done, mapped, decoded-of, begun, All}

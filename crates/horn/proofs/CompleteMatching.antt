@@ -1,22 +1,21 @@
 -- Matching succeeds on an instance: every binding is the instance's own term. The lowest earlier step is found.
-use Prim.Native.Nat.{ℕ, zero, suc, _^_, _<_}
+use Prim.Native.Nat.{ℕ, _^_, _<_}
 use native.Mathlib.Omega.{arith}
 use mathlib.Core.Path.{_≡_, refl, sym, ap, _∙_}
-use mathlib.Core.Bool.{Bool, true, false}
 use mathlib.Core.List.{List, [], _∷_, _++_, map, List·Memᴰ, List·Memᴰ·head, List·Memᴰ·tail}
 use mathlib.Core.Option.{Option, none, some}
 use lib.ListN.{length, getElem?}
-use Rattle.horn.specs.Refusals.{Result, ok, found, _>>=_}
+use Rattle.horn.specs.Refusals.{Result, ok}
 use Rattle.horn.specs.Names.{Name, named}
 use Rattle.horn.specs.NestedLists.{word}
-use Rattle.horn.specs.Rulebook.{sameSymbol, Pattern, var, app, Patterns, []ₚ, _∷ₚ_}
-use Rattle.horn.specs.StoredTerms.{Term, node, Terms, []ₜ, _∷ₜ_, sameTerm}
+use Rattle.horn.specs.Rulebook.{Pattern, var, app, Patterns, []ₚ, _∷ₚ_}
+use Rattle.horn.specs.StoredTerms.{Term, sameTerm}
 use Rattle.horn.specs.Checker.{wordDue, numberDue}
-use Rattle.horn.specs.Matching.{Step, step, judgmentOf, Bind, bind, lookup, matchVar, match, matches, matchPremises}
+use Rattle.horn.specs.Matching.{Step, judgmentOf, Bind, bind, lookup, matchVar, match, matches, matchPremises}
 use Rattle.horn.specs.Certificate.{references}
 use Rattle.horn.specs.Forced.{Assignment, substitute, substituteAll, Each}
 use Rattle.horn.specs.Layout.{plain, plainAll, lowest}
-use Rattle.horn.proofs.Equality.{case, chosen, chose-true, chose-false, named-decides, sameSymbol-decides, sameTerm-decides, differ}
+use Rattle.horn.proofs.Equality.{case, chosen, chose-true, chose-false, named-decides, sameSymbol-decides, sameTerm-decides}
 use Rattle.horn.proofs.Inversion.{none-some, some-equal, onᵣ, found-on}
 use Rattle.horn.proofs.CompleteUtf8.{All, All-append}
 use Rattle.horn.proofs.CompleteItems.{asItem, asItems}

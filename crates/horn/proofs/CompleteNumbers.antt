@@ -1,19 +1,19 @@
 -- Plain decimal numbers read back, and are words; so are the two heads of the layout.
-use Prim.Native.Nat.{ℕ, zero, suc, _+_, _*_, _-_, _^_, _≤_, _<_}
+use Prim.Native.Nat.{ℕ, zero, suc, _+_, _*_, _-_, _^_, _<_}
 use native.Mathlib.Omega.{arith}
-use mathlib.Core.Path.{_≡_, refl, sym, ap, subst, _∙_}
-use mathlib.Core.Bool.{Bool, true, false, _&&_, true≢false}
-use mathlib.Core.List.{List, [], _∷_, _++_, map, reverse, reverseAux}
-use mathlib.Core.Option.{Option, none, some}
-use lib.Dec.{eqb, leb, ltb}
+use mathlib.Core.Path.{_≡_, refl, ap, _∙_}
+use mathlib.Core.Bool.{true, false, true≢false}
+use mathlib.Core.List.{List, [], _∷_, map, reverse, reverseAux}
+use mathlib.Core.Option.{some}
+use lib.Dec.{eqb}
 use lib.ListN.{length, length-reverseAux}
-use borrow.Author.Tests.{lt-ltb, eqb-true, eqb-false}
-use Rattle.horn.specs.Utf8.{Char, char, range, within, sequences, startedBy, resumed, decoded}
-use Rattle.horn.specs.Tokens.{kind, white, whiteRanges, inSome, ordinary}
-use Rattle.horn.specs.Names.{Name, codes}
+use borrow.Author.Tests.{lt-ltb, eqb-true}
+use Rattle.horn.specs.Utf8.{range, within, sequences, startedBy, resumed, decoded}
+use Rattle.horn.specs.Tokens.{kind, white, whiteRanges, inSome}
+use Rattle.horn.specs.Names.{codes}
 use Rattle.horn.specs.Checker.{decimal, digits, numeral}
 use Rattle.horn.specs.Layout.{next, countedTo, plain}
-use Rattle.horn.proofs.Equality.{case, chosen, chose-true}
+use Rattle.horn.proofs.Equality.{case, chose-true}
 use Rattle.horn.proofs.CompleteUtf8.{All}
 use Rattle.horn.proofs.CompleteTokens.{Word}
 use Rattle.horn.proofs.CompleteItems.{first-word, word-append}

@@ -1,29 +1,28 @@
 -- Each form of the layout is accepted: a step concludes its instance's conclusion, a result closes its goal.
-use Prim.Native.Nat.{ℕ, suc, _+_, _^_, _≤_, _<_, max}
+use Prim.Native.Nat.{ℕ, suc, _^_, _≤_, _<_}
 use native.Mathlib.Omega.{arith}
-use mathlib.Core.Path.{_≡_, refl, sym, ap, subst, _∙_}
-use mathlib.Core.Bool.{Bool, true, false, not, _&&_}
+use mathlib.Core.Path.{_≡_, refl, ap, _∙_}
+use mathlib.Core.Bool.{true, false}
 use mathlib.Core.List.{List, [], _∷_, _++_, map, List·Memᴰ}
-use mathlib.Core.Option.{Option, none, some}
-use lib.Dec.{eqb}
-use lib.ListN.{length, length-map, getElem?}
+use mathlib.Core.Option.{none, some}
+use lib.ListN.{length, length-map}
 use borrow.Author.Tests.{eq-eqb}
-use Rattle.horn.specs.Refusals.{Result, ok, need, found, _>>=_ as _>>=ᵣ_}
+use Rattle.horn.specs.Refusals.{ok}
 use Rattle.horn.specs.Setting.{Setting}
-use Rattle.horn.specs.Names.{Name, named, sameList, codes, questioned, first}
-use Rattle.horn.specs.NestedLists.{Item, word, group, Items, closed, _then_, Sexp, leaf, list, Sexps, []ₛ, _∷ₛ_}
-use Rattle.horn.specs.Rulebook.{Symbol, symbol, judgment, Rule, rule, premisesOf, conclusionOf, Theory, isRule, ruleNamed}
-use Rattle.horn.specs.StoredTerms.{Term, node, Terms, Store, withinLimits, sameTerm}
-use Rattle.horn.specs.Checker.{Reading, _>>=_, give, lift, wordDue, groupDue, ask, askWord, askGroup, askNumber, closingDue}
+use Rattle.horn.specs.Names.{Name, named, sameList, codes, first}
+use Rattle.horn.specs.NestedLists.{Item, word, group, Items, closed, _then_}
+use Rattle.horn.specs.Rulebook.{symbol, judgment, Rule, rule, premisesOf, conclusionOf, Theory, isRule, ruleNamed}
+use Rattle.horn.specs.StoredTerms.{Term, Store, withinLimits, sameTerm}
+use Rattle.horn.specs.Checker.{Reading, give, wordDue, groupDue, ask, askWord, askGroup, askNumber, closingDue}
 use Rattle.horn.specs.Checker.{Goal, goal, goalJudgment, isGoal}
-use Rattle.horn.specs.Matching.{Step, step, judgmentOf, Bind, match, matchPremises}
+use Rattle.horn.specs.Matching.{Step, step, judgmentOf}
 use Rattle.horn.specs.Certificate
-use Rattle.horn.specs.Certificate.{Progress, Given, given, stepWord, resultWord, keyword, references, isStated, without}
-use Rattle.horn.specs.Forced.{Ground, Grounds, WellSorted, well-sorted, Instance, IsInstance, premises, conclusion, Each, substitute}
+use Rattle.horn.specs.Certificate.{Progress, Given, given, stepWord, resultWord, keyword, isStated, without}
+use Rattle.horn.specs.Forced.{WellSorted, well-sorted, Instance, IsInstance, premises, conclusion, Each, substitute}
 use Rattle.horn.specs.Layout
-use Rattle.horn.specs.Layout.{plain, plainAll, symbolName, ruleName, termForms, judgmentForm, lowest, height, heights, subterms}
+use Rattle.horn.specs.Layout.{plain, plainAll, symbolName, ruleName, termForms, judgmentForm, lowest, height, subterms}
 use Rattle.horn.proofs.Equality.{chose-true, chose-false, named-decides, sameTerm-decides}
-use Rattle.horn.proofs.Inversion.{onᵣ, on, lift-on, need-on, found-on}
+use Rattle.horn.proofs.Inversion.{onᵣ, on, need-on, found-on}
 use Rattle.horn.proofs.CompleteUtf8.{All}
 use Rattle.horn.proofs.CompleteItems.{asItem, asItems}
 use Rattle.horn.proofs.CompleteTheory.{Lookups}

@@ -1,21 +1,21 @@
 -- A store that only ever takes terms of a list within the limits refuses none of them; and what it holds in the end.
-use Prim.Native.Nat.{ℕ, _+_, _≤_}
+use Prim.Native.Nat.{_≤_}
 use native.Mathlib.Omega.{arith}
-use mathlib.Core.Path.{_≡_, refl, sym, ap, subst, _∙_}
-use mathlib.Core.Bool.{Bool, true, false, _&&_}
+use mathlib.Core.Path.{_≡_, refl, sym, subst, _∙_}
+use mathlib.Core.Bool.{true, false}
 use mathlib.Core.List.{List, [], _∷_, _++_, List·Memᴰ, List·Memᴰ·head, List·Memᴰ·tail, Memᴰ·append-left, Memᴰ·append-right, List·Memᴰ·append-cases}
 use mathlib.Core.Logic.{⊎-elim}
 use lib.Dec.{leb}
 use lib.ListN.{length}
 use borrow.Author.Tests.{leb-true, le-leb}
-use Rattle.horn.specs.Refusals.{Result, ok, need, storeFull, _>>=_}
+use Rattle.horn.specs.Refusals.{ok, need, _>>=_}
 use Rattle.horn.specs.Setting.{Setting}
 use Rattle.horn.specs.Names.{some-of}
 use Rattle.horn.specs.StoredTerms.{Term, node, Terms, []ₜ, _∷ₜ_, Store, size, holds, withinLimits, intern, sameTerm}
 use Rattle.horn.specs.Layout.{subterms, subtermsOf, allSubterms, distinct}
 use Rattle.horn.proofs.Equality.{case, both, chosen, chose-true, chose-false}
 use Rattle.horn.proofs.Inversion.{ok-equal, afterNeedᵣ}
-use Rattle.horn.proofs.CompleteTheory.{member-cases}
+use Rattle.horn.proofs.SoundnessPatterns.{in-or-last}
 use Rattle.horn.proofs.CompleteCount.{_⊆_, Distinct, distinct-more, length-below, size-below, length-same, held-member, not-held, from-distinct, to-distinct, distinct-distinct}
 
 -- The store with a term; with a term after its arguments; with terms; with judgments.
@@ -114,7 +114,7 @@ unfolding holds
 fits-new us t store f m h =
     record {
       apart = distinct-more store t (f .apart) (not-held t store h);
-      among = λ u n. member-cases store n (f .among u) (λ e. subst (λ z. List·Memᴰ z us) (sym e) m);
+      among = λ u n. in-or-last store n (f .among u) (λ e. subst (λ z. List·Memᴰ z us) (sym e) m);
     }
 
 fits-kept : (us : List Term) (t : Term) (store : Store) → Fits us store → List·Memᴰ t us → Fits us (kept t store)

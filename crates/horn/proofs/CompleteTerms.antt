@@ -1,22 +1,20 @@
 -- Laid-out terms and judgments read back within the depth, and the store afterwards has their subterms.
-use Prim.Native.Nat.{ℕ, suc, _+_, _≤_, max}
+use Prim.Native.Nat.{ℕ, suc, _+_, _≤_}
 use native.Mathlib.Omega.{arith}
-use mathlib.Core.Path.{_≡_, refl, sym, ap, _∙_}
-use mathlib.Core.Bool.{Bool, true, false, not, _&&_}
-use mathlib.Core.List.{List, [], _∷_, _++_, List·Memᴰ, List·Memᴰ·head, List·Memᴰ·tail, Memᴰ·append-left, Memᴰ·append-right}
-use lib.Dec.{leb}
+use mathlib.Core.Path.{_≡_, refl, _∙_}
+use mathlib.Core.Bool.{true, false}
+use mathlib.Core.List.{List, [], List·Memᴰ, List·Memᴰ·head, List·Memᴰ·tail, Memᴰ·append-left, Memᴰ·append-right}
 use borrow.Author.Tests.{le-leb}
-use Rattle.horn.specs.Refusals.{Result, ok, need, found, _>>=_ as _>>=ᵣ_}
+use Rattle.horn.specs.Refusals.{Result, ok}
 use Rattle.horn.specs.Setting.{Setting}
 use Rattle.horn.specs.Names.{Name, questioned}
 use Rattle.horn.specs.NestedLists.{askedAt}
 use Rattle.horn.specs.Rulebook.{Symbol, symbol, sort, judgment, output, inputs, Theory, isConstructor, isPredicate, constructor, predicate}
-use Rattle.horn.specs.StoredTerms.{Term, node, Terms, []ₜ, _∷ₜ_, Store, withinLimits, intern}
-use Rattle.horn.specs.Checker
+use Rattle.horn.specs.StoredTerms.{Term, node, Terms, []ₜ, _∷ₜ_, Store, withinLimits}
 use Rattle.horn.specs.Checker.{Reading, _>>=_, give, lift, wordDue, hasSort, accepts, isNil, make, stored, atomTerm, term, arguments, headedJudgment}
-use Rattle.horn.specs.Forced.{Ground, ground, Grounds, none-left, and-then, WellSorted, well-sorted}
-use Rattle.horn.specs.Layout.{symbolName, constantOr, termForm, termForms, judgmentForm, height, heights, subterms, subtermsOf}
-use Rattle.horn.proofs.Equality.{chose-false, named-decides, sameOutput-decides}
+use Rattle.horn.specs.Forced.{Ground, ground, Grounds, none-left, and-then}
+use Rattle.horn.specs.Layout.{symbolName, constantOr, termForm, termForms, height, heights, subterms, subtermsOf}
+use Rattle.horn.proofs.Equality.{named-decides, sameOutput-decides}
 use Rattle.horn.proofs.Inversion.{onᵣ, on, lift-on, need-on, found-on}
 use Rattle.horn.proofs.CompleteItems.{asItem, asItems}
 use Rattle.horn.proofs.CompleteTheory.{Lookups}

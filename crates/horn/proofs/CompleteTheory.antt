@@ -1,21 +1,21 @@
 -- In the theory of a rulebook each name finds what it was declared for, and is a word without a leading `?`.
 use Prim.Native.Nat.{ℕ}
-use mathlib.Core.Path.{_≡_, refl, sym, ap, subst, _∙_}
-use mathlib.Core.Bool.{Bool, true, false, not, true≢false}
-use mathlib.Core.List.{List, [], _∷_, _++_, List·Memᴰ, List·Memᴰ·head, List·Memᴰ·tail, List·Memᴰ·append-cases, List·Memᴰ·eq-of-singleton}
-use mathlib.Core.Logic.{⊎-elim}
-use mathlib.Core.Option.{Option, none, some}
-use Rattle.horn.specs.Refusals.{Result, ok, refused, need, _>>=_}
+use mathlib.Core.Path.{_≡_, sym, subst}
+use mathlib.Core.Bool.{Bool, true, false, true≢false}
+use mathlib.Core.List.{List, [], _∷_, _++_, List·Memᴰ}
+use mathlib.Core.Option.{some}
+use Rattle.horn.specs.Refusals.{Result, ok}
 use Rattle.horn.specs.Names.{Name, questioned, first, some-of}
-use Rattle.horn.specs.NestedLists.{Sexp, leaf, list, Sexps, []ₛ, _∷ₛ_, sexps, items}
+use Rattle.horn.specs.NestedLists.{Sexp, leaf, list, Sexps, []ₛ, _∷ₛ_, items}
 use Rattle.horn.specs.Tokens.{tokens}
 use Rattle.horn.specs.Rulebook
 use Rattle.horn.specs.Rulebook.{Symbol, symbol, sort, judgment, Rule, rule, Theory, isConstructor, isPredicate, isRule}
 use Rattle.horn.specs.Rulebook.{Keyword, sortWord, ctorWord, predWord, ruleWord, otherWord}
 use Rattle.horn.specs.Layout.{symbolName, ruleName}
-use Rattle.horn.proofs.Equality.{not-true, chosen, named-decides, some-of-false}
+use Rattle.horn.proofs.Equality.{not-true, chosen}
 use Rattle.horn.proofs.Inversion.{not-ok, none-some, ok-equal, afterᵣ, afterNeedᵣ}
-use Rattle.horn.proofs.CompleteTokens.{Word, WordsIn, leaf-word, list-words, AllWords, no-words, _and-words_}
+use Rattle.horn.proofs.SoundnessPatterns.{in-or-last}
+use Rattle.horn.proofs.CompleteTokens.{Word, WordsIn, leaf-word, list-words, AllWords, _and-words_}
 use Rattle.horn.proofs.CompleteItems.{items-words, sexps-words}
 
 -- The first entry of a longer list.
@@ -38,17 +38,11 @@ first-last test (x ∷ xs) a e t =
 abbrev pub Finds : {A : Type 0} → (Name → A → Bool) → (A → Name) → List A → Type 0
 Finds {A} test name xs = (a : A) → List·Memᴰ a xs → test (name a) a ≡ true → first (test (name a)) xs ≡ some a
 
-pub member-cases {ℓ} : {A : Type 0} {C : Type ℓ} (xs : List A) {a b : A} → List·Memᴰ a (xs ++ (b ∷ []))
-    → (List·Memᴰ a xs → C)
-    → (a ≡ b → C)
-    → C
-member-cases xs m f g = ⊎-elim f (λ n. g (List·Memᴰ·eq-of-singleton n)) (List·Memᴰ·append-cases xs m)
-
 finds-more : {A : Type 0} (test : Name → A → Bool) (name : A → Name) (xs : List A) (b : A) → Finds test name xs
     → (test (name b) b ≡ true → some-of (test (name b)) xs ≡ false)
     → Finds test name (xs ++ (b ∷ []))
 finds-more test name xs b f new a m t =
-    member-cases xs m
+    in-or-last xs m
     (λ n. first-longer (test (name a)) xs (b ∷ []) (f a n t))
     (λ e.
     subst (λ z. test (name z) z ≡ true → first (test (name z)) (xs ++ (b ∷ [])) ≡ some z) (sym e)
@@ -67,7 +61,7 @@ pub record Lookups (th : Theory) : Type 0 where
 words-more : {A : Type 0} (name : A → Name) (xs : List A) (b : A) → ((a : A) → List·Memᴰ a xs → NameWord (name a))
     → NameWord (name b)
     → (a : A) → List·Memᴰ a (xs ++ (b ∷ [])) → NameWord (name a)
-words-more name xs b f w a m = member-cases xs m (f a) (λ e. subst (λ z. NameWord (name z)) (sym e) w)
+words-more name xs b f w a m = in-or-last xs m (f a) (λ e. subst (λ z. NameWord (name z)) (sym e) w)
 
 -- A name that was read.
 atom-word : (x : Sexp) {name : Name} → WordsIn x → Rulebook.atomDue x ≡ ok name → Word name

@@ -4,11 +4,11 @@ use mathlib.Core.Path.{_≡_, refl, sym, ap, _∙_}
 use mathlib.Core.List.{List, [], _∷_, _++_, append-nil, append-assoc}
 use mathlib.Core.Option.{some}
 use Rattle.horn.specs.Utf8.{Char, char, within, sequences, startedBy, resumed, decoded}
-use Rattle.horn.specs.Tokens.{Stream, end, _▹_, before, lines, characters, kind, white, whiteRanges, inSome, ordinary}
+use Rattle.horn.specs.Tokens.{Stream, end, _▹_, before, kind, white, whiteRanges, inSome, ordinary}
 use Rattle.horn.specs.Tokens.{Token, opening, closing, atom, between, inAtom, begins, continues, move, unended, tokensFrom, tokens}
 use Rattle.horn.specs.NestedLists.{Sexp, leaf, list, Sexps, []ₛ, _∷ₛ_}
 use Rattle.horn.specs.Layout.{printed, printedAll, spaced, printedLines}
-use Rattle.horn.proofs.CompleteUtf8.{All, Proper, decoded-append}
+use Rattle.horn.proofs.CompleteUtf8.{All, decoded-append}
 use Rattle.horn.proofs.CompleteLines.{before-append, by-lines}
 
 abbrev pub Ordinary : Char → Type 0

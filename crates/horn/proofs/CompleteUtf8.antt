@@ -1,17 +1,12 @@
 -- Decoding in parts: bytes that decode, put one after the other, decode to the characters of both; each character's own
 -- bytes decode to it alone; and for a text that decodes whole it does not matter that it is read by lines.
-use Prim.Native.Nat.{ℕ, _+_, _*_, _-_, _≤_}
-use native.Mathlib.Omega.{arith}
+use Prim.Native.Nat.{ℕ, _+_, _*_, _-_}
 use mathlib.Core.Path.{_≡_, refl, sym, ap, _∙_}
-use mathlib.Core.Bool.{Bool, true, false, _&&_, true≢false}
 use mathlib.Core.List.{List, [], _∷_, _++_, append-nil, append-assoc}
 use mathlib.Core.Option.{Option, none, some, Option·map}
-use borrow.Author.Tests.{leb-true, lt-leb, eqb-true}
-use lib.Dec.{leb, eqb}
-use Rattle.horn.specs.Utf8.{Range, range, within, Sequence, sequence, tail, sequences, startedBy, Char, char, resumed, decoded}
-use Rattle.horn.specs.Tokens.{Stream, end, bad, _▹_, before, onto, lines, characters}
-use Rattle.horn.proofs.Equality.{case, both, chosen, chose-true, chose-false}
-use Rattle.horn.proofs.Inversion.{none-some, some-equal, case-option}
+use Rattle.horn.specs.Utf8.{Range, within, Sequence, sequence, sequences, startedBy, Char, char, resumed, decoded}
+use Rattle.horn.proofs.Equality.{chosen, chose-true}
+use Rattle.horn.proofs.Inversion.{none-some, some-equal}
 
 -- What a first byte begins, taken apart.
 pub started {ℓ} : {C : Type ℓ} {B : Type 0} (o : Option Sequence) {f : Range → ℕ → List Range → Option B} {z : B}
