@@ -4,7 +4,7 @@ use Prim.Native.Nat.{ℕ}
 use native.Mathlib.Omega.{arith}
 use mathlib.Core.Path.{_≡_, refl, subst}
 use mathlib.Core.List.{List, [], _∷_, List·Memᴰ, List·Memᴰ·head, List·Memᴰ·tail}
-use Rattle.horn.specs.Setting.{Setting}
+use Rattle.horn.specs.Setting.{Setting, document01}
 use Rattle.horn.specs.Names.{Name, codes}
 use Rattle.horn.specs.Rulebook.{Symbol, symbol, sort, judgment, variable, var, app, []ₚ, _∷ₚ_, Rule, rule, Theory, variablesOf, premisesOf, conclusionOf}
 use Rattle.horn.specs.StoredTerms.{Term, node, []ₜ, _∷ₜ_, Store}
@@ -16,7 +16,7 @@ use Rattle.horn.specs.Layout
 use Rattle.horn.specs.Layout.{laidOut, spread, WithinLimits, none-left, and-then, Proves}
 use Rattle.horn.proofs.Run.{release}
 use Rattle.horn.proofs.Firings.{R, G}
-use Rattle.horn.proofs.Complete.{complete}
+use Rattle.horn.proofs.Complete.{complete, complete-01}
 
 -- Limits of which each is met.
 abbrev tight : Setting
@@ -127,3 +127,29 @@ layout = refl
 pub bench : releaseCall tight 16_384 16_384 16_384 16_384 R G (laidOut goals both) ≡ report 0 2 1 4 70
 unfolding laid
 bench = complete tight 16_384 16_384 16_384 16_384 R G both (omega arith) accepted read proves within
+
+-- Under 01's limits.
+within-01 : WithinLimits document01 16_384 16_384 16_384 16_384 goals both
+unfolding laid
+within-01 =
+    record {
+      first-area = omega arith;
+      second-area = omega arith;
+      third-area = omega arith;
+      fourth-area = omega arith;
+      short = omega arith;
+      shallow = omega arith;
+      small = refl;
+    }
+
+accepted-01 : Accepted document01 R th
+unfolding release R
+accepted-01 = record { judged = refl }
+
+read-01 : ReadWithoutRefusal document01 th G goals store
+unfolding release G
+read-01 = record { short = omega arith; read = refl }
+
+pub bench-01 : releaseCall document01 16_384 16_384 16_384 16_384 R G (laidOut goals both) ≡ report 0 2 1 4 70
+unfolding laid
+bench-01 = complete-01 16_384 16_384 16_384 16_384 R G both accepted-01 read-01 proves within-01
