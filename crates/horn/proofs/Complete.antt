@@ -26,7 +26,7 @@ use Rattle.horn.proofs.SoundnessRulebook.{theory-formed}
 use Rattle.horn.proofs.CompleteItems.{asItem, topItems, items-printed}
 use Rattle.horn.proofs.CompleteTheory.{Lookups, theory-looks}
 use Rattle.horn.proofs.CompleteCount.{_⊆_, to-distinct}
-use Rattle.horn.proofs.CompleteStore.{withTerm, withAll, withAll-append, Fits, fits-none, fits-term, fits-all, stored-count}
+use Rattle.horn.proofs.CompleteStore.{at-most, withTerm, withAll, withAll-append, Fits, fits-none, fits-term, fits-all, stored-count}
 use Rattle.horn.proofs.CompleteTerms.{on-lift}
 use Rattle.horn.proofs.CompleteGoals.{Known, read-known, Apart}
 use Rattle.horn.proofs.CompleteSteps.{progress, result-back, step-back}
@@ -177,7 +177,7 @@ complete limits a b c d rulebook text {th} {goals} {store} is bound acc read p w
     (fits-all us (judgments goals) [] (fits-none us) (λ u m. in-us u (first-part (judgments goals) (map conclusion is) u m))) in
     let n : length is ≤ 2 ^ 64 = omega (arith, layout-long goals is, w .short) in
     let certificate =
-    certificate-back limits th (theory-looks rulebook e) (theory-formed rulebook e) us (w .small) goals is store p k n (w .shallow)
+    certificate-back limits th (theory-looks rulebook e) (theory-formed rulebook e) us (at-most limits us (w .few) (w .small)) goals is store p k n (w .shallow)
     (λ u m. in-us u (second-part (judgments goals) (map conclusion is) u m)) f in
     let final = ap (withAll (map conclusion is)) (k .has) ∙ sym (withAll-append (judgments goals) (map conclusion is) []) in
     let count : length (made [] is) ≡ length is = let h = made-length [] is in omega arith in

@@ -117,7 +117,8 @@ within =
       fourth-area = omega arith;
       short = omega arith;
       shallow = omega arith;
-      small = refl;
+      few = omega arith;
+      small = omega arith;
     }
 
 layout : laidOut goals both ≡ codes "(step 0 base () (hold z))\n(step 1 more (0) (hold (s z)))\n(result g 1)\n"
@@ -139,7 +140,8 @@ within-01 =
       fourth-area = omega arith;
       short = omega arith;
       shallow = omega arith;
-      small = refl;
+      few = omega arith;
+      small = omega arith;
     }
 
 accepted-01 : Accepted document01 R th

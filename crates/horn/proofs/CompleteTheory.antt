@@ -13,7 +13,7 @@ use Rattle.horn.specs.Rulebook.{Symbol, symbol, sort, judgment, Rule, ru
 use Rattle.horn.specs.Rulebook.{Keyword, sortWord, ctorWord, predWord, ruleWord, otherWord}
 use Rattle.horn.specs.Layout.{symbolName, ruleName}
 use Rattle.horn.proofs.Equality.{not-true, chosen}
-use Rattle.horn.proofs.Inversion.{not-ok, none-some, ok-equal, afterᵣ, afterNeedᵣ}
+use Rattle.horn.proofs.Inversion.{afterOne, afterTwo, afterThree, not-ok, none-some, ok-equal, afterᵣ, afterNeedᵣ}
 use Rattle.horn.proofs.SoundnessPatterns.{in-or-last}
 use Rattle.horn.proofs.CompleteTokens.{Word, WordsIn, leaf-word, list-words, AllWords, _and-words_}
 use Rattle.horn.proofs.CompleteItems.{items-words, sexps-words}
@@ -144,37 +144,18 @@ module _ (th : Theory) (l : Lookups th) where
         rule-word = words-more ruleName (th .rules) new (l .rule-word) (name-word n w e₇);
       }
 
-  one-looks : (xs : Sexps) (f : Sexp → Result Theory) {next : Theory} → AllWords xs
-      → ((x : Sexp) → WordsIn x → f x ≡ ok next → Lookups next)
-      → Rulebook.oneMember xs f ≡ ok next
-      → Lookups next
-  unfolding Rulebook.oneMember
-  one-looks []ₛ f w k e = not-ok e
-  one-looks (x ∷ₛ []ₛ) f (w and-words ws) k e = k x w e
-  one-looks (x ∷ₛ y ∷ₛ xs) f w k e = not-ok e
-
-  two-looks : (xs : Sexps) (f : Sexp → Sexp → Result Theory) {next : Theory} → AllWords xs
-      → ((x y : Sexp) → WordsIn x → f x y ≡ ok next → Lookups next)
-      → Rulebook.twoMembers xs f ≡ ok next
-      → Lookups next
-  unfolding Rulebook.twoMembers
-  two-looks []ₛ f w k e = not-ok e
-  two-looks (x ∷ₛ xs) f (w and-words ws) k e = one-looks xs (f x) ws (λ y v. k x y w) e
-
-  three-looks : (xs : Sexps) (f : Sexp → Sexp → Sexp → Result Theory) {next : Theory} → AllWords xs
-      → ((x y z : Sexp) → WordsIn x → f x y z ≡ ok next → Lookups next)
-      → Rulebook.threeMembers xs f ≡ ok next
-      → Lookups next
-  unfolding Rulebook.threeMembers
-  three-looks []ₛ f w k e = not-ok e
-  three-looks (x ∷ₛ xs) f (w and-words ws) k e = two-looks xs (f x) ws (λ y z v. k x y z w) e
+  first-words : {x : Sexp} {xs ys : Sexps} → AllWords ys → ys ≡ x ∷ₛ xs → WordsIn x
+  first-words {x} {xs} w p = go (subst AllWords p w)
+    where
+      go : AllWords (x ∷ₛ xs) → WordsIn x
+      go (v and-words vs) = v
 
   declare-looks : (k : Keyword) (xs : Sexps) {next : Theory} → AllWords xs → Rulebook.declare th k xs ≡ ok next → Lookups next
   unfolding Rulebook.declare
-  declare-looks sortWord xs w e = one-looks xs _ w (λ x v e₁. sort-looks x e₁) e
-  declare-looks ctorWord xs w e = three-looks xs _ w (λ x y z v e₁. constructor-looks x y z v e₁) e
-  declare-looks predWord xs w e = two-looks xs _ w (λ x y v e₁. predicate-looks x y v e₁) e
-  declare-looks ruleWord xs w e = three-looks xs _ w (λ x y z v e₁. rule-looks x y z v e₁) e
+  declare-looks sortWord xs w e = afterOne xs _ e λ x _ e₁. sort-looks x e₁
+  declare-looks ctorWord xs w e = afterThree xs _ e λ x y z p e₁. constructor-looks x y z (first-words w p) e₁
+  declare-looks predWord xs w e = afterTwo xs _ e λ x y p e₁. predicate-looks x y (first-words w p) e₁
+  declare-looks ruleWord xs w e = afterThree xs _ e λ x y z p e₁. rule-looks x y z (first-words w p) e₁
   declare-looks otherWord xs w e = not-ok e
 
   headed-looks : (xs : Sexps) {next : Theory} → AllWords xs → Rulebook.headed th xs ≡ ok next → Lookups next
