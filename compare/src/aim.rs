@@ -5,7 +5,8 @@ use crate::draft::{BAD, C, Draft, G, NO_NUMBERS, NUMBERS, R};
 use crate::random::Random;
 use crate::tree::{self, Path, Tree, atom, list};
 
-pub const AIMS: &[u8] = &[3, 4, 5, 6, 7, 8, 9, 10, 11, 12, 13, 14, 15, 16, 17, 18, 19, 20, 21, 22, 23, 24, 25, 26, 27, 29];
+pub const AIMS: &[u8] =
+    &[3, 4, 5, 6, 7, 8, 9, 10, 11, 12, 13, 14, 15, 16, 17, 18, 19, 20, 21, 22, 23, 24, 25, 26, 27, 29];
 
 fn any<T: Clone>(rng: &mut Random, xs: &[T]) -> Option<T> {
     (!xs.is_empty()).then(|| rng.pick(xs).clone())
@@ -162,9 +163,37 @@ fn form(d: &mut Draft, rng: &mut Random) -> Option<()> {
             xs.pop();
         }
         1 if which == R => xs.push(atom("t")),
-        _ => xs[0] = atom(rng.pick(&["gaol", "sort", "ctor", "pred", "rule", "goal", "step", "def", "result", "Step", "?", "goals", "\u{feff}sort"])),
+        _ => {
+            xs[0] = atom(rng.pick(&[
+                "gaol",
+                "sort",
+                "ctor",
+                "pred",
+                "rule",
+                "goal",
+                "step",
+                "def",
+                "result",
+                "Step",
+                "?",
+                "goals",
+                "\u{feff}sort",
+            ]))
+        }
     }
     Some(())
+}
+
+/// An abbreviation of the certificate, put there where it has none.
+fn abbreviation(d: &mut Draft, rng: &mut Random) -> Option<usize> {
+    if let Some(i) = any(rng, &d.certificate("def")) {
+        return Some(i);
+    }
+    let sort = rng.below(d.book.sorts.len());
+    let term = crate::aim_steps::ground(d, rng, sort)?;
+    let at = rng.below(d.forms[C].len() + 1);
+    d.forms[C].insert(at, list([atom("def"), atom("?a"), term]));
+    Some(at)
 }
 
 fn excess(d: &mut Draft, rng: &mut Random) -> Option<()> {
@@ -172,7 +201,7 @@ fn excess(d: &mut Draft, rng: &mut Random) -> Option<()> {
     let (which, path) = match rng.below(4) {
         0 => (G, vec![rng.below(d.forms[G].len())]),
         1 => (C, any(rng, &d.bindings())?),
-        2 => (C, vec![any(rng, &d.certificate("def"))?]),
+        2 => (C, vec![abbreviation(d, rng)?]),
         _ => (C, vec![any(rng, &d.certificate("result"))?]),
     };
     d.at(which, &path).members_mut()?.push(extra);
@@ -180,7 +209,7 @@ fn excess(d: &mut Draft, rng: &mut Random) -> Option<()> {
 }
 
 fn question(d: &mut Draft, rng: &mut Random) -> Option<()> {
-    let (which, path) = match rng.below(8) {
+    let (which, path) = match rng.below(9) {
         0..3 => (R, vec![rng.below(d.forms[R].len()), 1]),
         3 => {
             // A sort where it is used: inputs or output.
@@ -199,7 +228,7 @@ fn question(d: &mut Draft, rng: &mut Random) -> Option<()> {
         }
         5 | 6 => (G, vec![rng.below(d.forms[G].len()), 1]),
         _ => {
-            let path = vec![any(rng, &d.certificate("def"))?, 1];
+            let path = vec![abbreviation(d, rng)?, 1];
             *d.at(C, &path) = atom(rng.pick(&["?", "a", "a?", "\u{feff}?a"]));
             return Some(());
         }
@@ -267,7 +296,7 @@ fn unknown(d: &mut Draft, rng: &mut Random) -> Option<()> {
 fn duplicate(d: &mut Draft, rng: &mut Random) -> Option<()> {
     let which = rng.below(3);
     let i = match which {
-        C => any(rng, &d.certificate("def"))?,
+        C => abbreviation(d, rng)?,
         _ => rng.below(d.forms[which].len()),
     };
     let forms = &mut d.forms[which];
@@ -287,14 +316,12 @@ fn two_sorts(d: &mut Draft, rng: &mut Random) -> Option<()> {
     places.retain(|&(_, _, t)| t != s);
     let (q, j, _) = any(rng, &places)?;
     let fill = |p: usize, tag: &str, places: &[usize]| {
-        let args = (0..d.book.preds[p].inputs.len()).map(|k| if places.contains(&k) { atom("?x") } else { atom(format!("?{tag}{k}")) });
+        let args = (0..d.book.preds[p].inputs.len())
+            .map(|k| if places.contains(&k) { atom("?x") } else { atom(format!("?{tag}{k}")) });
         list(std::iter::once(atom(&d.book.preds[p].name)).chain(args.collect::<Vec<_>>()))
     };
-    let (premises, conclusion) = if p == q {
-        (list([]), fill(p, "a", &[i, j]))
-    } else {
-        (list([fill(p, "a", &[i])]), fill(q, "b", &[j]))
-    };
+    let (premises, conclusion) =
+        if p == q { (list([]), fill(p, "a", &[i, j])) } else { (list([fill(p, "a", &[i])]), fill(q, "b", &[j])) };
     let rule = list([atom("rule"), atom("clash"), premises, conclusion]);
     // Behind the predicates, which come before the first rule.
     let first = d.forms[R].iter().position(|f| f.form("rule")).unwrap_or(d.forms[R].len());

@@ -10,7 +10,8 @@ fn any<T: Clone>(rng: &mut Random, xs: &[T]) -> Option<T> {
 pub fn aim(number: u8, d: &mut Draft, rng: &mut Random) -> Option<()> {
     let steps = d.certificate("step");
     let [own, refs, results] = d.indices();
-    let good = |rng: &mut Random, n: usize| atom(if rng.chance(50) { rng.pick(NUMBERS).to_string() } else { n.to_string() });
+    let good =
+        |rng: &mut Random, n: usize| atom(if rng.chance(50) { rng.pick(NUMBERS).to_string() } else { n.to_string() });
     match number {
         18 => {
             let path = any(rng, &[own, refs, results].concat())?;
@@ -38,16 +39,18 @@ pub fn aim(number: u8, d: &mut Draft, rng: &mut Random) -> Option<()> {
             let n = steps.len() + rng.below(3);
             *d.at(C, &path) = good(rng, n);
         }
-        25 if refs.is_empty() || rng.chance(20) => {
+        25 if rng.chance(20) => {
             let path: Path = any(rng, &d.bindings())?;
             let v = d.at(C, &path).members()[0].clone();
             let value = value(d, rng, &v)?;
             d.at(C, &path).members_mut()?[1] = value;
         }
         25 => {
-            let path = any(rng, &refs)?;
-            let n = rng.below(steps.len());
-            *d.at(C, &path) = atom(n.to_string());
+            // Another step before this one.
+            let late: Vec<Path> = refs.into_iter().filter(|p| steps.len() > 1 && p[0] > steps[1]).collect();
+            let path = any(rng, &late)?;
+            let before = steps.iter().filter(|&&i| i < path[0]).count();
+            *d.at(C, &path) = atom(rng.below(before).to_string());
         }
         26 => {
             let i = any(rng, &steps)?;
@@ -59,8 +62,11 @@ pub fn aim(number: u8, d: &mut Draft, rng: &mut Random) -> Option<()> {
         }
         27 => {
             let path = any(rng, &results)?;
-            let n = rng.below(steps.len());
-            *d.at(C, &path) = atom(n.to_string());
+            let before = steps.iter().filter(|&&i| i < path[0]).count();
+            if before < 2 {
+                return None;
+            }
+            *d.at(C, &path) = atom(rng.below(before).to_string());
         }
         29 => {
             let forms = &mut d.forms[C];
@@ -85,7 +91,7 @@ fn value(d: &Draft, rng: &mut Random, variable: &Tree) -> Option<Tree> {
     ground(d, rng, sort)
 }
 
-fn ground(d: &Draft, rng: &mut Random, sort: usize) -> Option<Tree> {
+pub fn ground(d: &Draft, rng: &mut Random, sort: usize) -> Option<Tree> {
     fn tree(d: &Draft, t: &crate::rulebook::Term) -> Tree {
         let head = atom(&d.book.ctors[t.head].name);
         if t.args.is_empty() {

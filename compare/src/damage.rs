@@ -58,7 +58,7 @@ fn forms(d: &mut Draft, rng: &mut Random) -> &'static str {
         }
         3 | 4 => {
             // One argument more or fewer anywhere.
-            let lists: Vec<_> = tree::nodes(all).into_iter().filter(|p| !tree::at(&mut all.clone(), p).is_atom()).collect();
+            let lists: Vec<_> = tree::nodes(all).into_iter().filter(|p| !tree::get(all, p).is_atom()).collect();
             if lists.is_empty() {
                 return "nothing";
             }
@@ -100,10 +100,10 @@ fn forms(d: &mut Draft, rng: &mut Random) -> &'static str {
     }
 }
 
-fn in_tokens(tokens: &mut Vec<Token>, d: &Draft, which: usize, rng: &mut Random) -> String {
+fn in_tokens(tokens: &mut Vec<Token>, d: &Draft, which: usize, rng: &mut Random) -> &'static str {
     if tokens.is_empty() {
         tokens.push(b"(".to_vec());
-        return "token-added".into();
+        return "token-added";
     }
     let i = rng.below(tokens.len());
     let kind = match rng.below(8) {
@@ -155,10 +155,10 @@ fn in_tokens(tokens: &mut Vec<Token>, d: &Draft, which: usize, rng: &mut Random)
             "atom-changed"
         }
     };
-    kind.into()
+    kind
 }
 
-fn in_bytes(text: &mut Vec<u8>, which: usize, rng: &mut Random) -> String {
+fn in_bytes(text: &mut Vec<u8>, which: usize, rng: &mut Random) -> &'static str {
     let at = rng.below(text.len() + 1);
     let kind = match rng.below(8) {
         0 | 1 if at < text.len() => {
@@ -194,5 +194,5 @@ fn in_bytes(text: &mut Vec<u8>, which: usize, rng: &mut Random) -> String {
     if which != C && rng.chance(70) {
         *text = String::from_utf8_lossy(text).into_owned().into_bytes();
     }
-    kind.into()
+    kind
 }

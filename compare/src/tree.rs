@@ -60,6 +60,10 @@ pub fn at<'a>(forms: &'a mut [Tree], path: &[usize]) -> &'a mut Tree {
     tree
 }
 
+pub fn get<'a>(forms: &'a [Tree], path: &[usize]) -> &'a Tree {
+    path[1..].iter().fold(&forms[path[0]], |tree, &i| &tree.members()[i])
+}
+
 /// Paths of every node, forms included.
 pub fn nodes(forms: &[Tree]) -> Vec<Path> {
     fn walk(tree: &Tree, path: &mut Path, out: &mut Vec<Path>) {
@@ -118,9 +122,9 @@ pub fn style(rng: &mut Random) -> Style {
 }
 
 pub const WHITE: &[&str] = &[
-    "\t", "\n", "\u{b}", "\u{c}", "\r", " ", "\u{85}", "\u{a0}", "\u{1680}", "\u{2000}", "\u{2001}", "\u{2002}", "\u{2003}",
-    "\u{2004}", "\u{2005}", "\u{2006}", "\u{2007}", "\u{2008}", "\u{2009}", "\u{200a}", "\u{2028}", "\u{2029}", "\u{202f}",
-    "\u{205f}", "\u{3000}",
+    "\t", "\n", "\u{b}", "\u{c}", "\r", " ", "\u{85}", "\u{a0}", "\u{1680}", "\u{2000}", "\u{2001}", "\u{2002}",
+    "\u{2003}", "\u{2004}", "\u{2005}", "\u{2006}", "\u{2007}", "\u{2008}", "\u{2009}", "\u{200a}", "\u{2028}",
+    "\u{2029}", "\u{202f}", "\u{205f}", "\u{3000}",
 ];
 
 fn comment(rng: &mut Random, out: &mut Vec<u8>) {

@@ -1,4 +1,4 @@
--- The two calls with all that they compute by, so that an example is proved by `unfolding release` and `refl`.
+-- The two calls with all that they compute by: an example is proved by `unfolding release` and `refl`.
 use Prim.Native.Nat.{ℕ}
 use mathlib.Core.List.{List}
 use Rattle.horn.specs.Refusals
@@ -16,6 +16,55 @@ use Rattle.horn.specs.Calls
 use Rattle.horn.specs.Setting.{Setting, document01}
 use Rattle.horn.specs.Calls.{Report, RulebookReport, rulebookCall, releaseCall}
 
+-- To unfold one of these is to unfold the definitions of the module that it is named after.
+unfoldable pub openRefusals : Unit {0}
+unfolding Refusals.number Refusals._>>=_ Refusals.need Refusals.found
+openRefusals = tt
+
+unfoldable pub openSetting : Unit {0}
+unfolding Setting.document01
+openSetting = tt
+
+unfoldable pub openUtf8 : Unit {0}
+unfolding Utf8.within Utf8.tail Utf8.sequences Utf8.startedBy Utf8.resumed Utf8.decoded
+openUtf8 = tt
+
+unfoldable pub openTokens : Unit {0}
+unfolding Tokens.before Tokens.onto Tokens.lines Tokens.characters Tokens.whiteRanges Tokens.inSome Tokens.white Tokens.kind Tokens.begins Tokens.continues Tokens.move Tokens.unended Tokens.tokensFrom Tokens.tokens
+openTokens = tt
+
+unfoldable pub openNestedLists : Unit {0}
+unfolding NestedLists.innermost NestedLists.outer NestedLists.add NestedLists.around NestedLists.items NestedLists.askedAt NestedLists.absent NestedLists.sexps NestedLists.sexp
+openNestedLists = tt
+
+unfoldable pub openNames : Unit {0}
+unfolding Names.sameList Names.named Names.codes Names.questioned Names.bare Names.first Names.some-of
+openNames = tt
+
+unfoldable pub openRulebook : Unit {0}
+unfolding Rulebook.sameOutput Rulebook.sameSymbol Rulebook.inputs Rulebook.output Rulebook.sortOf Rulebook.variablesOf Rulebook.premisesOf Rulebook.conclusionOf Rulebook.isConstructor Rulebook.isPredicate Rulebook.isRule Rulebook.isVariable Rulebook.constructor Rulebook.predicate Rulebook.ruleNamed Rulebook.atomDue Rulebook.listDue Rulebook.declaredName Rulebook.sortNamed Rulebook.sortsNamed Rulebook.count Rulebook.fits Rulebook.schematic Rulebook.constant Rulebook.isEmpty Rulebook.judgmentOf Rulebook.judgmentPattern Rulebook.judgmentPatterns Rulebook.declareSort Rulebook.withSymbol Rulebook.declareConstructor Rulebook.declarePredicate Rulebook.declareRule Rulebook.oneMember Rulebook.twoMembers Rulebook.threeMembers Rulebook.keyword Rulebook.declare Rulebook.headed Rulebook.declaration Rulebook.declarations Rulebook.emptyTheory Rulebook.theory Rulebook.pattern
+openRulebook = tt
+
+unfoldable pub openStoredTerms : Unit {0}
+unfolding StoredTerms.width StoredTerms.nodeSize StoredTerms.size StoredTerms.holds StoredTerms.withinLimits StoredTerms.intern StoredTerms.sameTerm
+openStoredTerms = tt
+
+unfoldable pub openChecker : Unit {0}
+unfolding Checker._>>=_ Checker.give Checker.lift Checker.wordDue Checker.groupDue Checker.ask Checker.askWord Checker.askGroup Checker.closingDue Checker.decimal Checker.digits Checker.numeral Checker.numberDue Checker.askNumber Checker.isDef Checker.meaning Checker.goalJudgment Checker.isGoal Checker.hasSort Checker.accepts Checker.isNil Checker.isEmptyList Checker.stored Checker.make Checker.atomTerm Checker.askTerm Checker.headedJudgment Checker.askJudgment Checker.goalForm Checker.goalForms Checker.goalsOf Checker.term
+openChecker = tt
+
+unfoldable pub openMatching : Unit {0}
+unfolding Matching.judgmentOf Matching.lookup Matching.matchVar Matching.matchPremises Matching.match Matching.build
+openMatching = tt
+
+unfoldable pub openCertificate : Unit {0}
+unfolding Certificate.references Certificate.isBound Certificate.isStated Certificate.without Certificate.keyword Certificate.defForm Certificate.resultForm Certificate.bindingItem Certificate.conclusionItem Certificate.stepItem Certificate.stepItems Certificate.conclude Certificate.stepForm Certificate.headedForm Certificate.certificateForm Certificate.certificateForms Certificate.certificateOf
+openCertificate = tt
+
+unfoldable pub openCalls : Unit {0}
+unfolding Calls.constructorCount Calls.predicateCount Calls.areasLong Calls.rulebookJudged Calls.releaseJudged Calls.rulebookAnswer Calls.releaseAnswer Calls.rulebookCall Calls.releaseCall Calls.areaAfter
+openCalls = tt
+
 -- 01's limits, but for those of the store.
 unfoldable pub storeOf : ℕ → ℕ → Setting
 storeOf nodes words =
@@ -29,10 +78,20 @@ storeOf nodes words =
       nodeWords = words;
     }
 
+-- The call with three texts, on areas of some lengths, and on areas just long enough.
+unfoldable pub releaseOn : ℕ → ℕ → ℕ → ℕ → ℕ → ℕ → List ℕ → List ℕ → List ℕ → Report
+unfolding storeOf openRefusals openSetting openUtf8 openTokens openNestedLists openNames openRulebook openStoredTerms openChecker openMatching openCertificate openCalls
+releaseOn a b c d nodes words rulebook goals certificate = releaseCall (storeOf nodes words) a b c d rulebook goals certificate
+
 unfoldable pub release : ℕ → ℕ → List ℕ → List ℕ → List ℕ → Report
-unfolding storeOf Refusals.number Refusals._>>=_ Refusals.need Refusals.found Setting.document01 Utf8.within Utf8.tail Utf8.sequences Utf8.startedBy Utf8.resumed Utf8.decoded Tokens.before Tokens.onto Tokens.lines Tokens.characters Tokens.whiteRanges Tokens.inSome Tokens.white Tokens.kind Tokens.begins Tokens.continues Tokens.move Tokens.unended Tokens.tokensFrom Tokens.tokens NestedLists.innermost NestedLists.outer NestedLists.add NestedLists.around NestedLists.items NestedLists.askedAt NestedLists.absent NestedLists.sexps NestedLists.sexp Names.sameList Names.named Names.codes Names.questioned Names.bare Names.first Names.some-of Rulebook.sameOutput Rulebook.sameSymbol Rulebook.inputs Rulebook.output Rulebook.sortOf Rulebook.variablesOf Rulebook.premisesOf Rulebook.conclusionOf Rulebook.isConstructor Rulebook.isPredicate Rulebook.isRule Rulebook.isVariable Rulebook.constructor Rulebook.predicate Rulebook.ruleNamed Rulebook.atomDue Rulebook.listDue Rulebook.declaredName Rulebook.sortNamed Rulebook.sortsNamed Rulebook.count Rulebook.fits Rulebook.schematic Rulebook.constant Rulebook.isEmpty Rulebook.judgmentOf Rulebook.judgmentPattern Rulebook.judgmentPatterns Rulebook.declareSort Rulebook.withSymbol Rulebook.declareConstructor Rulebook.declarePredicate Rulebook.declareRule Rulebook.oneMember Rulebook.twoMembers Rulebook.threeMembers Rulebook.keyword Rulebook.declare Rulebook.headed Rulebook.declaration Rulebook.declarations Rulebook.emptyTheory Rulebook.theory Rulebook.pattern StoredTerms.width StoredTerms.nodeSize StoredTerms.size StoredTerms.holds StoredTerms.withinLimits StoredTerms.intern StoredTerms.sameTerm Checker._>>=_ Checker.give Checker.lift Checker.wordDue Checker.groupDue Checker.ask Checker.askWord Checker.askGroup Checker.closingDue Checker.decimal Checker.digits Checker.numeral Checker.numberDue Checker.askNumber Checker.isDef Checker.meaning Checker.goalJudgment Checker.isGoal Checker.hasSort Checker.accepts Checker.isNil Checker.isEmptyList Checker.stored Checker.make Checker.atomTerm Checker.askTerm Checker.headedJudgment Checker.askJudgment Checker.goalForm Checker.goalForms Checker.goalsOf Checker.term Matching.judgmentOf Matching.lookup Matching.matchVar Matching.matchPremises Matching.match Matching.build Certificate.references Certificate.isBound Certificate.isStated Certificate.without Certificate.keyword Certificate.defForm Certificate.resultForm Certificate.bindingItem Certificate.conclusionItem Certificate.stepItem Certificate.stepItems Certificate.conclude Certificate.stepForm Certificate.headedForm Certificate.certificateForm Certificate.certificateForms Certificate.certificateOf Calls.constructorCount Calls.predicateCount Calls.areasLong Calls.rulebookJudged Calls.releaseJudged Calls.rulebookAnswer Calls.releaseAnswer Calls.rulebookCall Calls.releaseCall Calls.areaAfter
-release nodes words rulebook goals certificate = releaseCall (storeOf nodes words) 16_384 16_384 16_384 16_384 rulebook goals certificate
+unfolding releaseOn
+release = releaseOn 16_384 16_384 16_384 16_384
+
+-- The same for the call with the rulebook alone.
+unfoldable pub rulebookOn : ℕ → ℕ → ℕ → ℕ → List ℕ → RulebookReport
+unfolding openRefusals openSetting openUtf8 openTokens openNestedLists openNames openRulebook openStoredTerms openChecker openMatching openCertificate openCalls
+rulebookOn a b c d text = rulebookCall document01 a b c d text
 
 unfoldable pub rulebook : List ℕ → RulebookReport
-unfolding Refusals.number Refusals._>>=_ Refusals.need Refusals.found Setting.document01 Utf8.within Utf8.tail Utf8.sequences Utf8.startedBy Utf8.resumed Utf8.decoded Tokens.before Tokens.onto Tokens.lines Tokens.characters Tokens.whiteRanges Tokens.inSome Tokens.white Tokens.kind Tokens.begins Tokens.continues Tokens.move Tokens.unended Tokens.tokensFrom Tokens.tokens NestedLists.innermost NestedLists.outer NestedLists.add NestedLists.around NestedLists.items NestedLists.askedAt NestedLists.absent NestedLists.sexps NestedLists.sexp Names.sameList Names.named Names.codes Names.questioned Names.bare Names.first Names.some-of Rulebook.sameOutput Rulebook.sameSymbol Rulebook.inputs Rulebook.output Rulebook.sortOf Rulebook.variablesOf Rulebook.premisesOf Rulebook.conclusionOf Rulebook.isConstructor Rulebook.isPredicate Rulebook.isRule Rulebook.isVariable Rulebook.constructor Rulebook.predicate Rulebook.ruleNamed Rulebook.atomDue Rulebook.listDue Rulebook.declaredName Rulebook.sortNamed Rulebook.sortsNamed Rulebook.count Rulebook.fits Rulebook.schematic Rulebook.constant Rulebook.isEmpty Rulebook.judgmentOf Rulebook.judgmentPattern Rulebook.judgmentPatterns Rulebook.declareSort Rulebook.withSymbol Rulebook.declareConstructor Rulebook.declarePredicate Rulebook.declareRule Rulebook.oneMember Rulebook.twoMembers Rulebook.threeMembers Rulebook.keyword Rulebook.declare Rulebook.headed Rulebook.declaration Rulebook.declarations Rulebook.emptyTheory Rulebook.theory Rulebook.pattern StoredTerms.width StoredTerms.nodeSize StoredTerms.size StoredTerms.holds StoredTerms.withinLimits StoredTerms.intern StoredTerms.sameTerm Checker._>>=_ Checker.give Checker.lift Checker.wordDue Checker.groupDue Checker.ask Checker.askWord Checker.askGroup Checker.closingDue Checker.decimal Checker.digits Checker.numeral Checker.numberDue Checker.askNumber Checker.isDef Checker.meaning Checker.goalJudgment Checker.isGoal Checker.hasSort Checker.accepts Checker.isNil Checker.isEmptyList Checker.stored Checker.make Checker.atomTerm Checker.askTerm Checker.headedJudgment Checker.askJudgment Checker.goalForm Checker.goalForms Checker.goalsOf Checker.term Matching.judgmentOf Matching.lookup Matching.matchVar Matching.matchPremises Matching.match Matching.build Certificate.references Certificate.isBound Certificate.isStated Certificate.without Certificate.keyword Certificate.defForm Certificate.resultForm Certificate.bindingItem Certificate.conclusionItem Certificate.stepItem Certificate.stepItems Certificate.conclude Certificate.stepForm Certificate.headedForm Certificate.certificateForm Certificate.certificateForms Certificate.certificateOf Calls.constructorCount Calls.predicateCount Calls.areasLong Calls.rulebookJudged Calls.releaseJudged Calls.rulebookAnswer Calls.releaseAnswer Calls.rulebookCall Calls.releaseCall Calls.areaAfter
-rulebook text = rulebookCall document01 16_384 16_384 16_384 16_384 text
+unfolding rulebookOn
+rulebook = rulebookOn 16_384 16_384 16_384 16_384

@@ -18,6 +18,7 @@ pub record RulebookReport : Type 0 where
   pub predicates : ℕ
   pub rules : ℕ
 
+-- A report by its values.
 abbrev pub rulebookReport : ℕ → ℕ → ℕ → ℕ → ℕ → RulebookReport
 rulebookReport n s c p r = record { number = n; sorts = s; constructors = c; predicates = p; rules = r }
 
@@ -29,14 +30,17 @@ pub record Report : Type 0 where
   pub terms : ℕ
   pub bytes : ℕ
 
+-- A report by its values.
 abbrev pub report : ℕ → ℕ → ℕ → ℕ → ℕ → Report
 report n s g t b = record { number = n; steps = s; goals = g; terms = t; bytes = b }
 
+-- How many symbols are constructors,
 unfoldable pub constructorCount : List Symbol → ℕ
 constructorCount [] = zero
 constructorCount (symbol name ins (sort s) ∷ rest) = suc (constructorCount rest)
 constructorCount (symbol name ins judgment ∷ rest) = constructorCount rest
 
+-- and how many are predicates.
 unfoldable pub predicateCount : List Symbol → ℕ
 predicateCount [] = zero
 predicateCount (symbol name ins (sort s) ∷ rest) = predicateCount rest
@@ -77,6 +81,7 @@ rulebookAnswer (refused r) = rulebookReport (number r) 0 0 0 0
 rulebookAnswer (ok th) =
     rulebookReport 0 (length (th .sorts)) (constructorCount (th .symbols)) (predicateCount (th .symbols)) (length (th .rules))
 
+-- The same for the call with three texts.
 unfoldable pub releaseAnswer : Result Report → Report
 releaseAnswer (refused r) = report (number r) 0 0 0 0
 releaseAnswer (ok accepted) = accepted
@@ -85,6 +90,7 @@ releaseAnswer (ok accepted) = accepted
 unfoldable pub rulebookCall : Setting → ℕ → ℕ → ℕ → ℕ → List ℕ → RulebookReport
 rulebookCall limits a b c d rulebook = rulebookAnswer (rulebookJudged limits a b c d rulebook)
 
+-- The call with three texts.
 unfoldable pub releaseCall : Setting → ℕ → ℕ → ℕ → ℕ → List ℕ → List ℕ → List ℕ → Report
 releaseCall limits a b c d rulebook goals certificate =
     releaseAnswer (releaseJudged limits a b c d rulebook goals certificate)

@@ -39,9 +39,11 @@ references (item then rest) =
     references rest >>=ᵣ λ ns.
     ok (n ∷ ns)
 
+-- "Bound already".
 unfoldable pub isBound : Name → List Bind → Bool
 isBound name binds = elim (lookup name binds) [ none ↦ false | some t ↦ true ]
 
+-- Whether a conclusion was stated.
 unfoldable pub isStated : Option Term → Bool
 isStated none = false
 isStated (some j) = true
@@ -51,9 +53,11 @@ unfoldable pub without : Name → List Goal → List Goal
 without name [] = []
 without name (g ∷ gs) = elim (isGoal name g) [ true ↦ without name gs | false ↦ g ∷ without name gs ]
 
+-- The three forms by their heads,
 pub data Keyword : Type 0 where
   stepWord resultWord defWord otherWord : Keyword
 
+-- and which of them a name is.
 unfoldable pub keyword : Name → Keyword
 keyword name =
     elim (named name (codes "step")) [
@@ -112,6 +116,7 @@ module _ (limits : Setting) (th : Theory) where
       | false ↦ conclusionItem defs name is so-far
     ]
 
+  -- "Item...", asked for until a closing is next.
   unfoldable pub stepItems : List Def → Rule → Items → Given → Reading Given
   stepItems defs r closed so-far = give so-far
   stepItems defs r badLine so-far = lift (refused notUtf8)
@@ -154,12 +159,14 @@ module _ (limits : Setting) (th : Theory) where
   headedForm defWord now is = defForm now is
   headedForm otherWord now is = lift (refused form)
 
+  -- One form: its opening, its head, its members.
   unfoldable pub certificateForm : Progress → Item → Reading Progress
   certificateForm now item = do
     inner ← lift (groupDue item)
     (head, is) ← lift (askWord 1 inner)
     headedForm (keyword head) now is
 
+  -- All forms, in order.
   unfoldable pub certificateForms : Progress → Items → Reading Progress
   certificateForms now ended = give now
   certificateForms now badLine = lift (refused notUtf8)

@@ -19,13 +19,16 @@ use Rattle.horn.specs.StoredTerms.{Term, node, Terms, []ₜ, _∷ₜ_, S
 abbrev pub Reading : Type 0 → Type 0
 Reading A = Store → Result (A × Store)
 
+-- One reading after another.
 infixl 10 _>>=_
 unfoldable pub _>>=_ : {A B : Type 0} → Reading A → (A → Reading B) → Reading B
 (m >>= f) store = m store >>=ᵣ λ p. f (p .0) (p .1)
 
+-- A value that is there without reading.
 unfoldable pub give : {A : Type 0} → A → Reading A
 give a store = ok (a, store)
 
+-- What does not touch the store.
 unfoldable pub lift : {A : Type 0} → Result A → Reading A
 lift r store = r >>=ᵣ λ a. ok (a, store)
 
@@ -34,6 +37,7 @@ unfoldable pub wordDue : Item → Result Name
 wordDue (word name) = ok name
 wordDue (group inner) = refused atomOrList
 
+-- The reverse.
 unfoldable pub groupDue : Item → Result Items
 groupDue (word name) = refused atomOrList
 groupDue (group inner) = ok inner
@@ -45,9 +49,11 @@ ask depth ended = absent depth textEnds
 ask depth badLine = absent depth notUtf8
 ask depth (item then rest) = askedAt depth >>=ᵣ λ _. ok (item, rest)
 
+-- The next item, where an atom is due.
 unfoldable pub askWord : ℕ → Items → Result (Name × Items)
 askWord depth is = ask depth is >>=ᵣ λ p. wordDue (p .0) >>=ᵣ λ name. ok (name, p .1)
 
+-- The next item, where a list is due.
 unfoldable pub askGroup : ℕ → Items → Result (Items × Items)
 askGroup depth is = ask depth is >>=ᵣ λ p. groupDue (p .0) >>=ᵣ λ inner. ok (inner, p .1)
 
@@ -63,17 +69,21 @@ unfoldable pub decimal : ℕ → Name → Option ℕ
 decimal n [] = elim (ltb n (2 ^ 64)) [ true ↦ some n | false ↦ none ]
 decimal n (b ∷ bs) = elim (within (range 0x30 0x39) b) [ true ↦ decimal (n * 10 + (b - 0x30)) bs | false ↦ none ]
 
+-- "One or more ASCII digits".
 unfoldable pub digits : Name → Option ℕ
 digits [] = none
 digits (b ∷ bs) = decimal 0 (b ∷ bs)
 
+-- "An optional `+`".
 unfoldable pub numeral : Name → Option ℕ
 numeral [] = none
 numeral (b ∷ bs) = elim (eqb b 0x2B) [ true ↦ digits bs | false ↦ digits (b ∷ bs) ]
 
+-- "I as a number, 18".
 unfoldable pub numberDue : Item → Result ℕ
 numberDue item = wordDue item >>=ᵣ λ name. found (numeral name) notNumber
 
+-- The next item, where a number is due.
 unfoldable pub askNumber : ℕ → Items → Result (ℕ × Items)
 askNumber depth is = ask depth is >>=ᵣ λ p. numberDue (p .0) >>=ᵣ λ n. ok (n, p .1)
 
@@ -84,15 +94,19 @@ pub data Def : Type 0 where
 pub data Goal : Type 0 where
   goal : Name → Term → Goal
 
+-- Whether an abbreviation has a name.
 unfoldable pub isDef : Name → Def → Bool
 isDef name (def n t) = named name n
 
+-- What an abbreviation stands for.
 unfoldable pub meaning : Def → Term
 meaning (def n t) = t
 
+-- "A goal's judgment is the J of its form."
 unfoldable pub goalJudgment : Goal → Term
 goalJudgment (goal name j) = j
 
+-- Whether a goal has a name.
 unfoldable pub isGoal : Name → Goal → Bool
 isGoal name (goal n j) = named name n
 
@@ -100,16 +114,19 @@ isGoal name (goal n j) = named name n
 unfoldable pub hasSort : Name → Term → Bool
 hasSort s (node c ts) = sameOutput (output c) (sort s)
 
+-- "Arity and sorts": as many terms as inputs, each of its input's sort.
 unfoldable pub accepts : List Name → Terms → Bool
 accepts [] []ₜ = true
 accepts [] (t ∷ₜ ts) = false
 accepts (s ∷ ss) []ₜ = false
 accepts (s ∷ ss) (t ∷ₜ ts) = hasSort s t && accepts ss ts
 
+-- Whether there is no argument.
 unfoldable pub isNil : Terms → Bool
 isNil []ₜ = true
 isNil (t ∷ₜ ts) = false
 
+-- Whether a table is empty.
 unfoldable pub isEmptyList : {A : Type 0} → List A → Bool
 isEmptyList [] = true
 isEmptyList (a ∷ as′) = false
@@ -153,6 +170,7 @@ module _ (limits : Setting) (th : Theory) where
       _ ← lift (need (not (isNil ts)) bracketedConstant)
       make limits c ts
 
+    -- "Each argument is a term", asked for until a closing is next.
     pub arguments : List Def → ℕ → Items → Reading Terms
     arguments defs depth closed = give []ₜ
     arguments defs depth badLine = lift (refused notUtf8)
@@ -163,6 +181,7 @@ module _ (limits : Setting) (th : Theory) where
       ts ← arguments defs depth rest
       give (t ∷ₜ ts)
 
+  -- The next item, where a term is due.
   unfoldable pub askTerm : List Def → ℕ → Items → Reading (Term × Items)
   askTerm defs depth is = do
     (item, rest) ← lift (ask depth is)
@@ -176,6 +195,7 @@ module _ (limits : Setting) (th : Theory) where
     ts ← arguments defs depth rest
     make limits p ts
 
+  -- The next item, where a judgment is due: a list, whose head is asked for without a look ahead.
   unfoldable pub askJudgment : List Def → ℕ → Items → Reading (Term × Items)
   askJudgment defs depth is = do
     (inner, rest) ← lift (askGroup depth is)
@@ -196,6 +216,7 @@ module _ (limits : Setting) (th : Theory) where
     _ ← lift (need (not (some-of (isGoal name) goals)) duplicate)
     give (goals ++ (goal name j ∷ []))
 
+  -- All goals, in order.
   unfoldable pub goalForms : List Goal → Items → Reading (List Goal)
   goalForms goals ended = give goals
   goalForms goals badLine = lift (refused notUtf8)

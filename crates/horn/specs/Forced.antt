@@ -42,13 +42,16 @@ unfoldable mutual
   substituteAll σ []ₚ = []ₜ
   substituteAll σ (p ∷ₚ ps) = substitute σ p ∷ₜ substituteAll σ ps
 
+-- A rule with a term for each variable.
 pub record Instance : Type 0 where
   pub byRule : Rule
   pub assignment : Assignment
 
+-- Its premises,
 unfoldable pub premises : Instance → List Term
 premises i = map (substitute (i .assignment)) (premisesOf (i .byRule))
 
+-- and its conclusion.
 unfoldable pub conclusion : Instance → Term
 conclusion i = substitute (i .assignment) (conclusionOf (i .byRule))
 

@@ -9,7 +9,7 @@ use Rattle.horn.specs.Setting.{Setting}
 use Rattle.horn.specs.Names.{Name, some-of, codes}
 use Rattle.horn.specs.NestedLists.{Sexp, leaf, list, Sexps, []ₛ, _∷ₛ_}
 use Rattle.horn.specs.Rulebook.{Symbol, symbol, Rule, rule, Theory}
-use Rattle.horn.specs.StoredTerms.{Term, node, Terms, []ₜ, _∷ₜ_, sameTerm, withinLimits}
+use Rattle.horn.specs.StoredTerms.{Term, node, Terms, []ₜ, _∷ₜ_, sameTerm, size}
 use Rattle.horn.specs.Checker.{Goal, goal}
 use Rattle.horn.specs.Forced.{Instance, IsInstance, premises, conclusion, Each, judgments}
 
@@ -18,20 +18,25 @@ unfoldable pub next : List ℕ → List ℕ
 next [] = 1 ∷ []
 next (d ∷ ds) = elim (eqb d 9) [ true ↦ 0 ∷ next ds | false ↦ suc d ∷ ds ]
 
+-- The digits of a number, the last one first.
 unfoldable pub countedTo : ℕ → List ℕ
 countedTo zero = 0 ∷ []
 countedTo (suc n) = next (countedTo n)
 
+-- A number as it is written.
 unfoldable pub plain : ℕ → Name
 plain n = map (λ d. 0x30 + d) (reverse (countedTo n))
 
+-- "(refs)": numbers as members.
 unfoldable pub plainAll : List ℕ → Sexps
 plainAll [] = []ₛ
 plainAll (n ∷ ns) = leaf (plain n) ∷ₛ plainAll ns
 
+-- The name of a symbol,
 unfoldable pub symbolName : Symbol → Name
 symbolName (symbol name ins out) = name
 
+-- and of a rule.
 unfoldable pub ruleName : Rule → Name
 ruleName (rule name vs ps c) = name
 
@@ -48,6 +53,7 @@ unfoldable mutual
   termForms []ₜ = []ₛ
   termForms (t ∷ₜ ts) = termForm t ∷ₛ termForms ts
 
+-- A judgment as it is written.
 unfoldable pub judgmentForm : Term → Sexp
 judgmentForm (node c ts) = list (leaf (symbolName c) ∷ₛ termForms ts)
 
@@ -68,6 +74,7 @@ stepForm earlier i =
     ∷ₛ judgmentForm (conclusion i)
     ∷ₛ []ₛ)
 
+-- The steps, one for each instance.
 unfoldable pub stepForms : List Term → List Instance → List Sexp
 stepForms earlier [] = []
 stepForms earlier (i ∷ is) = stepForm earlier i ∷ stepForms (earlier ++ (conclusion i ∷ [])) is
@@ -77,6 +84,7 @@ unfoldable pub resultForm : List Term → Goal → Sexp
 resultForm conclusions (goal name j) =
     list (leaf (codes "result") ∷ₛ leaf name ∷ₛ leaf (plain (lowest conclusions j)) ∷ₛ []ₛ)
 
+-- All forms: the steps, then the results.
 unfoldable pub forms : List Goal → List Instance → List Sexp
 forms goals is = stepForms [] is ++ map (resultForm (map conclusion is)) goals
 
@@ -99,6 +107,7 @@ unfoldable pub printedLines : List Sexp → List ℕ
 printedLines [] = []
 printedLines (x ∷ xs) = printed x ++ 0x0A ∷ printedLines xs
 
+-- The laid-out certificate.
 unfoldable pub laidOut : List Goal → List Instance → List ℕ
 laidOut goals is = printedLines (forms goals is)
 
@@ -126,10 +135,12 @@ unfoldable mutual
   subtermsOf []ₜ = []
   subtermsOf (t ∷ₜ ts) = subterms t ++ subtermsOf ts
 
+-- The same of some terms.
 unfoldable pub allSubterms : List Term → List Term
 allSubterms [] = []
 allSubterms (t ∷ ts) = subterms t ++ allSubterms ts
 
+-- Each term once.
 unfoldable pub distinct : List Term → List Term
 distinct [] = []
 distinct (t ∷ ts) = elim (some-of (sameTerm t) ts) [ true ↦ distinct ts | false ↦ t ∷ distinct ts ]
@@ -147,7 +158,8 @@ pub record WithinLimits (limits : Setting) (a b c d : ℕ) (goals : List Goal) (
   pub fourth-area : limits .lastAreaWords ≤ d
   pub short : length (laidOut goals is) ≤ limits .certificateBytes
   pub shallow : depth (forms goals is) ≤ 256
-  pub small : withinLimits limits (spread goals is) ≡ true
+  pub few : length (spread goals is) ≤ limits .nodes
+  pub small : size (spread goals is) ≤ limits .nodeWords
 
 -- A list of instances that proves goals: well-sorted instances, each premise an earlier instance's conclusion, each
 -- goal's judgment some instance's conclusion.
@@ -158,6 +170,7 @@ pub data Supported (th : Theory) : List Term → List Instance → Type 0 where
       → Supported th (earlier ++ (conclusion i ∷ [])) is
       → Supported th earlier (i ∷ is)
 
+-- The list proves these goals.
 pub record Proves (th : Theory) (goals : List Goal) (is : List Instance) : Type 0 where
   pub supported : Supported th [] is
   pub reached : Each (λ j. List·Memᴰ j (map conclusion is)) (judgments goals)

@@ -16,6 +16,7 @@ use Rattle.horn.specs.Checker.{Reading, _>>=_, give, lift, stored}
 pub data Step : Type 0 where
   step : Term → Rule → Step
 
+-- The judgment of a step.
 unfoldable pub judgmentOf : Step → Term
 judgmentOf (step j r) = j
 
@@ -23,6 +24,7 @@ judgmentOf (step j r) = j
 pub data Bind : Type 0 where
   bind : Name → Term → Bind
 
+-- The term that a variable is bound to, if it is.
 unfoldable pub lookup : Name → List Bind → Option Term
 lookup name [] = none
 lookup name (bind n t ∷ bs) = elim (named name n) [ true ↦ some t | false ↦ lookup name bs ]
@@ -32,6 +34,7 @@ unfoldable pub matchVar : Name → Term → List Bind → Option Term → Option
 matchVar name t binds none = some (binds ++ (bind name t ∷ []))
 matchVar name t binds (some u) = elim (sameTerm t u) [ true ↦ some binds | false ↦ none ]
 
+-- A pattern against a term, under the bindings so far.
 unfoldable mutual
   pub match : Pattern → Term → List Bind → Option (List Bind)
   match (var name) t binds = matchVar name t binds (lookup name binds)

@@ -8,6 +8,7 @@ use mathlib.Core.List.{List, [], _∷_}
 use mathlib.Core.Option.{Option, none, some}
 use lib.Dec.{eqb}
 
+-- A name is its bytes.
 abbrev pub Name : Type 0
 Name = List ℕ
 
@@ -18,6 +19,7 @@ sameList test [] (b ∷ bs) = false
 sameList test (a ∷ as′) [] = false
 sameList test (a ∷ as′) (b ∷ bs) = elim (test a b) [ true ↦ sameList test as′ bs | false ↦ false ]
 
+-- "Names are equal when their bytes are."
 unfoldable pub named : Name → Name → Bool
 named = sameList eqb
 

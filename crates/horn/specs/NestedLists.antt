@@ -24,19 +24,24 @@ pub data Around : Type 0 where
   _inside_ : Items → Around → Around
 
 infixr 20 _inside_
+-- What is left of the list that the reader stands in.
 unfoldable pub innermost : Around → Items
 innermost (all items) = items
 innermost (items inside around) = items
 
+-- The same of the list around it, and so on.
 unfoldable pub outer : Around → Around
 outer (all items) = all items
 outer (items inside around) = around
 
+-- A token in front: a closing ends its list, an atom is an item, an opening begins an item that holds all up to its
+-- closing.
 unfoldable pub add : Token → Around → Around
 add closing a = closed inside a
 add (atom bytes) a = (word bytes then innermost a) inside outer a
 add opening a = (group (innermost a) then innermost (outer a)) inside outer (outer a)
 
+-- What stands around a reader before these tokens.
 unfoldable pub around : Stream Token → Around
 around end = all ended
 around bad = all badLine

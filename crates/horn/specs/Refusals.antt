@@ -3,11 +3,13 @@ use Prim.Native.Nat.{ℕ}
 use mathlib.Core.Bool.{Bool, true, false}
 use mathlib.Core.Option.{Option, none, some}
 
+-- The refusals, in the order of the table's rows.
 pub data Refusal : Type 0 where
   areaShort textLong notUtf8 nesting textEnds strayClosing atomOrList emptyList form excess : Refusal
   variableName unknown duplicate twoSorts sortArity bracketedConstant noGoal notNumber stepOrder referenceCount : Refusal
   badBinding secondConclusion badConclusion noSuchStep badPremise unbound otherJudgment storeFull goalOpen notOpened : Refusal
 
+-- Column "No." of the table.
 unfoldable pub number : Refusal → ℕ
 number areaShort = 1
 number textLong = 2
@@ -45,6 +47,7 @@ pub data Result (A : Type 0) : Type 0 where
   ok : A → Result A
   refused : Refusal → Result A
 
+-- "The first refusal met is given": what comes after it is not looked at.
 infixl 10 _>>=_
 unfoldable pub _>>=_ : {A B : Type 0} → Result A → (A → Result B) → Result B
 ok a >>= f = f a

@@ -16,6 +16,7 @@ pub data Output : Type 0 where
   sort : Name → Output
   judgment : Output
 
+-- Whether two outputs are equal.
 unfoldable pub sameOutput : Output → Output → Bool
 sameOutput (sort s) (sort t) = named s t
 sameOutput (sort s) judgment = false
@@ -26,12 +27,15 @@ sameOutput judgment judgment = true
 pub data Symbol : Type 0 where
   symbol : Name → List Name → Output → Symbol
 
+-- Whether two symbols are equal.
 unfoldable pub sameSymbol : Symbol → Symbol → Bool
 sameSymbol (symbol n is o) (symbol m js p) = named n m && sameList named is js && sameOutput o p
 
+-- The input sorts of a symbol.
 unfoldable pub inputs : Symbol → List Name
 inputs (symbol name ins output) = ins
 
+-- What a symbol gives.
 unfoldable pub output : Symbol → Output
 output (symbol name ins out) = out
 
@@ -39,6 +43,7 @@ output (symbol name ins out) = out
 pub data Variable : Type 0 where
   variable : Name → Name → Variable
 
+-- The sort of a variable.
 unfoldable pub sortOf : Variable → Name
 sortOf (variable name s) = s
 
@@ -56,12 +61,15 @@ infixr 20 _∷ₚ_
 pub data Rule : Type 0 where
   rule : Name → List Variable → List Pattern → Pattern → Rule
 
+-- The parts of a rule: its variables,
 unfoldable pub variablesOf : Rule → List Variable
 variablesOf (rule name vs premises conclusion) = vs
 
+-- its premises
 unfoldable pub premisesOf : Rule → List Pattern
 premisesOf (rule name vs premises conclusion) = premises
 
+-- and its conclusion.
 unfoldable pub conclusionOf : Rule → Pattern
 conclusionOf (rule name vs premises conclusion) = conclusion
 
@@ -76,13 +84,16 @@ unfoldable pub isConstructor : Name → Symbol → Bool
 isConstructor name (symbol n ins (sort s)) = named name n
 isConstructor name (symbol n ins judgment) = false
 
+-- The same of a predicate,
 unfoldable pub isPredicate : Name → Symbol → Bool
 isPredicate name (symbol n ins (sort s)) = false
 isPredicate name (symbol n ins judgment) = named name n
 
+-- of a rule,
 unfoldable pub isRule : Name → Rule → Bool
 isRule name (rule n vs premises conclusion) = named name n
 
+-- and of a variable of a rule.
 unfoldable pub isVariable : Name → Variable → Bool
 isVariable name (variable n s) = named name n
 
@@ -90,9 +101,11 @@ isVariable name (variable n s) = named name n
 unfoldable pub constructor : Theory → Name → Result Symbol
 constructor th name = found (first (isConstructor name) (th .symbols)) unknown
 
+-- "A predicate (12)".
 unfoldable pub predicate : Theory → Name → Result Symbol
 predicate th name = found (first (isPredicate name) (th .symbols)) unknown
 
+-- "R 12".
 unfoldable pub ruleNamed : Theory → Name → Result Rule
 ruleNamed th name = found (first (isRule name) (th .rules)) unknown
 
@@ -101,6 +114,7 @@ unfoldable pub atomDue : Sexp → Result Name
 atomDue (leaf name) = ok name
 atomDue (list xs) = refused atomOrList
 
+-- A list where one is due: an atom there is 7.
 unfoldable pub listDue : Sexp → Result Sexps
 listDue (leaf name) = refused atomOrList
 listDue (list xs) = ok xs
@@ -119,6 +133,7 @@ sortNamed th x = do
   _ ← need (some-of (named name) (th .sorts)) unknown
   ok name
 
+-- "Inputs left to right".
 unfoldable pub sortsNamed : Theory → Sexps → Result (List Name)
 sortsNamed th []ₛ = ok []
 sortsNamed th (x ∷ₛ xs) = do
@@ -126,6 +141,7 @@ sortsNamed th (x ∷ₛ xs) = do
   ss ← sortsNamed th xs
   ok (s ∷ ss)
 
+-- How many members a list has.
 unfoldable pub count : Sexps → ℕ
 count []ₛ = zero
 count (x ∷ₛ xs) = suc (count xs)
@@ -154,6 +170,7 @@ constant th name s vs = do
   _ ← need (fits c (sort s) zero) sortArity
   ok (app c []ₚ, vs)
 
+-- Whether it has none.
 unfoldable pub isEmpty : Sexps → Bool
 isEmpty []ₛ = true
 isEmpty (x ∷ₛ xs) = false
@@ -196,9 +213,11 @@ judgmentOf th (x ∷ₛ xs) vs = do
   (ps, ws) ← patterns th xs (inputs p) vs
   ok (app p ps, ws)
 
+-- "A judgment J is a list (else 7)".
 unfoldable pub judgmentPattern : Theory → Sexp → List Variable → Read Pattern
 judgmentPattern th x vs = listDue x >>= λ xs. judgmentOf th xs vs
 
+-- "Premises left to right".
 unfoldable pub judgmentPatterns : Theory → Sexps → List Variable → Read (List Pattern)
 judgmentPatterns th []ₛ vs = ok ([], vs)
 judgmentPatterns th (x ∷ₛ xs) vs = do
@@ -213,6 +232,7 @@ declareSort th n = do
   _ ← need (not (some-of (named name) (th .sorts))) duplicate
   ok record { sorts = th .sorts ++ (name ∷ []); symbols = th .symbols; rules = th .rules }
 
+-- A theory with one more symbol.
 unfoldable pub withSymbol : Theory → Symbol → Theory
 withSymbol th s = record { sorts = th .sorts; symbols = th .symbols ++ (s ∷ []); rules = th .rules }
 
@@ -227,6 +247,7 @@ declareConstructor th n is o = do
   _ ← need (not (some-of (isConstructor name) (th .symbols))) duplicate
   ok (withSymbol th (symbol name ins (sort out)))
 
+-- "`(pred N (S...))`": the same, without an output.
 unfoldable pub declarePredicate : Theory → Sexp → Sexp → Result Theory
 declarePredicate th n is = do
   name ← declaredName n
@@ -251,10 +272,12 @@ oneMember []ₛ f = refused form
 oneMember (x ∷ₛ []ₛ) f = f x
 oneMember (x ∷ₛ y ∷ₛ xs) f = refused form
 
+-- The same for two members,
 unfoldable pub twoMembers : {A : Type 0} → Sexps → (Sexp → Sexp → Result A) → Result A
 twoMembers []ₛ f = refused form
 twoMembers (x ∷ₛ xs) f = oneMember xs (f x)
 
+-- and for three.
 unfoldable pub threeMembers : {A : Type 0} → Sexps → (Sexp → Sexp → Sexp → Result A) → Result A
 threeMembers []ₛ f = refused form
 threeMembers (x ∷ₛ xs) f = twoMembers xs (f x)
@@ -263,6 +286,7 @@ threeMembers (x ∷ₛ xs) f = twoMembers xs (f x)
 pub data Keyword : Type 0 where
   sortWord ctorWord predWord ruleWord otherWord : Keyword
 
+-- Which of them a name is.
 unfoldable pub keyword : Name → Keyword
 keyword name =
     elim (named name (codes "sort")) [
@@ -276,6 +300,7 @@ keyword name =
       ]
     ]
 
+-- The four forms, each with its length: `(sort N)`, `(ctor N (S...) S)`, `(pred N (S...))`, `(rule N (J...) J)`.
 unfoldable pub declare : Theory → Keyword → Sexps → Result Theory
 declare th sortWord xs = oneMember xs (declareSort th)
 declare th ctorWord xs = threeMembers xs (declareConstructor th)
@@ -290,15 +315,18 @@ headed th (x ∷ₛ xs) = do
   name ← atomDue x
   declare th (keyword name) xs
 
+-- "An atom is 7": one declaration.
 unfoldable pub declaration : Theory → Sexp → Result Theory
 declaration th x = listDue x >>= headed th
 
+-- "Declarations, in order".
 unfoldable pub declarations : Theory → Sexps → Result Theory
 declarations th []ₛ = ok th
 declarations th (x ∷ₛ xs) = do
   next ← declaration th x
   declarations next xs
 
+-- What is declared before the first declaration.
 unfoldable pub emptyTheory : Theory
 emptyTheory = record { sorts = []; symbols = []; rules = [] }
 

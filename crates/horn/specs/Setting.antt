@@ -1,6 +1,7 @@
 -- "The texts and the work areas" in document 01: the limits, as a parameter of everything below, and 01's own value.
 use Prim.Native.Nat.{ℕ}
 
+-- What document 01 limits.
 pub record Setting : Type 0 where
   -- words that each of the first three work areas must have, and that are cleared in it; the same of the fourth
   pub areaWords : ℕ

@@ -20,6 +20,7 @@ mutual
     _∷ₜ_ : Term → Terms → Terms
 
 infixr 20 _∷ₜ_
+-- Whether two terms are equal.
 unfoldable mutual
   pub sameTerm : Term → Term → Bool
   sameTerm (node c ts) (node d us) = elim (sameSymbol c d) [ true ↦ sameTerms ts us | false ↦ false ]
@@ -30,9 +31,11 @@ unfoldable mutual
   sameTerms (t ∷ₜ ts) []ₜ = false
   sameTerms (t ∷ₜ ts) (u ∷ₜ us) = elim (sameTerm t u) [ true ↦ sameTerms ts us | false ↦ false ]
 
+-- The store.
 abbrev pub Store : Type 0
 Store = List Term
 
+-- How many arguments there are.
 unfoldable pub width : Terms → ℕ
 width []ₜ = zero
 width (t ∷ₜ ts) = suc (width ts)
@@ -41,10 +44,12 @@ width (t ∷ₜ ts) = suc (width ts)
 unfoldable pub nodeSize : Term → ℕ
 nodeSize (node head arguments) = 1 + width arguments
 
+-- The words of all nodes.
 unfoldable pub size : Store → ℕ
 size [] = zero
 size (t ∷ ts) = nodeSize t + size ts
 
+-- Whether a node is held.
 unfoldable pub holds : Store → Term → Bool
 holds store t = some-of (sameTerm t) store
 

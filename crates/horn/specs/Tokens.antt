@@ -12,6 +12,7 @@ pub data Stream (A : Type 0) : Type 0 where
   _▹_ : A → Stream A → Stream A
 
 infixr 20 _▹_
+-- A list put before what is read after it.
 unfoldable pub before : {A : Type 0} → List A → Stream A → Stream A
 before [] s = s
 before (a ∷ as′) s = a ▹ before as′ s
@@ -21,6 +22,7 @@ unfoldable pub onto : ℕ → List (List ℕ) → List (List ℕ)
 onto b [] = (b ∷ []) ∷ []
 onto b (line ∷ rest) = (b ∷ line) ∷ rest
 
+-- The lines of a text: byte 0A ends its line and is part of it.
 unfoldable pub lines : List ℕ → List (List ℕ)
 lines [] = []
 lines (b ∷ bs) = elim (eqb b 0x0A) [ true ↦ (b ∷ []) ∷ lines bs | false ↦ onto b (lines bs) ]
@@ -46,10 +48,12 @@ whiteRanges =
     ∷ range 0x3000 0x3000
     ∷ []
 
+-- Whether a value lies in one of some ranges.
 unfoldable pub inSome : List Range → ℕ → Bool
 inSome [] value = false
 inSome (r ∷ rs) value = within r value || inSome rs value
 
+-- White space, by a character's value.
 unfoldable pub white : ℕ → Bool
 white value = inSome whiteRanges value
 
@@ -57,6 +61,7 @@ white value = inSome whiteRanges value
 pub data Kind : Type 0 where
   blank opens closes comments ordinary : Kind
 
+-- The kind of a character, by its value.
 unfoldable pub kind : ℕ → Kind
 kind value =
     elim (white value) [
@@ -100,6 +105,7 @@ continues atomBytes opens bytes = (atom atomBytes ∷ opening ∷ [], between)
 continues atomBytes closes bytes = (atom atomBytes ∷ closing ∷ [], between)
 continues atomBytes comments bytes = (atom atomBytes ∷ [], inComment)
 
+-- One character, wherever the reader stands.
 unfoldable pub move : Place → Char → Move
 move between (char bytes value) = begins (kind value) bytes
 move (inAtom atomBytes) (char bytes value) = continues atomBytes (kind value) bytes
@@ -112,6 +118,7 @@ unended between = []
 unended inComment = []
 unended (inAtom atomBytes) = atom atomBytes ∷ []
 
+-- The tokens of what is left of a text, from where the reader stands.
 unfoldable pub tokensFrom : Place → Stream Char → Stream Token
 tokensFrom place end = before (unended place) end
 tokensFrom place bad = before (unended place) bad

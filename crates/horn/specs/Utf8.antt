@@ -10,6 +10,7 @@ use lib.Dec.{leb}
 pub data Range : Type 0 where
   range : ℕ → ℕ → Range
 
+-- Whether a number lies in a range.
 unfoldable pub within : Range → ℕ → Bool
 within (range low high) n = leb low n && leb n high
 

@@ -1,0 +1,164 @@
+//! The comparison's driver: the Rust's answers to cases, and a seeded generator of cases. See ../README.md.
+mod aim;
+mod aim_steps;
+mod cases;
+mod certificate;
+mod damage;
+mod draft;
+mod generate;
+mod histogram;
+mod messages;
+mod names;
+mod oracle;
+mod random;
+mod rulebook;
+mod special;
+mod tree;
+mod written;
+
+use cases::{Answer, hex};
+use oracle::Reply;
+use std::collections::{BTreeMap, HashSet};
+use std::io::{BufWriter, Read, Write, stdin, stdout};
+
+const USAGE: &str = "usage: compare/run COMMAND
+  histogram N SEED    how often each number comes in N generated cases, by text
+  generate N SEED     the cases themselves, with the Rust's answers
+  answers             the Rust's answers to the case lines of standard input
+  rulebook-answers    the same for the call with the rulebook alone
+  second [NODES WORDS]  the opened copy's answers, on any bytes and limits: a second opinion only
+  fixed | rulebooks   the fixed lists
+  readings | by-hand  cases written for people (standard input) as case lines, checked
+  keep [DIR]          all four files of compare/cases, written anew";
+
+fn fail(message: &str) -> ! {
+    eprintln!("compare: {message}");
+    std::process::exit(2);
+}
+
+fn input() -> String {
+    let mut text = String::new();
+    stdin().read_to_string(&mut text).unwrap_or_else(|e| fail(&e.to_string()));
+    text
+}
+
+fn texts_of(line: &str) -> cases::Texts {
+    cases::read(line).unwrap_or_else(|| fail(&format!("not a case line: {line}")))
+}
+
+/// An answer and who gives it; outside the domain there is none, but for the driver's own 2.
+fn reply(reply: &Reply) -> String {
+    match reply {
+        Reply::Rust(answer, _) => format!("{answer}\trust"),
+        Reply::Outside(why, None) => format!("outside\t-\t-\t-\t-\t{why}"),
+        Reply::Outside(why, Some(own)) => format!("{own}\tdriver: {why}"),
+    }
+}
+
+fn main() {
+    let args: Vec<String> = std::env::args().skip(1).collect();
+    let args: Vec<&str> = args.iter().map(String::as_str).collect();
+    let number = |s: &str| s.parse::<u64>().unwrap_or_else(|_| fail(&format!("not a number: {s}")));
+    let mut out = BufWriter::new(stdout().lock());
+    let result = match args[..] {
+        ["histogram", n, seed] => histogram::print(number(n) as usize, number(seed), &mut out),
+        ["generate", n, seed] => generated(number(n) as usize, number(seed), &mut out),
+        ["answers"] => input().lines().try_for_each(|l| writeln!(out, "{}", reply(&oracle::answer(&texts_of(l))))),
+        ["rulebook-answers"] => {
+            input().lines().try_for_each(|l| match oracle::rulebook(&texts_of(&format!("{l}\t-\t-")).rulebook) {
+                Some(answer) => writeln!(out, "{answer}"),
+                None => writeln!(out, "outside\t-\t-\t-\t-"),
+            })
+        }
+        ["second"] => second(oracle::NODES, oracle::WORDS, &mut out),
+        ["second", nodes, words] => second(number(nodes) as usize, number(words) as usize, &mut out),
+        ["fixed"] => fixed(&mut out),
+        ["rulebooks"] => rulebooks(&mut out),
+        ["readings"] => readings(&mut out),
+        ["by-hand"] => by_hand(&mut out),
+        _ => fail(USAGE),
+    };
+    if let Err(e) = result.and_then(|()| out.flush()) {
+        fail(&e.to_string());
+    }
+}
+
+type Io = std::io::Result<()>;
+
+fn generated(n: usize, seed: u64, out: &mut impl Write) -> Io {
+    let mut rng = random::Random::new(seed);
+    (0..n).try_for_each(|_| {
+        let case = generate::case(&mut rng, false);
+        writeln!(out, "{}\t{}\t{}", case.texts, reply(&oracle::answer(&case.texts)), case.kind)
+    })
+}
+
+fn second(nodes: usize, words: usize, out: &mut impl Write) -> Io {
+    input().lines().try_for_each(|l| writeln!(out, "{}", oracle::second(&texts_of(l), nodes, words)))
+}
+
+fn fixed(out: &mut impl Write) -> Io {
+    generate::fixed().iter().try_for_each(|a| writeln!(out, "{}\t{}\t{}", a.case.texts, a.answer, a.case.kind))
+}
+
+/// The rulebooks of the fixed list, so many of each number, and the longest that 01 names.
+fn rulebooks(out: &mut impl Write) -> Io {
+    let spaces = vec![b' '; oracle::RULEBOOK_BYTES];
+    let mut kept = vec![(spaces, "longest".to_string()), (special::bench().rulebook, "bench".to_string())];
+    kept.extend(generate::fixed().into_iter().map(|a| (a.case.texts.rulebook, a.case.kind)));
+    let mut seen = HashSet::new();
+    let mut held: BTreeMap<u8, usize> = BTreeMap::new();
+    for (text, kind) in kept {
+        let Some(answer) = oracle::rulebook(&text) else { continue };
+        let count = held.entry(answer.number).or_default();
+        if *count < if answer.number == 0 { 150 } else { 25 } && seen.insert(text.clone()) {
+            *count += 1;
+            writeln!(out, "{}\t{answer}\t{kind}", hex(&text))?;
+        }
+    }
+    Ok(())
+}
+
+fn written() -> Vec<written::Written> {
+    written::read(&input()).unwrap_or_else(|e| fail(&e))
+}
+
+/// Case lines of readings, each of which the Rust must answer as written.
+fn readings(out: &mut impl Write) -> Io {
+    let mut wrong = 0;
+    for case in written() {
+        let said = reply(&oracle::answer(&case.texts));
+        if said != format!("{}\trust", case.answer) {
+            wrong += 1;
+            eprintln!("differs: {}: written {}, the Rust {said}", case.reason, case.answer);
+        }
+        writeln!(out, "{}\t{}\t{}", case.texts, case.answer, case.reason)?;
+    }
+    if wrong > 0 { fail(&format!("{wrong} readings differ from the Rust")) } else { Ok(()) }
+}
+
+/// Case lines of answers worked by hand, each compared with the opened copy where that can speak.
+fn by_hand(out: &mut impl Write) -> Io {
+    let mut wrong = 0;
+    for case in written() {
+        let (nodes, words) = case.store;
+        let second: Option<Answer> = match (&case.areas, case.rulebook_alone) {
+            (Some(_), _) => None,
+            (None, true) => Some(oracle::second_rulebook(&case.texts.rulebook)),
+            (None, false) => Some(oracle::second(&case.texts, nodes, words)),
+        };
+        if second.is_some_and(|s| s != case.answer) {
+            wrong += 1;
+            eprintln!(
+                "differs: {}: by hand {}, the opened copy {}",
+                case.reason,
+                case.answer,
+                second.expect("an answer")
+            );
+        }
+        let call = if case.rulebook_alone { "rulebook" } else { "release" };
+        let areas = case.areas.as_deref().unwrap_or("-");
+        writeln!(out, "{}\t{}\t{nodes}\t{words}\t{areas}\t{call}\t{}", case.texts, case.answer, case.reason)?;
+    }
+    if wrong > 0 { fail(&format!("{wrong} answers differ from the opened copy")) } else { Ok(()) }
+}

@@ -1,0 +1,177 @@
+-- A text has at most as many tokens, and so at most as many forms, as it has bytes.
+use Prim.Native.Nat.{ℕ, zero, suc, _+_, _-_, _≤_}
+use mathlib.Core.Path.{_≡_, refl, ap, sym, _∙_}
+use mathlib.Core.Bool.{Bool, true, false}
+use mathlib.Core.List.{List, [], _∷_, _++_}
+use mathlib.Core.Option.{Option, none, some, Option·map}
+use native.Mathlib.Omega.{arith}
+use lib.Dec.{eqb}
+use lib.ListN.{length, length-append}
+use Rattle.horn.specs.Utf8.{Range, Sequence, sequence, sequences, Char, char, within, startedBy, resumed, decoded}
+use Rattle.horn.specs.Tokens.{Stream, end, bad, _▹_, before, onto, lines, characters, Kind, blank, opens, closes, comments, ordinary, kind}
+use Rattle.horn.specs.Tokens.{Token, opening, closing, atom, Place, between, inComment, inAtom, Move, begins, continues, move, unended, tokensFrom, tokens}
+use Rattle.horn.specs.NestedLists.{Item, word, group, Items, closed, ended, badLine, _then_, Around, all, _inside_, innermost, outer, add, around, items}
+use Rattle.horn.proofs.Post.{either}
+
+-- Characters and bytes.
+data Few (n : ℕ) : Option (List Char) → Type 0 where
+  few : {cs : List Char} → length cs ≤ n → Few n (some cs)
+  not-any : Few n none
+
+few-map : {n : ℕ} {o : Option (List Char)} (c : Char) → Few n o → Few (suc n) (Option·map (λ cs. c ∷ cs) o)
+few-map c (few {cs} h) = few {cs = c ∷ cs} (omega arith)
+few-map c not-any = not-any
+
+few-suc : {n : ℕ} {o : Option (List Char)} → Few n o → Few (suc n) o
+few-suc (few {cs} h) = few {cs = cs} (omega arith)
+few-suc not-any = not-any
+
+-- After a whole character, from the next one's first byte.
+few-next : (taken : List ℕ) (value b : ℕ) (bs : List ℕ) → ((v : ℕ) (rest : List Range) → Few (suc (length bs)) (resumed (b ∷ []) v rest bs)) → (o : Option Sequence) →
+    Few (suc (suc (length bs))) (elim o [ none ↦ none | some (sequence first mark rest) ↦ Option·map (λ cs. char taken value ∷ cs) (resumed (b ∷ []) (b - mark) rest bs) ])
+few-next taken value b bs ih none = not-any
+few-next taken value b bs ih (some (sequence first mark rest)) = few-map (char taken value) (ih _ rest)
+
+few-resumed : (taken : List ℕ) (value : ℕ) (rs : List Range) (bs : List ℕ) → Few (suc (length bs)) (resumed taken value rs bs)
+unfolding resumed
+few-resumed taken value (r ∷ rs) [] = not-any
+few-resumed taken value (r ∷ rs) (b ∷ bs) = either (Few (suc (suc (length bs)))) (within r b) (few-suc (few-resumed _ _ rs bs)) not-any
+few-resumed taken value [] [] = few {cs = char taken value ∷ []} (omega arith)
+few-resumed taken value [] (b ∷ bs) = few-next taken value b bs (λ v rest. few-resumed _ v rest bs) (startedBy b sequences)
+
+few-decoded : (bs : List ℕ) → Few (length bs) (decoded bs)
+unfolding decoded
+few-decoded [] = few {cs = []} (omega arith)
+few-decoded (b ∷ bs) = go (startedBy b sequences)
+  where
+    go : (o : Option Sequence) → Few (suc (length bs)) (elim o [ none ↦ none | some (sequence first mark rest) ↦ resumed (b ∷ []) (b - mark) rest bs ])
+    go none = not-any
+    go (some (sequence first mark rest)) = few-resumed _ _ rest bs
+
+unfoldable pub streamLength : {A : Type 0} → Stream A → ℕ
+streamLength end = zero
+streamLength bad = zero
+streamLength (a ▹ s) = suc (streamLength s)
+
+length-before : {A : Type 0} (as′ : List A) (s : Stream A) → streamLength (before as′ s) ≡ length as′ + streamLength s
+unfolding streamLength before
+length-before [] s = omega arith
+length-before (a ∷ as′) s = let h = length-before as′ s in omega arith
+
+-- The bytes of all lines are the bytes of the text.
+bytesOf : List (List ℕ) → ℕ
+bytesOf [] = zero
+bytesOf (line ∷ rest) = length line + bytesOf rest
+
+bytes-onto : (b : ℕ) (ls : List (List ℕ)) → bytesOf (onto b ls) ≡ suc (bytesOf ls)
+unfolding bytesOf onto
+bytes-onto b [] = omega arith
+bytes-onto b (line ∷ rest) = omega arith
+
+bytes-lines : (text : List ℕ) → bytesOf (lines text) ≡ length text
+unfolding bytesOf lines
+bytes-lines [] = refl
+bytes-lines (b ∷ bs) = let h = bytes-lines bs in either (λ ls. bytesOf ls ≡ suc (length bs)) (eqb b 0x0A) {x = (b ∷ []) ∷ lines bs} {y = onto b (lines bs)} (omega arith) (bytes-onto b (lines bs) ∙ ap suc h)
+
+few-characters : (ls : List (List ℕ)) → streamLength (characters ls) ≤ bytesOf ls
+unfolding streamLength bytesOf characters
+few-characters [] = omega arith
+few-characters (line ∷ rest) = go (decoded line) (few-characters rest) (few-decoded line)
+  where
+    go : (o : Option (List Char)) → streamLength (characters rest) ≤ bytesOf rest → Few (length line) o → streamLength {A = Char} (elim o [ none ↦ bad | some cs ↦ before cs (characters rest) ]) ≤ length line + bytesOf rest
+    go none r f = omega arith
+    go (some cs) r (few h) = let e = length-before cs (characters rest) in omega arith
+
+-- Tokens and characters: an atom that is being read will be one token.
+pending : Place → ℕ
+pending between = 0
+pending inComment = 0
+pending (inAtom bytes) = 1
+
+few-begins : (k : Kind) (bytes : List ℕ) → length ((begins k bytes) .0) + pending ((begins k bytes) .1) ≤ 1
+unfolding begins pending
+few-begins blank bytes = omega arith
+few-begins opens bytes = omega arith
+few-begins closes bytes = omega arith
+few-begins comments bytes = omega arith
+few-begins ordinary bytes = omega arith
+
+few-continues : (a : List ℕ) (k : Kind) (bytes : List ℕ) → length ((continues a k bytes) .0) + pending ((continues a k bytes) .1) ≤ 2
+unfolding continues pending
+few-continues a blank bytes = omega arith
+few-continues a opens bytes = omega arith
+few-continues a closes bytes = omega arith
+few-continues a comments bytes = omega arith
+few-continues a ordinary bytes = omega arith
+
+few-move : (place : Place) (c : Char) → length ((move place c) .0) + pending ((move place c) .1) ≤ suc (pending place)
+unfolding move pending
+few-move between (char bytes value) = few-begins (kind value) bytes
+few-move (inAtom a) (char bytes value) = few-continues a (kind value) bytes
+few-move inComment (char bytes value) = either {A = Move} (λ m. length (m .0) + pending (m .1) ≤ 1) (eqb value 0x0A) {x = ([], between)} {y = ([], inComment)} (omega arith) (omega arith)
+
+few-unended : (place : Place) → length (unended place) ≡ pending place
+unfolding unended pending
+few-unended between = refl
+few-unended inComment = refl
+few-unended (inAtom bytes) = refl
+
+few-tokensFrom : (place : Place) (cs : Stream Char) → streamLength (tokensFrom place cs) ≤ pending place + streamLength cs
+unfolding tokensFrom streamLength
+few-tokensFrom place end = let e = length-before (unended place) end in let u = few-unended place in omega arith
+few-tokensFrom place bad = let e = length-before (unended place) bad in let u = few-unended place in omega arith
+few-tokensFrom place (c ▹ cs) =
+    let e = length-before ((move place c) .0) (tokensFrom ((move place c) .1) cs) in
+    let m = few-move place c in
+    let h = few-tokensFrom ((move place c) .1) cs in
+    omega arith
+
+pub few-tokens : (text : List ℕ) → streamLength (tokens text) ≤ length text
+unfolding tokens pending
+few-tokens text =
+    let t = few-tokensFrom between (characters (lines text)) in
+    let c = few-characters (lines text) in
+    let b = bytes-lines text in
+    omega arith
+
+-- Items and tokens, at each level around a reader.
+unfoldable pub itemCount : Items → ℕ
+itemCount closed = zero
+itemCount ended = zero
+itemCount badLine = zero
+itemCount (item then rest) = suc (itemCount rest)
+
+data AtMost (n : ℕ) : Around → Type 0 where
+  at-all : (is : Items) → itemCount is ≤ n → AtMost n (all is)
+  at-inside : (is : Items) {a : Around} → itemCount is ≤ n → AtMost n a → AtMost n (is inside a)
+
+at-innermost : {n : ℕ} {a : Around} → AtMost n a → itemCount (innermost a) ≤ n
+unfolding innermost
+at-innermost (at-all is h) = h
+at-innermost (at-inside is h k) = h
+
+at-outer : {n : ℕ} {a : Around} → AtMost n a → AtMost n (outer a)
+unfolding outer
+at-outer (at-all is h) = at-all is h
+at-outer (at-inside is h k) = k
+
+at-suc : {n : ℕ} {a : Around} → AtMost n a → AtMost (suc n) a
+at-suc (at-all is h) = at-all is (omega arith)
+at-suc (at-inside is h k) = at-inside is (omega arith) (at-suc k)
+
+at-add : {n : ℕ} (t : Token) {a : Around} → AtMost n a → AtMost (suc n) (add t a)
+unfolding add itemCount
+at-add closing h = at-inside closed (omega arith) (at-suc h)
+at-add (atom bytes) {a} h = let i = at-innermost h in at-inside (word bytes then innermost a) (omega arith) (at-suc (at-outer h))
+at-add opening {a} h = let i = at-innermost (at-outer h) in at-inside (group (innermost a) then innermost (outer a)) (omega arith) (at-suc (at-outer (at-outer h)))
+
+at-around : (ts : Stream Token) → AtMost (streamLength ts) (around ts)
+unfolding around streamLength itemCount
+at-around end = at-all ended (omega arith)
+at-around bad = at-all badLine (omega arith)
+at-around (t ▹ ts) = at-add t (at-around ts)
+
+-- The items at top level of a text are at most its bytes.
+pub few-items : (text : List ℕ) → itemCount (items (tokens text)) ≤ length text
+unfolding items
+few-items text = let a = at-innermost (at-around (tokens text)) in let t = few-tokens text in omega arith

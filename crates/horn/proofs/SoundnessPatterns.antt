@@ -1,0 +1,287 @@
+-- A rule's patterns that were read are well-sorted under the variables that were read with them.
+use Prim.Native.Nat.{ℕ, zero}
+use mathlib.Core.Path.{_≡_, refl, sym, ap, subst, _∙_}
+use mathlib.Core.Bool.{true, true≢false}
+use mathlib.Core.List.{List, [], _∷_, _++_, List·Memᴰ, List·Memᴰ·head, List·Memᴰ·tail}
+use mathlib.Core.Option.{none, some}
+use lib.Dec.{eqb}
+use lib.ListN.{length}
+use native.Mathlib.Omega.{arith}
+use Rattle.horn.specs.Refusals.{ok}
+use Rattle.horn.specs.Names.{Name, named, questioned, first}
+use Rattle.horn.specs.NestedLists.{Sexp, leaf, list, Sexps, []ₛ, _∷ₛ_}
+use Rattle.horn.specs.Rulebook
+use Rattle.horn.specs.Rulebook.{Symbol, symbol, Output, sameOutput, sort, judgment, Variable, variable, Pattern, var, app, Patterns, []ₚ, _∷ₚ_}
+use Rattle.horn.specs.Rulebook.{Theory}
+use Rattle.horn.proofs.Equality.{both, chosen, eqb-decides, named-decides, sameOutput-decides, first-some, first-none}
+use Rattle.horn.proofs.Inversion.{not-ok, ok-equal, afterᵣ, afterNeedᵣ, was-found, chosen-option}
+use Rattle.horn.proofs.SoundnessWords.{Sorted, a-variable, a-term, AllSorted, no-pattern, pattern-then, SortedJudgment}
+use Rattle.horn.proofs.SoundnessWords.{a-judgment, sorted-in-more, judgment-in-more, Throughout}
+use Rattle.horn.proofs.SoundnessWords.{at-variable, in-term, ThroughoutAll, in-next, Covers, OneSort}
+
+-- Members of a list with one entry more.
+pub in-longer : {A : Type 0} {a : A} {xs : List A} (ys : List A) → List·Memᴰ a xs → List·Memᴰ a (xs ++ ys)
+in-longer ys (List·Memᴰ·head e) = List·Memᴰ·head e
+in-longer ys (List·Memᴰ·tail m) = List·Memᴰ·tail (in-longer ys m)
+
+pub at-end : {A : Type 0} (a : A) (xs : List A) → List·Memᴰ a (xs ++ (a ∷ []))
+at-end a [] = List·Memᴰ·head refl
+at-end a (x ∷ xs) = List·Memᴰ·tail (at-end a xs)
+
+pub in-or-last {ℓ} : {A : Type 0} {C : Type ℓ} {a b : A} (xs : List A) → List·Memᴰ a (xs ++ (b ∷ []))
+    → (List·Memᴰ a xs → C)
+    → (a ≡ b → C)
+    → C
+in-or-last [] (List·Memᴰ·head e) f g = g e
+in-or-last (x ∷ xs) (List·Memᴰ·head e) f g = f (List·Memᴰ·head e)
+in-or-last (x ∷ xs) (List·Memᴰ·tail m) f g = in-or-last xs m (λ n. f (List·Memᴰ·tail n)) g
+
+-- Symbols by their names.
+pub constructor-declared : (th : Theory) (name : Name) {c : Symbol} → Rulebook.constructor th name ≡ ok c
+    → List·Memᴰ c (th .symbols) × (Rulebook.isConstructor name c ≡ true)
+unfolding Rulebook.constructor
+constructor-declared th name e = was-found _ _ e λ p. first-some (Rulebook.isConstructor name) (th .symbols) p
+
+pub predicate-declared : (th : Theory) (name : Name) {c : Symbol} → Rulebook.predicate th name ≡ ok c
+    → List·Memᴰ c (th .symbols) × (Rulebook.isPredicate name c ≡ true)
+unfolding Rulebook.predicate
+predicate-declared th name e = was-found _ _ e λ p. first-some (Rulebook.isPredicate name) (th .symbols) p
+
+-- What reading a pattern does to the variables so far. `uses P` is to say that P holds throughout the pattern.
+pub record Extends (uses : (Name → Type 0) → Type 0) (vs ws : List Variable) : Type 1 where
+  pub grow : (v : Variable) → List·Memᴰ v vs → List·Memᴰ v ws
+  pub keep : OneSort vs → OneSort ws
+  pub occur : (P : Name → Type 0) → uses P → Covers P vs → Covers P ws
+
+extends-none : {uses : (Name → Type 0) → Type 0} (vs : List Variable) → Extends uses vs vs
+extends-none vs = record { grow = λ v m. m; keep = λ o. o; occur = λ P u c. c }
+
+-- One part after another.
+extends-both : {A B both : (Name → Type 0) → Type 0} {us vs ws : List Variable} → Extends A us vs → Extends B vs ws
+    → ((P : Name → Type 0) → both P → A P × B P)
+    → Extends both us ws
+extends-both x y split =
+    record {
+      grow = λ v m. y .grow v (x .grow v m);
+      keep = λ o. y .keep (x .keep o);
+      occur = λ P u c. y .occur P ((split P u) .1) (x .occur P ((split P u) .0) c);
+    }
+
+extends-by : {A B : (Name → Type 0) → Type 0} {vs ws : List Variable} → Extends A vs ws → ((P : Name → Type 0) → B P → A P)
+    → Extends B vs ws
+extends-by x f = record { grow = x .grow; keep = x .keep; occur = λ P u c. x .occur P (f P u) c }
+
+-- A new variable.
+variable-equal : {n m s t : Name} → variable n s ≡ variable m t → (n ≡ m) × (s ≡ t)
+variable-equal e = (cc, cc)
+
+at-variable-of : {P : Name → Type 0} {name : Name} → Throughout P (var name) → P name
+at-variable-of (at-variable p) = p
+
+in-term-of : {P : Name → Type 0} {c : Symbol} {ps : Patterns} → Throughout P (app c ps) → ThroughoutAll P ps
+in-term-of (in-term ps) = ps
+
+in-next-of : {P : Name → Type 0} {p : Pattern} {ps : Patterns} → ThroughoutAll P (p ∷ₚ ps) → Throughout P p × ThroughoutAll P ps
+in-next-of (in-next p ps) = (p, ps)
+
+extends-new : (name s : Name) (vs : List Variable) → first (Rulebook.isVariable name) vs ≡ none
+    → Extends (λ P. Throughout P (var name)) vs (vs ++ (variable name s ∷ []))
+unfolding Rulebook.isVariable
+extends-new name s vs e =
+    record {
+      grow = λ v m. in-longer _ m;
+      keep = λ o n t u m₁ m₂.
+          in-or-last vs m₁
+          (λ m₁′. in-or-last vs m₂ (λ m₂′. o n t u m₁′ m₂′) (λ q. absurd (other t m₁′ ((variable-equal q) .0))))
+          (λ p. in-or-last vs m₂
+          (λ m₂′. absurd (other u m₂′ ((variable-equal p) .0)))
+          (λ q. (variable-equal p) .1 ∙ sym ((variable-equal q) .1)));
+      occur = λ P u c n t m.
+          in-or-last vs m (c n t) (λ p. subst P (sym ((variable-equal p) .0)) (at-variable-of u));
+    }
+  where
+    other : {n : Name} (t : Name) → List·Memᴰ (variable n t) vs → n ≡ name → ⊥
+    other {n} t m p =
+        true≢false (sym (named-decides .same name) ∙ ap (named name) (sym p) ∙ first-none (Rulebook.isVariable name) vs e (variable n t) m)
+
+-- What is known of a pattern that was read at a sort, with the variables after it; of arguments; of a judgment.
+pub record ReadAs (symbols : List Symbol) (vs : List Variable) (s : Name) (q : Pattern × List Variable) : Type 1 where
+  pub extends : Extends (λ P. Throughout P (q .0)) vs (q .1)
+  pub sorted : Sorted symbols (q .1) s (q .0)
+
+pub record AllReadAs (symbols : List Symbol) (vs : List Variable) (ss : List Name) (q : Patterns × List Variable) : Type 1 where
+  pub extends : Extends (λ P. ThroughoutAll P (q .0)) vs (q .1)
+  pub sorted : AllSorted symbols (q .1) ss (q .0)
+
+pub record JudgmentRead (symbols : List Symbol) (vs : List Variable) (q : Pattern × List Variable) : Type 1 where
+  pub extends : Extends (λ P. Throughout P (q .0)) vs (q .1)
+  pub sorted : SortedJudgment symbols (q .1) (q .0)
+
+pub record JudgmentsRead (symbols : List Symbol) (vs : List Variable) (q : List Pattern × List Variable) : Type 1 where
+  pub extends : Extends (λ P. (p : Pattern) → List·Memᴰ p (q .0) → Throughout P p) vs (q .1)
+  pub sorted : (p : Pattern) → List·Memᴰ p (q .0) → SortedJudgment symbols (q .1) p
+
+known-variable : (symbols : List Symbol) (name s n t : Name) (vs : List Variable)
+    → first (Rulebook.isVariable name) vs ≡ some (variable n t)
+    → named s t ≡ true
+    → ReadAs symbols vs s (var name, vs)
+unfolding Rulebook.isVariable
+known-variable symbols name s n t vs f p =
+    let (m, h) = first-some (Rulebook.isVariable name) vs f in
+    let same-name = named-decides .equal name n h in
+    let same-sort = named-decides .equal s t p in
+    let here : List·Memᴰ (variable name s) vs = subst (λ w. List·Memᴰ w vs) (cc) m in
+    record { extends = extends-none vs; sorted = a-variable here }
+
+parts : (v : Variable) → (n : Name) × (t : Name) × (v ≡ variable n t)
+parts (variable n t) = (n, t, refl)
+
+read-schematic : (symbols : List Symbol) (name s : Name) (vs : List Variable) {q : Pattern × List Variable}
+    → Rulebook.schematic name s vs ≡ ok q
+    → ReadAs symbols vs s q
+unfolding Rulebook.schematic
+read-schematic symbols name s vs e =
+    afterNeedᵣ _ _ _ e λ p e₁.
+    chosen-option (first (Rulebook.isVariable name) vs) e₁
+    (λ f e₂. subst (ReadAs symbols vs s) (ok-equal e₂)
+    record { extends = extends-new name s vs f; sorted = a-variable (at-end (variable name s) vs) })
+    (λ v f e₂.
+    let (n, t, is) = parts v in
+    afterNeedᵣ _ _ _ (rw is at e₂) λ h e₃.
+    subst (ReadAs symbols vs s) (ok-equal e₃) (known-variable symbols name s n t vs (f ∙ ap some is) h))
+
+-- A constructor over arguments that were read, and a predicate.
+read-term : {symbols : List Symbol} {vs : List Variable} (name s : Name) (n : ℕ) (c : Symbol) {q : Patterns × List Variable}
+    → List·Memᴰ c symbols × (Rulebook.isConstructor name c ≡ true)
+    → Rulebook.fits c (sort s) n ≡ true
+    → AllReadAs symbols vs (Rulebook.inputs c) q
+    → ReadAs symbols vs s (app c (q .0), q .1)
+unfolding Rulebook.isConstructor Rulebook.fits Rulebook.inputs
+read-term {symbols} name s n (symbol m ins (sort t)) {q} (declared, is) f a =
+    let same = sameOutput-decides .equal (sort t) (sort s) ((both _ _ f) .0) in
+    let same-sort : t ≡ s = cc in
+    record {
+      extends = extends-by (a .extends) (λ P u. in-term-of u);
+      sorted = subst (λ z. Sorted symbols (q .1) z (app (symbol m ins (sort t)) (q .0))) same-sort (a-term declared (a .sorted));
+    }
+read-term name s n (symbol m ins judgment) (declared, is) f a = absurd (true≢false (sym is))
+
+read-judgment-over : {symbols : List Symbol} {vs : List Variable} (name : Name) (c : Symbol) {q : Patterns × List Variable}
+    → List·Memᴰ c symbols × (Rulebook.isPredicate name c ≡ true)
+    → AllReadAs symbols vs (Rulebook.inputs c) q
+    → JudgmentRead symbols vs (app c (q .0), q .1)
+unfolding Rulebook.isPredicate Rulebook.inputs
+read-judgment-over name (symbol m ins (sort t)) (declared, is) a = absurd (true≢false (sym is))
+read-judgment-over name (symbol m ins judgment) (declared, is) a =
+    record { extends = extends-by (a .extends) (λ P u. in-term-of u); sorted = a-judgment declared (a .sorted) }
+
+read-no-arguments : {symbols : List Symbol} {vs : List Variable} (c : Symbol) (o : Output) → Rulebook.fits c o zero ≡ true
+    → AllReadAs symbols vs (Rulebook.inputs c) ([]ₚ, vs)
+unfolding Rulebook.fits Rulebook.inputs
+read-no-arguments {vs} (symbol m [] t) o f = record { extends = extends-none vs; sorted = no-pattern }
+read-no-arguments (symbol m (i ∷ is) t) o f =
+    let z = eqb-decides .equal (length (i ∷ is)) zero ((both (sameOutput t o) (eqb (length (i ∷ is)) zero) f) .1) in
+    absurd (omega (arith, z))
+
+-- A pattern, and then more of them.
+read-next : {symbols : List Symbol} {vs : List Variable} {s : Name} {ss : List Name} {q : Pattern × List Variable} {r : Patterns × List Variable}
+    → ReadAs symbols vs s q
+    → AllReadAs symbols (q .1) ss r
+    → AllReadAs symbols vs (s ∷ ss) (q .0 ∷ₚ r .0, r .1)
+read-next x y =
+    record {
+      extends = extends-both (x .extends) (y .extends) (λ P u. in-next-of u);
+      sorted = pattern-then (sorted-in-more (λ c m. m) (y .extends .grow) (x .sorted)) (y .sorted);
+    }
+
+read-no-judgment : {symbols : List Symbol} (vs : List Variable) → JudgmentsRead symbols vs ([], vs)
+read-no-judgment {symbols} vs = record { extends = extends-none vs; sorted = none-sorted }
+  where
+    none-sorted : (p : Pattern) → List·Memᴰ p [] → SortedJudgment symbols vs p
+    none-sorted p m = elim m [ ]
+
+read-next-judgment : {symbols : List Symbol} {vs : List Variable} {q : Pattern × List Variable} {r : List Pattern × List Variable}
+    → JudgmentRead symbols vs q
+    → JudgmentsRead symbols (q .1) r
+    → JudgmentsRead symbols vs (q .0 ∷ r .0, r .1)
+read-next-judgment {symbols} {q} {r} x y =
+    record {
+      extends =
+          extends-both (x .extends) (y .extends)
+          (λ P u. (u (q .0) (List·Memᴰ·head refl), λ p m. u p (List·Memᴰ·tail m)));
+      sorted = λ p m. sorted-one m;
+    }
+  where
+    sorted-one : {p : Pattern} → List·Memᴰ p (q .0 ∷ r .0) → SortedJudgment symbols (r .1) p
+    sorted-one (List·Memᴰ·head e) =
+        subst (SortedJudgment symbols (r .1)) (sym e) (judgment-in-more (λ c m. m) (y .extends .grow) (x .sorted))
+    sorted-one (List·Memᴰ·tail m) = y .sorted _ m
+
+module _ (th : Theory) where
+  read-constant : (name s : Name) (vs : List Variable) {q : Pattern × List Variable} → Rulebook.constant th name s vs ≡ ok q
+      → ReadAs (th .symbols) vs s q
+  unfolding Rulebook.constant
+  read-constant name s vs e =
+      afterᵣ _ e λ c e₁ e₂.
+      afterNeedᵣ _ _ _ e₂ λ f e₃.
+      subst (ReadAs (th .symbols) vs s) (ok-equal e₃)
+      (read-term name s zero c (constructor-declared th name e₁) f (read-no-arguments c (sort s) f))
+
+  mutual
+    unfolding Rulebook.pattern
+
+    read-pattern : (x : Sexp) (s : Name) (vs : List Variable) {q : Pattern × List Variable} → Rulebook.pattern th x s vs ≡ ok q
+        → ReadAs (th .symbols) vs s q
+    read-pattern (leaf name) s vs e =
+        chosen (questioned name) e (λ p e₁. read-schematic (th .symbols) name s vs e₁) (λ p e₁. read-constant name s vs e₁)
+    read-pattern (list xs) s vs e = read-compound xs s vs e
+
+    read-compound : (xs : Sexps) (s : Name) (vs : List Variable) {q : Pattern × List Variable} → Rulebook.compound th xs s vs ≡ ok q
+        → ReadAs (th .symbols) vs s q
+    read-compound []ₛ s vs e = not-ok e
+    read-compound (x ∷ₛ xs) s vs e =
+        afterᵣ _ e λ name e₁ e₂.
+        afterNeedᵣ _ _ _ e₂ λ p e₃.
+        afterᵣ _ e₃ λ c e₄ e₅.
+        afterNeedᵣ _ _ _ e₅ λ f e₆.
+        afterᵣ _ e₆ λ q e₇ e₈.
+        subst (ReadAs (th .symbols) vs s) (ok-equal e₈)
+        (read-term name s (Rulebook.count xs) c (constructor-declared th name e₄) f (read-patterns xs (Rulebook.inputs c) vs e₇))
+
+    read-patterns : (xs : Sexps) (ss : List Name) (vs : List Variable) {q : Patterns × List Variable} → Rulebook.patterns th xs ss vs ≡ ok q
+        → AllReadAs (th .symbols) vs ss q
+    read-patterns []ₛ [] vs e = subst (AllReadAs (th .symbols) vs []) (ok-equal e) record { extends = extends-none vs; sorted = no-pattern }
+    read-patterns []ₛ (s ∷ ss) vs e = not-ok e
+    read-patterns (x ∷ₛ xs) [] vs e = not-ok e
+    read-patterns (x ∷ₛ xs) (s ∷ ss) vs e =
+        afterᵣ _ e λ q e₁ e₂.
+        afterᵣ _ e₂ λ r e₃ e₄.
+        subst (AllReadAs (th .symbols) vs (s ∷ ss)) (ok-equal e₄) (read-next (read-pattern x s vs e₁) (read-patterns xs ss (q .1) e₃))
+
+  read-judgment : (xs : Sexps) (vs : List Variable) {q : Pattern × List Variable} → Rulebook.judgmentOf th xs vs ≡ ok q
+      → JudgmentRead (th .symbols) vs q
+  unfolding Rulebook.judgmentOf
+  read-judgment []ₛ vs e = not-ok e
+  read-judgment (x ∷ₛ xs) vs e =
+      afterᵣ _ e λ name e₁ e₂.
+      afterᵣ _ e₂ λ c e₃ e₄.
+      afterNeedᵣ _ _ _ e₄ λ f e₅.
+      afterᵣ _ e₅ λ q e₆ e₇.
+      subst (JudgmentRead (th .symbols) vs) (ok-equal e₇)
+      (read-judgment-over name c (predicate-declared th name e₃) (read-patterns xs (Rulebook.inputs c) vs e₆))
+
+  pub read-judgment-pattern : (x : Sexp) (vs : List Variable) {q : Pattern × List Variable} → Rulebook.judgmentPattern th x vs ≡ ok q
+      → JudgmentRead (th .symbols) vs q
+  unfolding Rulebook.judgmentPattern
+  read-judgment-pattern x vs e = afterᵣ _ e λ xs e₁ e₂. read-judgment xs vs e₂
+
+  pub read-judgment-patterns : (xs : Sexps) (vs : List Variable) {q : List Pattern × List Variable} → Rulebook.judgmentPatterns th xs vs ≡ ok q
+      → JudgmentsRead (th .symbols) vs q
+  unfolding Rulebook.judgmentPatterns
+  read-judgment-patterns []ₛ vs e =
+      subst (JudgmentsRead (th .symbols) vs) (ok-equal e) (read-no-judgment vs)
+  read-judgment-patterns (x ∷ₛ xs) vs e =
+      afterᵣ _ e λ q e₁ e₂.
+      afterᵣ _ e₂ λ r e₃ e₄.
+      subst (JudgmentsRead (th .symbols) vs) (ok-equal e₄)
+      (read-next-judgment (read-judgment-pattern x vs e₁) (read-judgment-patterns xs (q .1) e₃))
