@@ -17,7 +17,6 @@ use Rattle.arena.specs.declared.Probe.{Probe}
 use Rattle.arena.specs.declared.Probe.the-variants.{Held, Free, Nowhere}
 use Rattle.arena.specs.declared.Answer.{Answer}
 use Rattle.arena.specs.declared.Answer.the-variants.{Found, Made, Full}
-use Rattle.arena.proofs.Cases.{split, not-both, equal-tests}
 use Rattle.arena.proofs.Copies.{wordsAt-same, wordsAt-all, wordsAt-part, length-copied, copied-before, copied-there}
 use Rattle.arena.proofs.Nodes.{Node, Nodes, nodeOf, total, total-next, total-most, total-one-more, asked, last-or-before, Indexed}
 use Rattle.arena.proofs.Walks

@@ -39,6 +39,11 @@ pub data Interned (nodes words places : ℕ) (a : List ℕ) (s : Nodes) (x : Nod
   full : answer ≡ Full → left ≡ a → Absent s x → (length s + 1 ≤ nodes → total s + length x ≤ words → ⊥) →
       Interned nodes words places a s x answer left
 
+-- Where probing may end: at the node, or at a free place when the node is not held.
+pub data Ending (s : Nodes) (x : Node) : Probe → Type 0 where
+  at-node : (k : ℕ) → k < length s → nodeOf s k ≡ x → Ending s x (Held k)
+  at-free : (p : ℕ) → Absent s x → Ending s x (Free p)
+
 module _ (nodes words places : ℕ) (l : Limits nodes words places) where
   -- An area whose counts and index are zero holds the empty store, whatever its other words are.
   pub kept-empty : (a : List ℕ) → areaWords nodes words places ≤ length a → count a ≡ 0 → start a 0 ≡ 0 →
@@ -46,6 +51,9 @@ module _ (nodes words places : ℕ) (l : Limits nodes words places) where
   kept-empty = H.holds-empty nodes words places (places-positive nodes words places l) (place places) (place-below nodes words places l)
 
   module _ (a : List ℕ) (s : Nodes) (h : Kept nodes words places a s) where
+    abbrev places-read : ℕ → ℕ
+    places-read p = getD a (placeAt nodes p) 0
+
     -- Numbers are equal exactly when nodes are.
     pub one-number : (j k : ℕ) → j < length s → k < length s → nodeOf s j ≡ nodeOf s k → j ≡ k
     one-number = N.same-number places (places-positive nodes words places l) (place places) (place-below nodes words places l)
@@ -59,14 +67,35 @@ module _ (nodes words places : ℕ) (l : Limits nodes words places) where
       unfolding searched walk
       searched-is = H.search-is nodes words places (places-positive nodes words places l) (place places) (place-below nodes words places l) a s h x
 
+      node-found : (k : ℕ) → walk ≡ Held k → (k < length s) × (nodeOf s k ≡ x)
+      unfolding walk
+      node-found k e = N.found places (places-positive nodes words places l) (place places) (place-below nodes words places l) places-read s (h .index) x k e
+
+      node-absent : (p : ℕ) → walk ≡ Free p → Absent s x
+      unfolding walk
+      node-absent p e = N.absent places (places-positive nodes words places l) (place places) (place-below nodes words places l) places-read s (h .index) x p e
+
+      not-nowhere : walk ≡ Nowhere → ⊥
+      unfolding walk
+      not-nowhere e = N.ends places (places-positive nodes words places l) (place places) (place-below nodes words places l) places-read s (h .index) x (omega (arith, few-nodes nodes words places l, h .nodes-fit)) e
+
+      -- Probing always ends at the node or at a free place.
+      pub probing-ends : Ending s x (searched a nodes places x)
+      unfolding walk
+      probing-ends = rw searched-is (go walk refl)
+        where
+          go : (w : Probe) → walk ≡ w → Ending s x w
+          go (Held k) e = let f = node-found k e in at-node k (f .0) (f .1)
+          go (Free p) e = at-free p (node-absent p e)
+          go Nowhere e = absurd (not-nowhere e)
+
       -- Full exactly when a node not yet held would pass the node limit or the word limit.
       added : (p : ℕ) → walk ≡ Free p → Interned nodes words places a s x (addedAnswer a nodes words x) (addedArea a nodes words places x p)
       unfolding walk addedAnswer addedArea
       added p e = nodes-left (decLe nodes (length s))
         where
           absent : Absent s x
-          absent = N.absent places (places-positive nodes words places l) (place places) (place-below nodes words places l)
-              (λ (p : ℕ). getD a (placeAt nodes p) 0) s (h .index) x p e
+          absent = node-absent p e
 
           counted : count a ≡ length s
           counted = h .counted
@@ -110,14 +139,10 @@ module _ (nodes words places : ℕ) (l : Limits nodes words places) where
         where
           go : (w : Probe) → walk ≡ w → Interned nodes words places a s x (internAnswer a nodes words places x) (internArea a nodes words places x)
           go (Held k) e =
-              let f = N.found places (places-positive nodes words places l) (place places) (place-below nodes words places l)
-              (λ (p : ℕ). getD a (placeAt nodes p) 0) s (h .index) x k e in
+              let f = node-found k e in
               found k (rw (searched-is ∙ e)) (rw (searched-is ∙ e)) (f .0) (f .1)
           go (Free p) e = rw (searched-is ∙ e) (added p e)
-          go Nowhere e =
-              absurd
-              (N.ends places (places-positive nodes words places l) (place places) (place-below nodes words places l)
-              (λ (p : ℕ). getD a (placeAt nodes p) 0) s (h .index) x (omega (arith, few-nodes nodes words places l, h .nodes-fit)) e)
+          go Nowhere e = absurd (not-nowhere e)
 
   -- Where probing ends never shows in the answer: areas that hold the same nodes give the same answers.
   pub one-answer : (a b : List ℕ) (s : Nodes) → Kept nodes words places a s → Kept nodes words places b s → (x : Node) →

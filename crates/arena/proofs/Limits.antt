@@ -12,7 +12,7 @@ use lib.Pow.{pow-pos, shr-lt}
 use lib.Dec.{eqb, lit<}
 use Rattle.words.specs.Hash.{hash, hashedAll, hashed, product, rotated}
 use Rattle.arena.specs.Probing.{startPlace}
-use Rattle.arena.proofs.Cases.{split, not-both}
+use Rattle.arena.proofs.Cases.{not-both}
 
 -- Any limits within 32 bits whose index is a power of two above 1 with at least twice as many places as nodes.
 pub record Limits (nodes words places : ℕ) : Type 0 where

@@ -97,7 +97,7 @@ module _ (places : ℕ) (pos : 0 < places) (start : Node → ℕ) (start-below :
       unfolding asked
       found k e =
           let at = Walks.held-at places pos r (asked s x) k places (start x) (start-below x) e in
-          (in-use (at .1 .0) k (at .1 .1) (at .1 .2), words-decide .sound (nodeOf s k) x (at .0))
+          (in-use (at .1 .0) k (at .1 .1) (at .1 .2), words-decide .equal (nodeOf s k) x (at .0))
 
       pub found-again : (k : ℕ) → k < length s → nodeOf s k ≡ x → probe places places r (asked s x) (start x) ≡ Held k
       found-again k h e = rw e at (index .each k h)
@@ -139,7 +139,7 @@ module _ (places : ℕ) (pos : 0 < places) (start : Node → ℕ) (start-below :
               (asked s (nodeOf s k)) (asked (s ++ (x ∷ [])) (nodeOf s k)) (more (nodeOf s k)) k places (start (nodeOf s k)) (start-below (nodeOf s k)) (index .each k h))
 
           itself : asked (s ++ (x ∷ [])) x (length s) ≡ true
-          itself = rw (getD-append-seam s x [] []) (words-decide .complete x)
+          itself = rw (getD-append-seam s x [] []) (words-decide .same x)
 
           new : {k : ℕ} → k ≡ length s →
               probe places places r′ (asked (s ++ (x ∷ [])) (nodeOf (s ++ (x ∷ [])) k)) (start (nodeOf (s ++ (x ∷ [])) k)) ≡ Held k

@@ -1,5 +1,5 @@
 -- The laws at 01's limits and at the larger ones of request L12.
-use Prim.Native.Nat.{ℕ}
+use Prim.Native.Nat.{ℕ, _-_, _/_, _^_}
 use mathlib.Core.Path.{_≡_, refl}
 use mathlib.Core.List.{List}
 use lib.Dec.{lit<, lit≤}
@@ -8,9 +8,10 @@ use Rattle.horn.specs.Setting.{Setting, document01}
 use Rattle.horn.specs.Rulebook.{Symbol}
 use Rattle.horn.specs.StoredTerms.{Term}
 use Rattle.horn.proofs.Run.{storeOf}
+use Rattle.arena.specs.Probing.{startPlace}
 use Rattle.arena.specs.Store.{internAnswer, internArea}
 use Rattle.arena.proofs.Nodes.{Node}
-use Rattle.arena.proofs.Limits.{Limits}
+use Rattle.arena.proofs.Limits.{Limits, shifted, trailing-power}
 use Rattle.arena.proofs.Trees.{Trees, Formed, InternedTree, build, interned-tree}
 
 pub limits-01 : Limits (document01 .nodes) (document01 .nodeWords) 4_096
@@ -23,6 +24,13 @@ larger = storeOf 262_144 1_048_576
 pub limits-larger : Limits (larger .nodes) (larger .nodeWords) 524_288
 unfolding storeOf
 limits-larger = record { exponent = 19; power = refl; above-one = lit< tt; within = lit< tt; roomy = lit≤ tt; words-within = lit< tt }
+
+-- One function serves both indexes.
+pub start-01 : (h : ℕ) → startPlace h 4_096 ≡ h / 2 ^ (64 - 12)
+start-01 h = shifted h 4_096 12 (trailing-power 12 (lit< tt)) (lit< tt)
+
+pub start-larger : (h : ℕ) → startPlace h 524_288 ≡ h / 2 ^ (64 - 19)
+start-larger h = shifted h 524_288 19 (trailing-power 19 (lit< tt)) (lit< tt)
 
 -- What `interned-tree` says of a setting.
 abbrev pub Law : (ℕ → Symbol) → (ℕ → Type 0) → Setting → ℕ → Type 0

@@ -17,7 +17,8 @@ use Rattle.horn.specs.StoredTerms.{Term, node, Terms, []ₜ, _∷ₜ_, width, n
 use Rattle.arena.specs.Store.{internAnswer, internArea}
 use Rattle.arena.specs.declared.Answer.{Answer}
 use Rattle.arena.specs.declared.Answer.the-variants.{Found, Made, Full}
-use Rattle.arena.proofs.Cases.{split, not-both}
+use Rattle.horn.proofs.Equality.{case}
+use Rattle.arena.proofs.Cases.{not-both}
 use Rattle.arena.proofs.Equality.{held-place, place-held}
 use Rattle.arena.proofs.Nodes.{Node, Nodes, nodeOf, total, last-or-before}
 use Rattle.arena.proofs.Limits.{Limits}
@@ -155,7 +156,7 @@ module _ (symbolAt : ℕ → Symbol) where
               (t, place-held (build ts x) blank ts k (omega (arith, h .same)) t)
 
           not-held : Absent s x → holds ts (build ts x) ≡ false
-          not-held absent = split (holds ts (build ts x)) (λ e. absurd (impossible (held-place (build ts x) blank ts e))) (λ e. e)
+          not-held absent = case (holds ts (build ts x)) (λ e. absurd (impossible (held-place (build ts x) blank ts e))) (λ e. e)
             where
               impossible : (k : ℕ) × (k < length ts) × (treeOf ts k ≡ build ts x) → ⊥
               impossible at =

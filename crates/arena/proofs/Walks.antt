@@ -8,7 +8,7 @@ use native.Mathlib.Nat.{mod-lt, mod-eq-of-lt, mod-add-mod, add-mod-mod, add-mod-
 use Rattle.arena.specs.Probing.{probe}
 use Rattle.arena.specs.declared.Probe.{Probe}
 use Rattle.arena.specs.declared.Probe.the-variants.{Held, Free, Nowhere}
-use Rattle.arena.proofs.Cases.{split}
+use Rattle.horn.proofs.Equality.{case}
 
 -- One turn, forward.
 pub turn-none : (places : ℕ) (r : ℕ → ℕ) (q : ℕ → Bool) (i : ℕ) → probe places zero r q i ≡ Nowhere
@@ -38,7 +38,7 @@ turn {C} places f r q i free held on = go (r i) refl
   where
     go : (w : ℕ) → r i ≡ w → C
     go zero e = free e (turn-free places f r q i e)
-    go (suc v) e = split (q v) (λ h. held v e h (turn-held places f r q i v e h)) (λ h. on v e h (turn-on places f r q i v e h))
+    go (suc v) e = case (q v) (λ h. held v e h (turn-held places f r q i v e h)) (λ h. on v e h (turn-on places f r q i v e h))
 
 free-held {ℓ} : {C : Type ℓ} {i k : ℕ} → _≡_ {A = Probe} (Free i) (Held k) → C
 free-held e = let z : _≡_ {A = ℕ} 0 1 = cc in absurd (omega arith)
