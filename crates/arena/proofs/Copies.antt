@@ -6,7 +6,7 @@ use native.Mathlib.Omega.{arith}
 use native.Mathlib.Decide.{ℕ-discrete}
 use lib.ListN.{length, getD, set, length-set, take, drop}
 use lib.Seq.{getD-set-same, getD-set-other, drop-cons, take-length}
-use Rattle.words.specs.Parts.{part}
+use Rattle.words.specs.Parts.{part, cleared}
 use Rattle.arena.specs.Store.{wordsAt, copied}
 
 pub length-wordsAt : (s : List ℕ) (i n : ℕ) → length (wordsAt s i n) ≡ n
@@ -72,3 +72,16 @@ copied-there (suc n) a i s j (suc d) fits h =
     let p : i + suc d ≡ i + 1 + d = omega arith in
     let q : j + suc d ≡ j + 1 + d = omega arith in
     rw (p, q) (copied-there n (set a i (getD s j 0)) (i + 1) s (j + 1) d (rw (length-set a i (getD s j 0)) (omega arith)) (omega arith))
+
+pub length-cleared : (n : ℕ) (s : List ℕ) → length (cleared n s) ≡ length s
+unfolding cleared
+length-cleared zero s = refl
+length-cleared (suc n) [] = refl
+length-cleared (suc n) (w ∷ s) = ap suc (length-cleared n s)
+
+pub getD-cleared : (n : ℕ) (s : List ℕ) (i : ℕ) → i < n → getD (cleared n s) i 0 ≡ 0
+unfolding cleared
+getD-cleared zero s i h = absurd (omega arith)
+getD-cleared (suc n) [] i h = refl
+getD-cleared (suc n) (w ∷ s) zero h = refl
+getD-cleared (suc n) (w ∷ s) (suc i) h = getD-cleared n s i (omega arith)

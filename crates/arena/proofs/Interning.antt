@@ -8,8 +8,10 @@ use borrow.Author.Tests.{le-leb, lt-leb, lt-ltb, le-ltb}
 use native.Mathlib.Decide.{decLe}
 use lib.ListN.{length, getD}
 use Rattle.words.specs.Hash.{hash}
+use Rattle.words.specs.Parts.{cleared}
+use Rattle.arena.proofs.Copies.{length-cleared, getD-cleared}
 use Rattle.arena.specs.Probing.{probe, startPlace}
-use Rattle.arena.specs.Store.{areaWords, placeAt, count, start, searched, addedAnswer, withNode, addedArea, answerAt, areaAt, internAnswer, internArea}
+use Rattle.arena.specs.Store.{areaWords, placeAt, count, start, searched, addedAnswer, withNode, addedArea, answerAt, areaAt, internAnswer, internArea, emptied}
 use Rattle.arena.specs.declared.Probe.{Probe}
 use Rattle.arena.specs.declared.Probe.the-variants.{Held, Free, Nowhere}
 use Rattle.arena.specs.declared.Answer.{Answer}
@@ -49,6 +51,13 @@ module _ (nodes words places : ℕ) (l : Limits nodes words places) where
   pub kept-empty : (a : List ℕ) → areaWords nodes words places ≤ length a → count a ≡ 0 → start a 0 ≡ 0 →
       ((i : ℕ) → i < places → getD a (placeAt nodes i) 0 ≡ 0) → Kept nodes words places a []
   kept-empty = H.holds-empty nodes words places (places-positive nodes words places l) (place places) (place-below nodes words places l)
+
+  pub kept-emptied : (a : List ℕ) → areaWords nodes words places ≤ length a → Kept nodes words places (emptied a nodes places) []
+  unfolding emptied count start
+  kept-emptied a long =
+      kept-empty (cleared (placeAt nodes places) a) (rw (length-cleared (placeAt nodes places) a) long)
+      (getD-cleared (placeAt nodes places) a 0 (omega arith)) (getD-cleared (placeAt nodes places) a 1 (omega arith))
+      (λ i h. getD-cleared (placeAt nodes places) a (placeAt nodes i) (omega arith))
 
   module _ (a : List ℕ) (s : Nodes) (h : Kept nodes words places a s) where
     abbrev places-read : ℕ → ℕ

@@ -6,11 +6,11 @@ use native.Mathlib.Omega.{arith}
 use lib.ListN.{length, getD, take}
 use Rattle.horn.specs.Rulebook.{Symbol}
 use Rattle.horn.specs.StoredTerms.{Term}
-use Rattle.arena.specs.Store.{areaWords, placeAt, wordAt, wordsAt, count, start, sizeOf, headOf, argumentOf}
+use Rattle.arena.specs.Store.{areaWords, placeAt, wordAt, wordsAt, count, start, sizeOf, headOf, argumentOf, emptied}
 use Rattle.arena.proofs.Copies.{getD-wordsAt}
 use Rattle.arena.proofs.Nodes.{Node, Nodes, nodeOf, total, total-next}
 use Rattle.arena.proofs.Limits.{Limits}
-use Rattle.arena.proofs.Interning.{Kept, kept-empty}
+use Rattle.arena.proofs.Interning.{Kept, kept-empty, kept-emptied}
 use Rattle.arena.proofs.Trees.{Trees, Formed, treeOf, build, stand-empty}
 
 module _ (nodes words places : ℕ) (a : List ℕ) (s : Nodes) (h : Kept nodes words places a s) (k : ℕ) (b : k < length s) where
@@ -46,6 +46,10 @@ module _ (symbolAt : ℕ → Symbol) (used : ℕ → Type 0) (nodes words places
       ((i : ℕ) → i < places → getD a (placeAt nodes i) 0 ≡ 0) → Trees symbolAt used nodes words places a []
   trees-empty l a long none first zeros =
       record { nodesOf = []; kept = kept-empty nodes words places l a long none first zeros; stand = stand-empty symbolAt used }
+
+  pub trees-emptied : Limits nodes words places → (a : List ℕ) → areaWords nodes words places ≤ length a →
+      Trees symbolAt used nodes words places (emptied a nodes places) []
+  trees-emptied l a long = record { nodesOf = []; kept = kept-emptied nodes words places l a long; stand = stand-empty symbolAt used }
 
   module _ (a : List ℕ) (ts : List Term) (t : Trees symbolAt used nodes words places a ts) where
     pub trees-counted : count a ≡ length ts

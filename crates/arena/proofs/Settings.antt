@@ -4,12 +4,14 @@ use mathlib.Core.Path.{_≡_, refl}
 use mathlib.Core.List.{List}
 use lib.Dec.{lit<, lit≤}
 use lib.ListN.{length}
+use Rattle.horn.specs.Refusals.{number}
 use Rattle.horn.specs.Setting.{Setting, document01}
 use Rattle.horn.specs.Rulebook.{Symbol}
 use Rattle.horn.specs.StoredTerms.{Term}
 use Rattle.horn.proofs.Run.{storeOf}
 use Rattle.arena.specs.Probing.{startPlace}
-use Rattle.arena.specs.Store.{internAnswer, internArea}
+use Rattle.arena.specs.Store.{internAnswer, internArea, answered}
+use Rattle.arena.specs.declared.Answer.the-variants.{Full}
 use Rattle.arena.proofs.Nodes.{Node}
 use Rattle.arena.proofs.Limits.{Limits, shifted, trailing-power}
 use Rattle.arena.proofs.Trees.{Trees, Formed, InternedTree, build, interned-tree}
@@ -31,6 +33,11 @@ start-01 h = shifted h 4_096 12 (trailing-power 12 (lit< tt)) (lit< tt)
 
 pub start-larger : (h : ℕ) → startPlace h 524_288 ≡ h / 2 ^ (64 - 19)
 start-larger h = shifted h 524_288 19 (trailing-power 19 (lit< tt)) (lit< tt)
+
+-- The number of a full store.
+pub full-is-28 : answered Full .number ≡ 28
+unfolding answered number
+full-is-28 = refl
 
 -- What `interned-tree` says of a setting.
 abbrev pub Law : (ℕ → Symbol) → (ℕ → Type 0) → Setting → ℕ → Type 0

@@ -48,6 +48,13 @@ module _ (symbolAt : ℕ → Symbol) where
   abbrev pub treeOf : List Term → ℕ → Term
   treeOf ts k = getD ts k blank
 
+  -- A longer store leaves what a number stands for, and a new number stands for the new tree.
+  pub same-tree : (ts us : List Term) (k : ℕ) → k < length ts → treeOf (ts ++ us) k ≡ treeOf ts k
+  same-tree ts us k h = List·getD-append ts us blank k h
+
+  pub new-tree : (ts : List Term) (t : Term) → treeOf (ts ++ (t ∷ [])) (length ts) ≡ t
+  new-tree ts t = getD-append-seam ts t [] blank
+
   unfoldable pub lookups : List Term → List ℕ → Terms
   lookups ts [] = []ₜ
   lookups ts (m ∷ ms) = treeOf ts m ∷ₜ lookups ts ms

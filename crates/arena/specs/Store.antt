@@ -1,11 +1,11 @@
 -- The store in one area, in this order: the number of nodes; the nodes' starts, one more than there may be nodes, the last in use being
--- the number of words; the index; the nodes' words. A key is a node's words, head first, lent as a part of other words.
+-- the number of words; the index; the nodes' words. The first two words are the counts of an empty store. A key is a node's words, head first, lent as a part of other words.
 use Prim.Native.Nat.{ℕ, zero, suc, _+_, _-_}
 use mathlib.Core.Bool.{Bool, true, false}
 use mathlib.Core.List.{List, [], _∷_}
 use lib.Dec.{leb, ltb}
 use lib.ListN.{length, getD, set}
-use Rattle.words.specs.Parts.{part, sameBytes}
+use Rattle.words.specs.Parts.{part, sameBytes, cleared}
 use Rattle.words.specs.Hash.{hash}
 use Rattle.horn.specs.Refusals.{number, storeFull}
 use Rattle.arena.specs.Probing.{probe, startPlace}
@@ -97,6 +97,9 @@ internAnswer a nodes words places key = answerAt a nodes words key (searched a n
 
 unfoldable pub internArea : List ℕ → ℕ → ℕ → ℕ → List ℕ → List ℕ
 internArea a nodes words places key = areaAt a nodes words places key (searched a nodes places key)
+
+unfoldable pub emptied : List ℕ → ℕ → ℕ → List ℕ
+emptied a nodes places = cleared (placeAt nodes places) a
 
 -- A node's words, by its number: how many there are, its head, and an argument.
 unfoldable pub sizeOf : List ℕ → ℕ → ℕ

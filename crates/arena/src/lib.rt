@@ -5,10 +5,10 @@ ghost use lib.ListN.{getD};
 ghost use Rattle.words.specs.Parts.{sameBytes};
 ghost use Rattle.arena.specs.Probing.{probe, startPlace};
 ghost use Rattle.arena.specs.Store.{placeAt, wordAt, copied, count, isKey, addedAnswer, addedArea};
-ghost use Rattle.arena.specs.Store.{internAnswer, internArea, internReport, answered, sizeOf, headOf, argumentOf};
+ghost use Rattle.arena.specs.Store.{internAnswer, internArea, internReport, answered, emptied, sizeOf, headOf, argumentOf};
 
 // Where probing the index ends: at the node that is asked for, at a free place, or nowhere, which a store within its limits rules out.
-pub enum Probe {
+enum Probe {
     Held(u32),
     Free(u32),
     Nowhere,
@@ -133,6 +133,13 @@ pub fn intern(a: &mut [u32], nodes: u32, limit: u32, places: u32, key: &[u32]) -
         Probe::Free(i) => add(a, nodes, limit, places, key, i),
         Probe::Nowhere => Answer::Full,
     }
+}
+
+// Empties the store: zero counts and a zero index. The nodes' words stay as they are.
+pub fn empty(a: &mut [u32], nodes: u32, places: u32)
+    ensures { λ r. ⌜ now (a .exit) ≡ emptied (now (a .entry)) nodes places ⌝ }
+{
+    words::clear(a, 2 + nodes as usize + places as usize);
 }
 
 // How many nodes there are.

@@ -201,7 +201,8 @@ fn run(a: &mut [u32]) {
     share(a);
     to_nodes(a);
     when_full(a);
-    prepare(a, 1);
+    fill(a, 1);
+    arena::empty(a, NODES, PLACES);
     to_words(a);
     past_words(a);
 }
