@@ -1,5 +1,5 @@
 -- The tests of equality that are not in `horn`: of words, and of what stands at a place of a store.
-use Prim.Native.Nat.{ℕ, zero, suc, _<_, _+_}
+use Prim.Native.Nat.{ℕ, zero, suc, _<_}
 use mathlib.Core.Path.{_≡_, refl, sym, ap, _∙_}
 use mathlib.Core.Bool.{Bool, true, false}
 use mathlib.Core.List.{List, [], _∷_}
@@ -10,7 +10,7 @@ use lib.ListN.{length, getD}
 use Rattle.words.specs.Parts.{sameBytes}
 use Rattle.horn.specs.Names.{named, sameList, some-of}
 use Rattle.horn.specs.StoredTerms.{Term, sameTerm, holds}
-use Rattle.horn.proofs.Equality.{Decides, chosen, chose-true, named-decides, sameTerm-decides}
+use Rattle.horn.proofs.Equality.{Decides, named-decides, sameTerm-decides}
 use Rattle.arena.proofs.Cases.{not-both}
 
 same-tests : (x y : List ℕ) → sameBytes x y ≡ named x y

@@ -1,22 +1,15 @@
 -- An area holds a list of nodes: what its words say, region by region; what one more node does to them; what `intern` answers and leaves.
-use Prim.Native.Nat.{ℕ, zero, suc, _+_, _-_, _≤_, _<_}
+use Prim.Native.Nat.{ℕ, _+_, _≤_, _<_}
 use mathlib.Core.Path.{_≡_, refl, sym, ap, _∙_}
-use mathlib.Core.Bool.{Bool, true, false}
 use mathlib.Core.List.{List, [], _∷_, _++_}
 use native.Mathlib.Omega.{arith}
 use native.Mathlib.Decide.{ℕ-discrete}
-use borrow.Author.Tests.{eqb-true, eq-eqb, leb-true, leb-false, ltb-true, ltb-false}
-use lib.Dec.{eqb, leb, ltb}
 use lib.ListN.{length, getD, set, take, length-set, length-append, List·getD-append}
 use lib.Seq.{getD-append-seam, getD-set-same, getD-set-other, take-append-le, take-all, take-length}
 use Rattle.words.specs.Parts.{part, sameBytes}
-use Rattle.words.specs.Hash.{hash}
-use Rattle.arena.specs.Probing.{probe, startPlace}
-use Rattle.arena.specs.Store.{startAt, placeAt, wordAt, areaWords, wordsAt, copied, count, start, isKey, searched, addedAnswer, withNode, addedArea, internAnswer, internArea}
-use Rattle.arena.specs.declared.Probe.{Probe}
-use Rattle.arena.specs.declared.Probe.the-variants.{Held, Free, Nowhere}
-use Rattle.arena.specs.declared.Answer.{Answer}
-use Rattle.arena.specs.declared.Answer.the-variants.{Found, Made, Full}
+use Rattle.arena.specs.Probing.{probe}
+use Rattle.arena.specs.Store.{startAt, placeAt, wordAt, areaWords, wordsAt, copied, count, start, isKey, withNode}
+use Rattle.arena.specs.declared.Probe.the-variants.{Free}
 use Rattle.arena.proofs.Copies.{wordsAt-same, wordsAt-all, wordsAt-part, length-copied, copied-before, copied-there}
 use Rattle.arena.proofs.Nodes.{Node, Nodes, nodeOf, total, total-next, total-most, total-one-more, asked, last-or-before, Indexed}
 use Rattle.arena.proofs.Walks

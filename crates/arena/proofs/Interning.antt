@@ -1,7 +1,6 @@
 -- What `intern` answers and leaves, for an area that holds a list of nodes.
-use Prim.Native.Nat.{ℕ, zero, suc, _+_, _-_, _≤_, _<_}
-use mathlib.Core.Path.{_≡_, refl, sym, ap, _∙_}
-use mathlib.Core.Bool.{Bool, true, false}
+use Prim.Native.Nat.{ℕ, _+_, _-_, _≤_, _<_}
+use mathlib.Core.Path.{_≡_, refl, sym, _∙_}
 use mathlib.Core.List.{List, [], _∷_, _++_}
 use native.Mathlib.Omega.{arith}
 use borrow.Author.Tests.{le-leb, lt-leb, lt-ltb, le-ltb}
@@ -11,7 +10,7 @@ use Rattle.words.specs.Hash.{hash}
 use Rattle.words.specs.Parts.{cleared}
 use Rattle.arena.proofs.Copies.{length-cleared, getD-cleared}
 use Rattle.arena.specs.Probing.{probe, startPlace}
-use Rattle.arena.specs.Store.{areaWords, placeAt, count, start, searched, addedAnswer, withNode, addedArea, answerAt, areaAt, internAnswer, internArea, emptied}
+use Rattle.arena.specs.Store.{areaWords, placeAt, count, start, searched, addedAnswer, addedArea, answerAt, areaAt, internAnswer, internArea, emptied}
 use Rattle.arena.specs.declared.Probe.{Probe}
 use Rattle.arena.specs.declared.Probe.the-variants.{Held, Free, Nowhere}
 use Rattle.arena.specs.declared.Answer.{Answer}

@@ -1,10 +1,10 @@
 -- The limits that the laws suppose, and that the start place lies in the index.
-use Prim.Native.Nat.{ℕ, zero, suc, _+_, _-_, _*_, _/_, _%_, _^_, _≤_, _<_}
-use mathlib.Core.Path.{_≡_, refl, sym, ap, _∙_}
-use mathlib.Core.Bool.{Bool, true, false, _&&_}
+use Prim.Native.Nat.{ℕ, zero, suc, _+_, _-_, _*_, _/_, _^_, _≤_, _<_}
+use mathlib.Core.Path.{_≡_, refl, ap, _∙_}
+use mathlib.Core.Bool.{Bool, true, false}
 use mathlib.Core.List.{List, [], _∷_}
 use native.Mathlib.Omega.{arith}
-use native.Mathlib.Nat.{mod-lt, pow-zero, div-lt-iff-lt-mul, le-of-suc-le-suc}
+use native.Mathlib.Nat.{mod-lt}
 use borrow.Author.Tests.{eqb-true, ne-eqb}
 use lib.Count.{trailingZeros}
 use lib.Bits.{bitXor}

@@ -1,17 +1,16 @@
 -- The store as a list of nodes, each a list of words, with an index over their numbers. No layout yet.
-use Prim.Native.Nat.{ℕ, zero, suc, _+_, _-_, _%_, _≤_, _<_}
-use mathlib.Core.Path.{_≡_, refl, sym, ap, _∙_}
-use mathlib.Core.Bool.{Bool, true, false}
+use Prim.Native.Nat.{ℕ, zero, suc, _+_, _≤_, _<_}
+use mathlib.Core.Path.{_≡_}
+use mathlib.Core.Bool.{Bool, true}
 use mathlib.Core.List.{List, [], _∷_, _++_}
 use mathlib.Core.Logic.{⊎-elim}
 use native.Mathlib.Omega.{arith}
-use native.Mathlib.Nat.{eq-or-lt-of-le, le-of-suc-le-suc}
+use native.Mathlib.Nat.{eq-or-lt-of-le}
 use lib.ListN.{length, getD, take, length-append, List·getD-append}
-use lib.Seq.{getD-append-seam, take-append-le, take-all, take-suc}
+use lib.Seq.{getD-append-seam, take-suc}
 use Rattle.words.specs.Parts.{sameBytes}
 use Rattle.arena.specs.Probing.{probe}
 use Rattle.arena.specs.declared.Probe.the-variants.{Held, Free, Nowhere}
-use Rattle.arena.proofs.Cases.{not-both}
 use Rattle.arena.proofs.Equality.{words-decide}
 use Rattle.arena.proofs.Walks
 

@@ -1,16 +1,16 @@
 -- The law of the store on trees: heads are words that stand for symbols, argument numbers stand for earlier trees.
-use Prim.Native.Nat.{ℕ, zero, suc, _+_, _-_, _≤_, _<_}
+use Prim.Native.Nat.{ℕ, suc, _+_, _≤_, _<_}
 use mathlib.Core.Path.{_≡_, refl, sym, ap, _∙_}
-use mathlib.Core.Bool.{Bool, true, false, _&&_}
+use mathlib.Core.Bool.{true, false, _&&_}
 use mathlib.Core.List.{List, [], _∷_, _++_}
 use native.Mathlib.Omega.{arith}
-use native.Mathlib.Nat.{le-of-suc-le-suc, lt-of-not-le}
+use native.Mathlib.Nat.{lt-of-not-le}
 use native.Mathlib.Decide.{decLe}
 use borrow.Author.Tests.{le-leb, lt-leb}
 use lib.Dec.{leb}
 use lib.ListN.{length, getD, length-append, List·getD-append}
 use lib.Seq.{getD-append-seam}
-use Rattle.horn.specs.Refusals.{Result, ok, refused, _>>=_, need, storeFull}
+use Rattle.horn.specs.Refusals.{ok, refused, _>>=_, need, storeFull}
 use Rattle.horn.specs.Setting.{Setting}
 use Rattle.horn.specs.Rulebook.{Symbol}
 use Rattle.horn.specs.StoredTerms.{Term, node, Terms, []ₜ, _∷ₜ_, width, nodeSize, size, holds, withinLimits, intern}
