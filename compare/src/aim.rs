@@ -5,7 +5,8 @@ use crate::draft::{BAD, C, Draft, G, NO_NUMBERS, NUMBERS, R};
 use crate::random::Random;
 use crate::tree::{self, Path, Tree, atom, list};
 
-pub const AIMS: &[u8] = &[3, 4, 5, 6, 7, 8, 9, 10, 11, 12, 13, 14, 15, 16, 17, 18, 19, 20, 21, 22, 23, 24, 25, 26, 27, 29];
+pub const AIMS: &[u8] =
+    &[3, 4, 5, 6, 7, 8, 9, 10, 11, 12, 13, 14, 15, 16, 17, 18, 19, 20, 21, 22, 23, 24, 25, 26, 27, 29];
 
 fn any<T: Clone>(rng: &mut Random, xs: &[T]) -> Option<T> {
     (!xs.is_empty()).then(|| rng.pick(xs).clone())
@@ -162,7 +163,23 @@ fn form(d: &mut Draft, rng: &mut Random) -> Option<()> {
             xs.pop();
         }
         1 if which == R => xs.push(atom("t")),
-        _ => xs[0] = atom(rng.pick(&["gaol", "sort", "ctor", "pred", "rule", "goal", "step", "def", "result", "Step", "?", "goals", "\u{feff}sort"])),
+        _ => {
+            xs[0] = atom(rng.pick(&[
+                "gaol",
+                "sort",
+                "ctor",
+                "pred",
+                "rule",
+                "goal",
+                "step",
+                "def",
+                "result",
+                "Step",
+                "?",
+                "goals",
+                "\u{feff}sort",
+            ]))
+        }
     }
     Some(())
 }
@@ -299,14 +316,12 @@ fn two_sorts(d: &mut Draft, rng: &mut Random) -> Option<()> {
     places.retain(|&(_, _, t)| t != s);
     let (q, j, _) = any(rng, &places)?;
     let fill = |p: usize, tag: &str, places: &[usize]| {
-        let args = (0..d.book.preds[p].inputs.len()).map(|k| if places.contains(&k) { atom("?x") } else { atom(format!("?{tag}{k}")) });
+        let args = (0..d.book.preds[p].inputs.len())
+            .map(|k| if places.contains(&k) { atom("?x") } else { atom(format!("?{tag}{k}")) });
         list(std::iter::once(atom(&d.book.preds[p].name)).chain(args.collect::<Vec<_>>()))
     };
-    let (premises, conclusion) = if p == q {
-        (list([]), fill(p, "a", &[i, j]))
-    } else {
-        (list([fill(p, "a", &[i])]), fill(q, "b", &[j]))
-    };
+    let (premises, conclusion) =
+        if p == q { (list([]), fill(p, "a", &[i, j])) } else { (list([fill(p, "a", &[i])]), fill(q, "b", &[j])) };
     let rule = list([atom("rule"), atom("clash"), premises, conclusion]);
     // Behind the predicates, which come before the first rule.
     let first = d.forms[R].iter().position(|f| f.form("rule")).unwrap_or(d.forms[R].len());

@@ -10,7 +10,8 @@ fn any<T: Clone>(rng: &mut Random, xs: &[T]) -> Option<T> {
 pub fn aim(number: u8, d: &mut Draft, rng: &mut Random) -> Option<()> {
     let steps = d.certificate("step");
     let [own, refs, results] = d.indices();
-    let good = |rng: &mut Random, n: usize| atom(if rng.chance(50) { rng.pick(NUMBERS).to_string() } else { n.to_string() });
+    let good =
+        |rng: &mut Random, n: usize| atom(if rng.chance(50) { rng.pick(NUMBERS).to_string() } else { n.to_string() });
     match number {
         18 => {
             let path = any(rng, &[own, refs, results].concat())?;

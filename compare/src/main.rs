@@ -64,10 +64,12 @@ fn main() {
         ["histogram", n, seed] => histogram::print(number(n) as usize, number(seed), &mut out),
         ["generate", n, seed] => generated(number(n) as usize, number(seed), &mut out),
         ["answers"] => input().lines().try_for_each(|l| writeln!(out, "{}", reply(&oracle::answer(&texts_of(l))))),
-        ["rulebook-answers"] => input().lines().try_for_each(|l| match oracle::rulebook(&texts_of(&format!("{l}\t-\t-")).rulebook) {
-            Some(answer) => writeln!(out, "{answer}"),
-            None => writeln!(out, "outside\t-\t-\t-\t-"),
-        }),
+        ["rulebook-answers"] => {
+            input().lines().try_for_each(|l| match oracle::rulebook(&texts_of(&format!("{l}\t-\t-")).rulebook) {
+                Some(answer) => writeln!(out, "{answer}"),
+                None => writeln!(out, "outside\t-\t-\t-\t-"),
+            })
+        }
         ["second"] => second(oracle::NODES, oracle::WORDS, &mut out),
         ["second", nodes, words] => second(number(nodes) as usize, number(words) as usize, &mut out),
         ["fixed"] => fixed(&mut out),
@@ -147,7 +149,12 @@ fn by_hand(out: &mut impl Write) -> Io {
         };
         if second.is_some_and(|s| s != case.answer) {
             wrong += 1;
-            eprintln!("differs: {}: by hand {}, the opened copy {}", case.reason, case.answer, second.expect("an answer"));
+            eprintln!(
+                "differs: {}: by hand {}, the opened copy {}",
+                case.reason,
+                case.answer,
+                second.expect("an answer")
+            );
         }
         let call = if case.rulebook_alone { "rulebook" } else { "release" };
         let areas = case.areas.as_deref().unwrap_or("-");

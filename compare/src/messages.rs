@@ -49,18 +49,12 @@ const BEGUN: &[(&str, u8)] = &[
 ];
 
 /// After `step N: `.
-const STEP: &[(&str, u8)] = &[
-    ("wrong number of premises", 20),
-    ("invalid binding", 21),
-    ("more than one conclusion", 22),
-];
+const STEP: &[(&str, u8)] =
+    &[("wrong number of premises", 20), ("invalid binding", 21), ("more than one conclusion", 22)];
 
 /// After `step N (RULE): `.
-const STEP_OF_RULE: &[(&str, u8)] = &[
-    ("conclusion mismatch", 23),
-    ("unbound conclusion variable", 26),
-    (STORE_FULL, 28),
-];
+const STEP_OF_RULE: &[(&str, u8)] =
+    &[("conclusion mismatch", 23), ("unbound conclusion variable", 26), (STORE_FULL, 28)];
 
 /// Only the opened copy says this.
 const STORE_FULL: &str = "store full";

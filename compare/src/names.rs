@@ -2,13 +2,34 @@
 use crate::random::Random;
 
 const WORDS: &[&str] = &["sort", "ctor", "pred", "rule", "goal", "step", "result", "def", "by", "hold", "base", "more"];
-const ODD: &[&str] = &["[", "]x", "{}", "a?b", "x?", "+1", "-0", "007", "'", "\"", "\\", "#", "|", ",", ".", "\\n", "1", "0"];
-const BEYOND: &[&str] = &["é", "λ", "漢", "字é", "😀", "a\u{308}", "Ω≠", "ы", "\u{7ff}", "\u{800}", "\u{d7ff}", "\u{e000}",
-    "\u{ffff}", "\u{10000}", "\u{10ffff}", "ß", "\u{fffd}"];
+const ODD: &[&str] =
+    &["[", "]x", "{}", "a?b", "x?", "+1", "-0", "007", "'", "\"", "\\", "#", "|", ",", ".", "\\n", "1", "0"];
+const BEYOND: &[&str] = &[
+    "é",
+    "λ",
+    "漢",
+    "字é",
+    "😀",
+    "a\u{308}",
+    "Ω≠",
+    "ы",
+    "\u{7ff}",
+    "\u{800}",
+    "\u{d7ff}",
+    "\u{e000}",
+    "\u{ffff}",
+    "\u{10000}",
+    "\u{10ffff}",
+    "ß",
+    "\u{fffd}",
+];
 const FEFF_NUL: &[&str] = &["\u{feff}", "\u{feff}a", "a\u{feff}", "\0", "a\0", "\0\0", "\0a"];
 /// Not white space, each next to a character that is, or taken for it elsewhere.
-const NEAR: &[&str] = &["\u{8}", "\u{e}", "\u{1c}", "\u{1f}", "\u{7f}", "\u{84}", "\u{86}", "\u{9f}", "\u{a1}", "\u{167f}", "\u{1681}",
-    "\u{180e}", "\u{1fff}", "\u{200b}", "\u{2027}", "\u{202a}", "\u{202e}", "\u{2030}", "\u{205e}", "\u{2060}", "\u{2fff}", "\u{3001}"];
+const NEAR: &[&str] = &[
+    "\u{8}", "\u{e}", "\u{1c}", "\u{1f}", "\u{7f}", "\u{84}", "\u{86}", "\u{9f}", "\u{a1}", "\u{167f}", "\u{1681}",
+    "\u{180e}", "\u{1fff}", "\u{200b}", "\u{2027}", "\u{202a}", "\u{202e}", "\u{2030}", "\u{205e}", "\u{2060}",
+    "\u{2fff}", "\u{3001}",
+];
 
 pub fn name(rng: &mut Random) -> Vec<u8> {
     let text = match rng.below(100) {

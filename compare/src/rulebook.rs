@@ -151,7 +151,9 @@ impl Rulebook {
     pub fn ground(&self, rng: &mut Random, sort: usize, fuel: usize) -> Option<Term> {
         let least = self.smallest[sort]?;
         let heads: Vec<usize> = (0..self.ctors.len())
-            .filter(|&c| self.ctors[c].output == sort && self.ctors[c].inputs.iter().all(|&s| self.smallest[s].is_some()))
+            .filter(|&c| {
+                self.ctors[c].output == sort && self.ctors[c].inputs.iter().all(|&s| self.smallest[s].is_some())
+            })
             .collect();
         let head = if fuel == 0 { least } else { *rng.pick(&heads) };
         let args = self.ctors[head].inputs.iter().map(|&s| self.ground(rng, s, fuel.saturating_sub(1)));
@@ -186,7 +188,10 @@ impl Rulebook {
     /// The declarations, now and then in another order in which each comes after what it names.
     pub fn trees(&self, rng: &mut Random) -> Vec<Tree> {
         let sorts = self.sorts.iter().map(|s| list([atom("sort"), atom(s)]));
-        let ctors = self.ctors.iter().map(|c| list([atom("ctor"), atom(&c.name), self.names(&c.inputs), atom(&self.sorts[c.output])]));
+        let ctors = self
+            .ctors
+            .iter()
+            .map(|c| list([atom("ctor"), atom(&c.name), self.names(&c.inputs), atom(&self.sorts[c.output])]));
         let preds = self.preds.iter().map(|p| list([atom("pred"), atom(&p.name), self.names(&p.inputs)]));
         let (mut symbols, mut rules): (Vec<Tree>, Vec<Tree>) = (ctors.chain(preds).collect(), Vec::new());
         rules.extend(self.rules.iter().map(|r| self.rule_tree(r)));

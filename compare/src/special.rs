@@ -56,7 +56,8 @@ pub fn doubling(rng: &mut Random) -> (Texts, String) {
         certificate += &format!("(def ?{n} (f ?{} ?{}))", n - 1, n - 1);
     }
     let other = if rng.chance(70) { count } else { rng.below(count) };
-    certificate += &format!("(step 0 any () (?x ?{count}))(step 1 any () (p (f ?{} ?{})))", count - 1, other.saturating_sub(1));
+    certificate +=
+        &format!("(step 0 any () (?x ?{count}))(step 1 any () (p (f ?{} ?{})))", count - 1, other.saturating_sub(1));
     certificate += "(step 2 same (0 1))(result g 2)";
     let texts = Texts {
         rulebook: "(sort t)(ctor z () t)(ctor f (t t) t)(pred p (t))(pred q ())(rule any () (p ?x))(rule same ((p ?x)(p ?x)) (q))".into(),
@@ -89,7 +90,10 @@ pub fn full(rng: &mut Random) -> (Texts, String) {
 
 /// Tokens without sense.
 pub fn soup(rng: &mut Random) -> (Texts, String) {
-    let words = ["(", "(", ")", ")", "sort", "rule", "goal", "step", "def", "result", "?x", "?", "0", "1", "t", "z", "\n", "()", ";"];
+    let words = [
+        "(", "(", ")", ")", "sort", "rule", "goal", "step", "def", "result", "?x", "?", "0", "1", "t", "z", "\n", "()",
+        ";",
+    ];
     let mut texts = bench();
     let mut text = Vec::new();
     for _ in 0..rng.below(12) {

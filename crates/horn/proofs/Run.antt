@@ -78,12 +78,20 @@ storeOf nodes words =
       nodeWords = words;
     }
 
--- The call with three texts, on areas just long enough.
-unfoldable pub release : ℕ → ℕ → List ℕ → List ℕ → List ℕ → Report
+-- The call with three texts, on areas of some lengths, and on areas just long enough.
+unfoldable pub releaseOn : ℕ → ℕ → ℕ → ℕ → ℕ → ℕ → List ℕ → List ℕ → List ℕ → Report
 unfolding storeOf openRefusals openSetting openUtf8 openTokens openNestedLists openNames openRulebook openStoredTerms openChecker openMatching openCertificate openCalls
-release nodes words rulebook goals certificate = releaseCall (storeOf nodes words) 16_384 16_384 16_384 16_384 rulebook goals certificate
+releaseOn a b c d nodes words rulebook goals certificate = releaseCall (storeOf nodes words) a b c d rulebook goals certificate
 
--- The call with the rulebook alone.
-unfoldable pub rulebook : List ℕ → RulebookReport
+unfoldable pub release : ℕ → ℕ → List ℕ → List ℕ → List ℕ → Report
+unfolding releaseOn
+release = releaseOn 16_384 16_384 16_384 16_384
+
+-- The same for the call with the rulebook alone.
+unfoldable pub rulebookOn : ℕ → ℕ → ℕ → ℕ → List ℕ → RulebookReport
 unfolding openRefusals openSetting openUtf8 openTokens openNestedLists openNames openRulebook openStoredTerms openChecker openMatching openCertificate openCalls
-rulebook text = rulebookCall document01 16_384 16_384 16_384 16_384 text
+rulebookOn a b c d text = rulebookCall document01 a b c d text
+
+unfoldable pub rulebook : List ℕ → RulebookReport
+unfolding rulebookOn
+rulebook = rulebookOn 16_384 16_384 16_384 16_384
