@@ -1,2 +1,4 @@
 pub mod Levels
 pub mod Counting
+pub mod Paths
+pub mod Turns
