@@ -3,3 +3,6 @@ pub mod Counting
 pub mod Paths
 pub mod Turns
 pub mod Held
+pub mod Simulation
+pub mod Whole
+pub mod Law

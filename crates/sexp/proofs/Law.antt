@@ -1,0 +1,44 @@
+-- The first walk is the definition's: for every text of at most 8,192 bytes and every area of at least 16,384 words the
+-- answer is the definition's refusal, or the area's first words are the member counts of the definition's nested lists.
+use Prim.Native.Nat.{ℕ, suc, _≤_, _<_}
+use mathlib.Core.Path.{_≡_, refl, ap, sym, subst, _∙_}
+use mathlib.Core.List.{List, []}
+use native.Mathlib.Omega.{arith}
+use lib.ListN.{length, take, getD}
+use lib.Seq.{getD-take}
+use Rattle.horn.specs.Refusals.{Refusal, number, Result, ok, _>>=_}
+use Rattle.horn.specs.Refusals as refusals
+use Rattle.horn.specs.Tokens.{Stream, Token, tokens}
+use Rattle.horn.specs.NestedLists.{items, sexps, Sexps}
+use Rattle.horn.proofs.Counts.{streamLength, few-tokens}
+use Rattle.horn.proofs.Inversion.{not-ok, ok-equal}
+use Rattle.lex.specs.Answers as lexed
+use Rattle.lex.specs.declared.Reader.{Reader}
+use Rattle.sexp.specs.Flattening.{counts}
+use Rattle.sexp.specs.Walk.{Walked, whole, refused, place, Left, walk, walked}
+use Rattle.sexp.proofs.Counting.{counting, counting-sexps}
+use Rattle.sexp.proofs.Held.{start-held}
+use Rattle.sexp.proofs.Simulation.{Agrees, agrees-refused, agrees-whole, Reads, simulates}
+
+-- What a walk leaves where the definition reads so.
+pub data Meets : Left → Result Sexps → Type 0 where
+  meets-refused : {l : Left} (r : Refusal) → l .answer ≡ refused (number r) → Meets l (refusals.refused r)
+  meets-whole : {l : Left} (xs : Sexps) → l .answer ≡ whole (length (counts xs)) → take (length (counts xs)) (l .area) ≡ counts xs
+      → Meets l (ok xs)
+
+meets-of : {l : Left} (m : Result Sexps) → Agrees l (m >>= λ xs. ok (counts xs)) → Meets l m
+unfolding _>>=_
+meets-of (ok xs) (agrees-whole cs e f) = meets-whole xs e f
+meets-of (refusals.refused r) (agrees-refused s e) = meets-refused r e
+
+module _ (text : List ℕ) (Stands : Reader → Stream Token → Type 0) (reads : Reads text Stands) (starts : Stands lexed.start (tokens text)) where
+  meets-by : (area : List ℕ) → length text ≤ 8_192 → 16_384 ≤ length area → Meets (walked text area) (sexps (items (tokens text)))
+  unfolding walked
+  meets-by area short long =
+      let t = few-tokens text in
+      meets-of (sexps (items (tokens text)))
+      (subst
+      (λ (m : Result (List ℕ)). Agrees (walk 8_193 text lexed.start (place 0 0) area) m)
+      (counting-sexps (tokens text))
+      (simulates text Stands reads 8_193 (tokens text) lexed.start (place 0 0) area [] [] starts (omega arith)
+      (start-held (streamLength (tokens text)) area (omega arith) long)))
