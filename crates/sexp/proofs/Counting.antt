@@ -117,7 +117,6 @@ unfolding _>>=_
 on-through (ok a) f g h e = ap ok (e a)
 on-through (refused r) f g h e = refl
 
-
 asked-through : {A B C : Type 0} (u : Result (Unit {0})) (m : Result A) (f : A → B) (g : B → C) (h : A → C) → ((a : A) → h a ≡ g (f a))
     → (u >>= λ _. m >>= λ a. ok (h a)) ≡ ((u >>= λ _. m >>= λ a. ok (f a)) >>= λ b. ok (g b))
 unfolding _>>=_
@@ -137,7 +136,7 @@ below-opening : (is cs : List ℕ) → Below (length cs) is → Below (length (m
 unfolding Below
 below-opening is cs b =
     let e : length (memberOf is cs ++ (0 ∷ [])) ≡ suc (length cs) =
-      length-append (memberOf is cs) (0 ∷ []) ∙ (let h = length-member is cs in omega arith) in
+    length-append (memberOf is cs) (0 ∷ []) ∙ (let h = length-member is cs in omega arith) in
     rw e (omega arith, below-more (length cs) is b)
 
 pub counting-is : (ts : Stream Token) (is cs : List ℕ) → Below (length cs) is

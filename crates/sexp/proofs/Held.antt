@@ -58,17 +58,18 @@ getD-snoc [] (suc k) = refl
 getD-snoc (c ∷ cs) zero = refl
 getD-snoc (c ∷ cs) (suc k) = getD-snoc cs k
 
--- The word of a list's count, in 32 bits, is its count.
-kept-count : (cs area : List ℕ) (i : ℕ) → take (length cs) area ≡ cs → i < length cs → getD area i 0 ≡ getD cs i 0
-kept-count cs area i e h = sym (getD-take (length cs) area i 0 h) ∙ ap (λ (s : List ℕ). getD s i 0) e
+-- The word of a list's count is its count.
+pub count-at : (cs area : List ℕ) (i : ℕ) → take (length cs) area ≡ cs → i < length cs → getD area i 0 ≡ getD cs i 0
+count-at cs area i e h = sym (getD-take (length cs) area i 0 h) ∙ ap (λ (s : List ℕ). getD s i 0) e
 
+-- Also after one more, in 32 bits.
 counted-kept : (cs area : List ℕ) (i : ℕ) → take (length cs) area ≡ cs → i < length cs → getD cs i 0 + 1 ≤ 8_192
     → take (length cs) (counted area i) ≡ bump cs i 1
 unfolding counted
 counted-kept cs area i e h small =
     take-set-lt (length cs) area i _ h
     ∙ ap₂ (λ (s : List ℕ) (v : ℕ). set s i v) e
-    (ap (λ (v : ℕ). (v + 1) % 4_294_967_296) (kept-count cs area i e h) ∙ mod-eq-of-lt (omega (arith, small)))
+    (ap (λ (v : ℕ). (v + 1) % 4_294_967_296) (count-at cs area i e h) ∙ mod-eq-of-lt (omega (arith, small)))
 
 length-counted : (area : List ℕ) (i : ℕ) → length (counted area i) ≡ length area
 unfolding counted
@@ -172,12 +173,11 @@ opened-held is cs left p area deep h =
       kept =
           ap (λ (k : ℕ). take k (listOpened (p .openings) (p .depth) area)) (let z : length (memberOf is cs ++ (0 ∷ [])) ≡ suc (p .openings) = omega arith in z)
           ∙ opened-kept (memberOf is cs) (memberAdded (p .depth) area) (p .openings) (p .depth) (omega arith) (g .kept) (omega arith) (omega arith);
-      stacked =
-          (
-            opened-innermost (set (memberAdded (p .depth) area) (p .openings) 0) (length is) (p .depth) (p .openings) d (omega arith) ∙ n,
-            stacked-above (set (memberAdded (p .depth) area) (p .openings) 0) is (8_192 + p .depth) (p .openings) (omega arith)
+      stacked = (
+        opened-innermost (set (memberAdded (p .depth) area) (p .openings) 0) (length is) (p .depth) (p .openings) d (omega arith) ∙ n,
+        stacked-above (set (memberAdded (p .depth) area) (p .openings) 0) is (8_192 + p .depth) (p .openings) (omega arith)
             (stacked-below (memberAdded (p .depth) area) is (p .openings) 0 (omega arith) (g .stacked)),
-          );
+      );
       below = rw e (omega arith, below-more (length cs) is (h .below));
       room = omega arith;
       small = λ k. let s = g .small k in let t = getD-snoc (memberOf is cs) k in omega arith;

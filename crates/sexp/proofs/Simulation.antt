@@ -107,8 +107,8 @@ module _ (on : Reader → Place → List ℕ → Left) (ts : Stream Token) (r : 
       let d = h .depth in
       shallow-or-deep (length is)
       (λ k. let z : p .depth ≤ 256 = omega (arith, d, k) in
-        agrees-by (goes p p area _ (Atom a e) (area-atom p area a e z) (atom-on p a e z)) (asked (length is) _ k)
-        (ih p _ is (memberOf is cs) (member-held is cs (streamLength ts) p area h)))
+      agrees-by (goes p p area _ (Atom a e) (area-atom p area a e z) (atom-on p a e z)) (asked (length is) _ k)
+      (ih p _ is (memberOf is cs) (member-held is cs (streamLength ts) p area h)))
       (λ k. agrees-by refl (too-deep (length is) _ k) (agrees-refused nesting (stops p area (Atom a e) 4 (atom-deep p a e (omega (arith, d, k))))))
 
   opening-agrees : (p : Place) (area is cs : List ℕ) → Held is cs (suc (streamLength ts)) p area
@@ -118,8 +118,8 @@ module _ (on : Reader → Place → List ℕ → Left) (ts : Stream Token) (r : 
       let d = h .depth in
       shallow-or-deep (length is)
       (λ k. let z : p .depth ≤ 256 = omega (arith, d, k) in
-        agrees-by (goes p _ area _ Opening (area-opening p area z) (opening-on p z)) (asked (length is) _ k)
-        (ih _ _ (length cs ∷ is) (memberOf is cs ++ (0 ∷ [])) (opened-held is cs (streamLength ts) p area z h)))
+      agrees-by (goes p _ area _ Opening (area-opening p area z) (opening-on p z)) (asked (length is) _ k)
+      (ih _ _ (length cs ∷ is) (memberOf is cs ++ (0 ∷ [])) (opened-held is cs (streamLength ts) p area z h)))
       (λ k. agrees-by refl (too-deep (length is) _ k) (agrees-refused nesting (stops p area Opening 4 (opening-deep p (omega (arith, d, k))))))
 
   token-agrees : (got : read.Token) (t : Token) → Same got t → (p : Place) (area is cs : List ℕ) → Held is cs (suc (streamLength ts)) p area

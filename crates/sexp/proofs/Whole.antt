@@ -28,6 +28,7 @@ whole-tokens ts xs e = holds-of (read-sexps ts ∙ onᵣ (λ ys. ok (top ys)) e)
 -- Every list has an opening among the tokens.
 mutual
   unfolding flat counts streamLength
+
   few-one : (x : Sexp) (ts : Stream Token) → length (countsOne x) + streamLength ts ≤ streamLength (flatOne x ts)
   few-one (leaf bytes) ts = omega arith
   few-one (list xs) ts = let h = few-all xs (closing ▹ ts) in omega arith

@@ -1,7 +1,6 @@
 // The first walk over a rulebook: whether all its lists are closed, and how many members each has.
 ghost use mathlib.Core.Path.{_≡_};
 ghost use Rattle.sexp.specs.Walk.{memberAdded, listOpened, stepped, areaStepped, endedAt, walkAnswer, walked};
-
 use lex::Read;
 use lex::Reader;
 use lex::Token;
