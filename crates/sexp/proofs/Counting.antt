@@ -1,5 +1,5 @@
 -- The counts of members kept while the tokens are read are those of the nested lists that come of it.
-use Prim.Native.Nat.{ℕ, zero, suc, _+_, _<_, _≤_}
+use Prim.Native.Nat.{ℕ, zero, suc, _+_, _<_}
 use mathlib.Core.Path.{_≡_, refl, ap, ap₂, sym, _∙_}
 use mathlib.Core.List.{List, [], _∷_, _++_, append-assoc, append-nil}
 use native.Mathlib.Omega.{arith}
@@ -7,7 +7,7 @@ use lib.ListN.{length, getD, set, length-set, length-append, List·getD-append}
 use lib.Seq.{set-append-left, set-at, getD-at, append-snoc}
 use Rattle.horn.specs.Refusals.{Refusal, notUtf8, textEnds, strayClosing, Result, ok, refused, _>>=_}
 use Rattle.horn.specs.Tokens.{Stream, end, bad, _▹_, Token, opening, closing, atom}
-use Rattle.horn.specs.NestedLists.{items, sexps, askedAt, absent, Sexp, leaf, list, Sexps, []ₛ, _∷ₛ_}
+use Rattle.horn.specs.NestedLists.{items, sexps, askedAt, absent, Sexp, leaf, list, []ₛ}
 use Rattle.sexp.specs.Flattening.{size, countsOne, counts}
 use Rattle.sexp.proofs.Levels.{Levels, top, _within_, put, ended-list, read, read-sexps}
 

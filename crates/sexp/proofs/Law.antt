@@ -13,7 +13,7 @@ use Rattle.horn.proofs.Counts.{streamLength, few-tokens}
 use Rattle.lex.specs.Answers as lexed
 use Rattle.lex.specs.declared.Reader.{Reader}
 use Rattle.sexp.specs.Flattening.{flattened, counts}
-use Rattle.sexp.specs.Walk.{Walked, whole, refused, place, Left, walk, walked}
+use Rattle.sexp.specs.Walk.{whole, refused, place, Left, walk, walked}
 use Rattle.sexp.proofs.Counting.{counting-sexps}
 use Rattle.sexp.proofs.Held.{start-held}
 use Rattle.sexp.proofs.Simulation.{Agrees, agrees-refused, agrees-whole, Reads, simulates}
@@ -31,7 +31,7 @@ meets-of (ok xs) (agrees-whole cs e f) = meets-whole xs e f
 meets-of (refusals.refused r) (agrees-refused s e) = meets-refused r e
 
 module _ (text : List ℕ) (Stands : Reader → Stream Token → Type 0) (reads : Reads text Stands) (starts : Stands lexed.start (tokens text)) where
-  meets-by : (area : List ℕ) → length text ≤ 8_192 → 16_384 ≤ length area → Meets (walked text area) (sexps (items (tokens text)))
+  pub meets-by : (area : List ℕ) → length text ≤ 8_192 → 16_384 ≤ length area → Meets (walked text area) (sexps (items (tokens text)))
   unfolding walked
   meets-by area short long =
       let t = few-tokens text in
@@ -43,7 +43,7 @@ module _ (text : List ℕ) (Stands : Reader → Stream Token → Type 0) (reads 
       (start-held (streamLength (tokens text)) area (omega arith) long)))
 
   -- The two cases of a walk, each with what the definition says.
-  cases-by {ℓ} : {C : Type ℓ} (area : List ℕ) → length text ≤ 8_192 → 16_384 ≤ length area
+  pub cases-by {ℓ} : {C : Type ℓ} (area : List ℕ) → length text ≤ 8_192 → 16_384 ≤ length area
       → ((r : Refusal) → sexps (items (tokens text)) ≡ refusals.refused r → (walked text area) .answer ≡ refused (number r) → C)
       → ((xs : Sexps) → sexps (items (tokens text)) ≡ ok xs → tokens text ≡ flattened xs → (walked text area) .answer ≡ whole (length (counts xs))
       → take (length (counts xs)) ((walked text area) .area) ≡ counts xs → C)

@@ -2,15 +2,13 @@
 -- open.
 use Prim.Native.Nat.{ℕ, zero, suc}
 use mathlib.Core.Path.{_≡_, refl, ap, sym, _∙_}
-use mathlib.Core.List.{List}
-use Rattle.horn.specs.Refusals.{Refusal, notUtf8, textEnds, strayClosing, nesting, Result, ok, refused, _>>=_, need}
-use Rattle.horn.specs.Tokens.{Stream, end, bad, _▹_, Token, opening, closing, atom, tokens}
-use Rattle.horn.specs.NestedLists.{Item, word, group, Items, closed, ended, badLine, _then_, Around, all, _inside_}
+use Rattle.horn.specs.Refusals.{Refusal, notUtf8, textEnds, strayClosing, Result, ok, refused, _>>=_, need}
+use Rattle.horn.specs.Tokens.{Stream, end, bad, _▹_, Token, opening, closing, atom}
+use Rattle.horn.specs.NestedLists.{Around}
 use Rattle.horn.specs.NestedLists.{innermost, outer, add, around, items, askedAt, absent, sexp, members, sexps}
 use Rattle.horn.specs.NestedLists.{Sexp, leaf, list, Sexps, []ₛ, _∷ₛ_}
-use Rattle.horn.proofs.Inversion.{afterᵣ, ok-equal, not-ok}
 use Rattle.horn.proofs.Post.{Post, post-ok, post-refused, post-bind, post-after}
-use Rattle.sexp.specs.Flattening.{flatOne, flat, flattened}
+use Rattle.sexp.specs.Flattening.{flatOne, flat}
 
 -- What was read of each list that is open, innermost first, and then at top level.
 pub data Levels : ℕ → Type 0 where

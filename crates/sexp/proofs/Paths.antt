@@ -1,14 +1,12 @@
 -- One law for each way through a token's step and through the end of the text.
 use Prim.Native.Nat.{ℕ, _+_, _-_, _%_, _≤_, _<_}
-use mathlib.Core.Path.{_≡_, refl, ap, sym, _∙_}
+use mathlib.Core.Path.{_≡_, refl}
 use mathlib.Core.List.{List}
 use borrow.Author.Tests.{eq-eqb, ne-eqb, lt-ltb, le-ltb}
 use lib.ListN.{getD}
 use Rattle.horn.specs.Refusals.{number}
-use Rattle.lex.specs.declared.Token.{Token}
 use Rattle.lex.specs.declared.Token.the-variants.{Opening, Closing, Atom}
 use Rattle.sexp.specs.declared.Place.{Place}
-use Rattle.sexp.specs.declared.Step.{Step}
 use Rattle.sexp.specs.declared.Step.the-variants.{On, Refused}
 use Rattle.sexp.specs.Walk.{whole, refused, place, counted, memberAdded, listOpened, stepped, areaStepped, endedAt}
 

@@ -1,7 +1,6 @@
 -- The walk over a reader that stands before some tokens answers as the counting over these tokens.
-use Prim.Native.Nat.{ℕ, zero, suc, _+_, _-_, _%_, _≤_, _<_}
+use Prim.Native.Nat.{ℕ, zero, suc, _+_, _-_, _≤_, _<_}
 use mathlib.Core.Path.{_≡_, refl, ap, ap₂, sym, subst, _∙_}
-use mathlib.Core.Bool.{Bool, true, false}
 use mathlib.Core.List.{List, [], _∷_, _++_}
 use native.Mathlib.Omega.{arith}
 use borrow.Author.Tests.{leb-true, leb-false, le-leb, lt-leb}
@@ -18,9 +17,8 @@ use Rattle.lex.specs.declared.Token as read
 use Rattle.lex.specs.declared.Token.the-variants.{Opening, Closing, Atom}
 use Rattle.lex.specs.declared.Reader.{Reader}
 use Rattle.sexp.specs.declared.Place.{Place}
-use Rattle.sexp.specs.declared.Step.{Step}
 use Rattle.sexp.specs.declared.Step.the-variants.{On, Refused}
-use Rattle.sexp.specs.Walk.{Walked, whole, refused, place, Left, left, memberAdded, listOpened, stepped, areaStepped, endedAt, goesOn, turn, walk}
+use Rattle.sexp.specs.Walk.{whole, refused, Left, left, stepped, areaStepped, endedAt, goesOn, turn, walk}
 use Rattle.sexp.proofs.Counting.{counting, memberOf}
 use Rattle.sexp.proofs.Held.{Held, member-held, opened-held, closed-held}
 use Rattle.sexp.proofs.Paths.{end-top, end-deep, end-open, closing-top, closing-on, opening-deep, opening-on, atom-deep, atom-on}

@@ -1,17 +1,17 @@
 -- A rulebook that is read whole: its tokens are its nested lists written out, and it has no more lists than bytes.
-use Prim.Native.Nat.{ℕ, zero, suc, _+_, _≤_}
-use mathlib.Core.Path.{_≡_, refl, ap, sym, _∙_}
-use mathlib.Core.List.{List, [], _∷_, _++_}
+use Prim.Native.Nat.{ℕ, zero, _+_, _≤_}
+use mathlib.Core.Path.{_≡_, ap, _∙_}
+use mathlib.Core.List.{List, [], _∷_}
 use native.Mathlib.Omega.{arith}
 use lib.ListN.{length, length-append}
-use Rattle.horn.specs.Refusals.{Result, ok, refused, _>>=_}
+use Rattle.horn.specs.Refusals.{Result, ok, refused}
 use Rattle.horn.specs.Tokens.{Stream, end, _▹_, Token, closing, tokens}
 use Rattle.horn.specs.NestedLists.{items, sexps, Sexp, leaf, list, Sexps, []ₛ, _∷ₛ_}
 use Rattle.horn.proofs.Counts.{streamLength, few-tokens}
 use Rattle.horn.proofs.Inversion.{onᵣ, ok-equal, not-ok}
-use Rattle.horn.proofs.Post.{Post, post-ok, post-refused}
+use Rattle.horn.proofs.Post.{Post, post-ok}
 use Rattle.sexp.specs.Flattening.{flatOne, flat, flattened, countsOne, counts}
-use Rattle.sexp.proofs.Levels.{Levels, top, read, written, read-written, read-sexps}
+use Rattle.sexp.proofs.Levels.{top, written, read-written, read-sexps}
 
 holds-of : {A : Type 0} {Q : A → Type 0} {m : Result A} {a : A} → m ≡ ok a → Post Q m → Q a
 holds-of {A} {Q} {m} {a} e p = at m e p

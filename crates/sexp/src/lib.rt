@@ -44,7 +44,7 @@ pub fn open_list(area: &mut [u32], openings: u32, depth: u32)
     words::put(area, 8192 + depth as usize, openings);
 }
 
-// "Asking for an item at depth 257 is refusal 4, before its token is taken": a closing is no item.
+// "Asking for an item at depth 257 is refusal 4, before its token is taken." In a list a closing is looked for first.
 pub fn take(token: Token, area: &mut [u32], place: Place) -> Step
     ensures step { λ r. ⌜ r ≡ stepped token place ⌝ }
     ensures area { λ r. ⌜ now (area .exit) ≡ areaStepped token place (now (area .entry)) ⌝ }
@@ -81,7 +81,7 @@ pub fn take(token: Token, area: &mut [u32], place: Place) -> Step
     }
 }
 
-// The end of the text: "at top level it ends the reading", elsewhere an item is asked for.
+// The end of the text. In a list an item is asked for there: "then end of text is 5".
 pub fn at_end(place: Place) -> Walk
     ensures { λ r. ⌜ walkAnswer r ≡ endedAt place ⌝ }
 {
