@@ -1,14 +1,14 @@
 -- The counts of members kept while the tokens are read are those of the nested lists that come of it.
 use Prim.Native.Nat.{ℕ, zero, suc, _+_, _<_}
 use mathlib.Core.Path.{_≡_, refl, ap, ap₂, sym, _∙_}
-use mathlib.Core.List.{List, [], _∷_, _++_, append-assoc, append-nil}
+use mathlib.Core.List.{List, [], _∷_, _++_, append-nil}
 use native.Mathlib.Omega.{arith}
 use lib.ListN.{length, getD, set, length-set, length-append, List·getD-append}
 use lib.Seq.{set-append-left, set-at, getD-at, append-snoc}
 use Rattle.horn.specs.Refusals.{Refusal, notUtf8, textEnds, strayClosing, Result, ok, refused, _>>=_}
 use Rattle.horn.specs.Tokens.{Stream, end, bad, _▹_, Token, opening, closing, atom}
 use Rattle.horn.specs.NestedLists.{items, sexps, askedAt, absent, Sexp, leaf, list, []ₛ}
-use Rattle.sexp.specs.Flattening.{size, countsOne, counts}
+use Rattle.sexp.specs.Flattening.{size, countsOne, countsAll, counts}
 use Rattle.sexp.proofs.Levels.{Levels, top, _within_, put, ended-list, read, read-sexps}
 
 -- k members more of the i-th list.
@@ -37,7 +37,7 @@ bumps (i ∷ is) cs (xs within l) = bumps is (bump cs i (size xs)) l
 
 unfoldable pub later : {d : ℕ} → Levels d → List ℕ
 later (top xs) = counts xs
-later (xs within l) = counts xs ++ later l
+later (xs within l) = countsAll xs (later l)
 
 unfoldable pub Below : ℕ → List ℕ → Type 0
 Below n [] = Unit {0}
@@ -80,10 +80,10 @@ unfolding bumps memberOf put size
 bumps-put [] cs x l = refl
 bumps-put (i ∷ is) cs x (xs within l) = ap (λ (s : List ℕ). bumps is s l) (sym (bump-bump cs i (size xs)))
 
-later-put : {d : ℕ} (x : Sexp) (l : Levels d) → later (put x l) ≡ countsOne x ++ later l
-unfolding later put counts
+later-put : {d : ℕ} (x : Sexp) (l : Levels d) → later (put x l) ≡ countsOne x (later l)
+unfolding later put counts countsOne
 later-put x (top xs) = refl
-later-put x (xs within l) = append-assoc (countsOne x) (counts xs) (later l)
+later-put x (xs within l) = refl
 
 -- All counts in the end.
 abbrev pub final : (is : List ℕ) → List ℕ → Levels (length is) → List ℕ
@@ -94,7 +94,7 @@ unfolding countsOne
 final-atom is cs bytes l = ap₂ _++_ (sym (bumps-put is cs (leaf bytes) l)) (sym (later-put (leaf bytes) l))
 
 final-closing : (i : ℕ) (is cs : List ℕ) (l : Levels (length is)) → final is cs l ≡ final (i ∷ is) cs ([]ₛ within l)
-unfolding bumps later size counts
+unfolding bumps later size countsAll
 final-closing i is cs l = ap (λ (s : List ℕ). bumps is s l ++ later l) (sym (bump-none cs i))
 
 bump-last : (cs : List ℕ) (n k : ℕ) → length cs ≡ n → bump (cs ++ (0 ∷ [])) n k ≡ cs ++ (k ∷ [])
@@ -105,9 +105,9 @@ final-opening : (is cs : List ℕ) (l : Levels (suc (length is))) → Below (len
     → final (length cs ∷ is) (memberOf is cs ++ (0 ∷ [])) l ≡ final is cs (ended-list l)
 unfolding bumps later ended-list countsOne
 final-opening is cs (xs within l) b =
-    ap (λ (s : List ℕ). bumps is s l ++ (counts xs ++ later l)) (bump-last (memberOf is cs) (length cs) (size xs) (length-member is cs))
-    ∙ ap (λ (s : List ℕ). s ++ (counts xs ++ later l)) (bumps-append is (memberOf is cs) (size xs ∷ []) l (rw (length-member is cs) b))
-    ∙ append-snoc (bumps is (memberOf is cs) l) (size xs) (counts xs ++ later l)
+    ap (λ (s : List ℕ). bumps is s l ++ countsAll xs (later l)) (bump-last (memberOf is cs) (length cs) (size xs) (length-member is cs))
+    ∙ ap (λ (s : List ℕ). s ++ countsAll xs (later l)) (bumps-append is (memberOf is cs) (size xs ∷ []) l (rw (length-member is cs) b))
+    ∙ append-snoc (bumps is (memberOf is cs) l) (size xs) (countsAll xs (later l))
     ∙ ap₂ _++_ (sym (bumps-put is cs (list xs) l)) (sym (later-put (list xs) l))
 
 -- Over any results of the parts.
@@ -141,7 +141,7 @@ below-opening is cs b =
 
 pub counting-is : (ts : Stream Token) (is cs : List ℕ) → Below (length cs) is
     → counting is cs ts ≡ (read (length is) ts >>= λ l. ok (final is cs l))
-unfolding counting read Below absent bumps later counts _>>=_
+unfolding counting read Below absent bumps later counts countsAll _>>=_
 counting-is end [] cs b = ap ok (sym (append-nil cs))
 counting-is end (i ∷ is) cs b = ended-through (askedAt (suc (length is))) textEnds (final (i ∷ is) cs)
 counting-is bad is cs b = refl

@@ -37,9 +37,9 @@ module _ (text : List ℕ) (Stands : Reader → Stream Token → Type 0) (reads 
       let t = few-tokens text in
       meets-of (sexps (items (tokens text)))
       (subst
-      (λ (m : Result (List ℕ)). Agrees (walk 8_193 text lexed.start (place 0 0) area) m)
+      (λ (m : Result (List ℕ)). Agrees (walked text area) m)
       (counting-sexps (tokens text))
-      (simulates text Stands reads 8_193 (tokens text) lexed.start (place 0 0) area [] [] starts (omega arith)
+      (simulates text Stands reads _ (tokens text) lexed.start (place 0 0) area [] [] starts (omega arith)
       (start-held (streamLength (tokens text)) area (omega arith) long)))
 
   -- The two cases of a walk, each with what the definition says.

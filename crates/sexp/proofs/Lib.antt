@@ -5,4 +5,5 @@ pub mod Turns
 pub mod Held
 pub mod Simulation
 pub mod Whole
+pub mod Ahead
 pub mod Law

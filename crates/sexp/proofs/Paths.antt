@@ -23,13 +23,13 @@ module _ (p : Place) where
   unfolding endedAt
   end-top e = rw (eq-eqb (p .depth) 0 e, endedAt)
 
-  pub end-deep : (p .depth ≡ 0 → ⊥) → 256 < p .depth → endedAt p ≡ refused 4
-  unfolding endedAt number
-  end-deep e h = rw (ne-eqb (p .depth) 0 e, endedAt, lt-ltb 256 (p .depth) h)
-
   pub end-open : (p .depth ≡ 0 → ⊥) → p .depth ≤ 256 → endedAt p ≡ refused 5
   unfolding endedAt number
   end-open e h = rw (ne-eqb (p .depth) 0 e, endedAt, le-ltb 256 (p .depth) h)
+
+  pub end-deep : (p .depth ≡ 0 → ⊥) → 256 < p .depth → endedAt p ≡ refused 4
+  unfolding endedAt number
+  end-deep e h = rw (ne-eqb (p .depth) 0 e, endedAt, lt-ltb 256 (p .depth) h)
 
   pub closing-top : p .depth ≡ 0 → stepped Closing p ≡ Refused 6
   unfolding stepped number
@@ -39,21 +39,21 @@ module _ (p : Place) where
   unfolding stepped
   closing-on e = rw (ne-eqb (p .depth) 0 e, stepped)
 
-  pub opening-deep : 256 < p .depth → stepped Opening p ≡ Refused 4
-  unfolding stepped number
-  opening-deep h = rw (lt-ltb 256 (p .depth) h, stepped)
-
   pub opening-on : p .depth ≤ 256 → stepped Opening p ≡ On (place ((p .openings + 1) % 4_294_967_296) (p .depth + 1))
   unfolding stepped
   opening-on h = rw (le-ltb 256 (p .depth) h, stepped)
 
-  pub atom-deep : (s e : ℕ) → 256 < p .depth → stepped (Atom s e) p ≡ Refused 4
+  pub opening-deep : 256 < p .depth → stepped Opening p ≡ Refused 4
   unfolding stepped number
-  atom-deep s e h = rw (lt-ltb 256 (p .depth) h, stepped)
+  opening-deep h = rw (lt-ltb 256 (p .depth) h, stepped)
 
   pub atom-on : (s e : ℕ) → p .depth ≤ 256 → stepped (Atom s e) p ≡ On p
   unfolding stepped
   atom-on s e h = rw (le-ltb 256 (p .depth) h, stepped)
+
+  pub atom-deep : (s e : ℕ) → 256 < p .depth → stepped (Atom s e) p ≡ Refused 4
+  unfolding stepped number
+  atom-deep s e h = rw (lt-ltb 256 (p .depth) h, stepped)
 
   module _ (area : List ℕ) where
     pub area-closing : areaStepped Closing p area ≡ area

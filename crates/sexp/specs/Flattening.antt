@@ -1,7 +1,7 @@
 -- What the first walk says of a rulebook that it reads whole: its tokens are its nested lists written out, and how many
 -- members each list has.
 use Prim.Native.Nat.{ℕ, zero, suc}
-use mathlib.Core.List.{List, [], _∷_, _++_}
+use mathlib.Core.List.{List, [], _∷_}
 use Rattle.horn.specs.Tokens.{Stream, end, _▹_, Token, opening, closing, atom}
 use Rattle.horn.specs.NestedLists.{Sexp, leaf, list, Sexps, []ₛ, _∷ₛ_}
 
@@ -24,12 +24,16 @@ unfoldable pub size : Sexps → ℕ
 size []ₛ = zero
 size (x ∷ₛ xs) = suc (size xs)
 
--- The number of members of each list, in the order of their openings.
+-- The number of members of each list, in the order of their openings, in front of other counts.
 unfoldable mutual
-  pub countsOne : Sexp → List ℕ
-  countsOne (leaf bytes) = []
-  countsOne (list xs) = size xs ∷ counts xs
+  pub countsOne : Sexp → List ℕ → List ℕ
+  countsOne (leaf bytes) cs = cs
+  countsOne (list xs) cs = size xs ∷ countsAll xs cs
 
-  pub counts : Sexps → List ℕ
-  counts []ₛ = []
-  counts (x ∷ₛ xs) = countsOne x ++ counts xs
+  pub countsAll : Sexps → List ℕ → List ℕ
+  countsAll []ₛ cs = cs
+  countsAll (x ∷ₛ xs) cs = countsOne x (countsAll xs cs)
+
+-- The member counts of a text whose nested lists these are.
+unfoldable pub counts : Sexps → List ℕ
+counts xs = countsAll xs []
