@@ -1,0 +1,5 @@
+pub mod Table
+pub mod Grammar
+pub mod Whiteness
+pub mod Turns
+pub mod Answering
