@@ -3,3 +3,8 @@ pub mod Grammar
 pub mod Whiteness
 pub mod Turns
 pub mod Answering
+pub mod Streams
+pub mod Lines
+pub mod Skipping
+pub mod Standing
+pub mod Positions
