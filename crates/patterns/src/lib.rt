@@ -220,6 +220,16 @@ pub fn head(text: &[u8], counts: &[u32], members: u32, w: Walk) -> Named
     next_atom(text, counts, w)
 }
 
+// Whether an atom has one byte.
+pub fn is_bare(s: usize, t: usize) -> bool
+    ensures { λ r. ⌜ r ≡ eqb (t - s) 1 ⌝ }
+{
+    if t <= s {
+        return false;
+    }
+    t - s == 1
+}
+
 // The variable of the rule that has this name, in order of their first places, as the Rust looks for it.
 pub fn find_variable(text: &[u8], vars: &[u32], variables: u32, s: usize, t: usize) -> Found
     ensures { λ r. ⌜ answered r ≡ position (now (text .entry)) (now (vars .entry)) variables s t ⌝ }
@@ -276,10 +286,8 @@ pub fn schematic(
 ) -> Walked
     ensures { λ r. ⌜ (walked r leaving (now (vars .exit), now (heap .exit))) ≡ schematic (now (text .entry)) s t sort w (now (vars .entry)) (now (heap .entry)) ⌝ }
 {
-    if s < t {
-        if t - s == 1 {
-            return Walked::Refused(11);
-        }
+    if is_bare(s, t) {
+        return Walked::Refused(11);
     }
     let found = find_variable(text, vars, w.variables, s, t);
     match found {
