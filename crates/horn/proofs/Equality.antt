@@ -1,11 +1,10 @@
 -- Each Boolean test of equality is true exactly where the two are equal; and what the searches of a list find.
-use Prim.Native.Nat.{ℕ}
 use mathlib.Core.Path.{_≡_, refl, sym, ap, ap₂, subst, _∙_}
 use mathlib.Core.Bool.{Bool, true, false, not, _&&_, true≢false}
 use mathlib.Core.List.{List, [], _∷_, List·Memᴰ, List·Memᴰ·head, List·Memᴰ·tail}
-use mathlib.Core.Option.{Option, none, some}
-use lib.Dec.{T, eqb, leb, eqb→eq, eqb-refl}
-use Rattle.horn.specs.Names.{Name, named, sameList, first, some-of}
+use mathlib.Core.Option.{none, some}
+use lib.Dec.{T, eqb, eqb→eq, eqb-refl}
+use Rattle.horn.specs.Names.{named, sameList, first, some-of}
 use Rattle.horn.specs.Rulebook.{Output, sort, judgment, sameOutput, Symbol, symbol, sameSymbol}
 use Rattle.horn.specs.StoredTerms.{Term, node, Terms, []ₜ, _∷ₜ_, sameTerm, sameTerms}
 

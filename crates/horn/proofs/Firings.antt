@@ -9,13 +9,13 @@ use Rattle.horn.specs.Calls.{Report, report, RulebookReport, rulebookRep
 use Rattle.horn.proofs.Run.{release, rulebook}
 
 -- The bench set.
-pub R : List ℕ
+unfoldable pub R : List ℕ
 R = codes "(sort t)(ctor z () t)(ctor s (t) t)(pred hold (t))(rule base () (hold z))(rule more ((hold ?x)) (hold (s ?x)))"
 
-pub G : List ℕ
+unfoldable pub G : List ℕ
 G = codes "(goal g (hold (s z)))"
 
-pub C : List ℕ
+unfoldable pub C : List ℕ
 C = codes "(step 0 base ())\n(step 1 more (0))\n(result g 1)\n"
 
 -- The call with three texts, on areas just long enough.

@@ -1,24 +1,23 @@
 -- A rule's patterns that were read are well-sorted under the variables that were read with them.
 use Prim.Native.Nat.{ℕ, zero}
 use mathlib.Core.Path.{_≡_, refl, sym, ap, subst, _∙_}
-use mathlib.Core.Bool.{Bool, true, false, not, true≢false}
+use mathlib.Core.Bool.{true, true≢false}
 use mathlib.Core.List.{List, [], _∷_, _++_, List·Memᴰ, List·Memᴰ·head, List·Memᴰ·tail}
-use mathlib.Core.Option.{Option, none, some}
+use mathlib.Core.Option.{none, some}
 use lib.Dec.{eqb}
 use lib.ListN.{length}
 use native.Mathlib.Omega.{arith}
-use Rattle.horn.specs.Refusals
-use Rattle.horn.specs.Refusals.{Result, ok, refused, need, found, _>>=_}
-use Rattle.horn.specs.Names.{Name, named, questioned, bare, first, some-of}
+use Rattle.horn.specs.Refusals.{ok}
+use Rattle.horn.specs.Names.{Name, named, questioned, first}
 use Rattle.horn.specs.NestedLists.{Sexp, leaf, list, Sexps, []ₛ, _∷ₛ_}
 use Rattle.horn.specs.Rulebook
 use Rattle.horn.specs.Rulebook.{Symbol, symbol, Output, sameOutput, sort, judgment, Variable, variable, Pattern, var, app, Patterns, []ₚ, _∷ₚ_}
-use Rattle.horn.specs.Rulebook.{Rule, rule, Theory, Keyword, sortWord, ctorWord, predWord, ruleWord, otherWord}
-use Rattle.horn.proofs.Equality.{both, chosen, case, eqb-decides, named-decides, sameOutput-decides, first-some, first-none}
-use Rattle.horn.proofs.Inversion.{not-ok, none-some, ok-equal, afterᵣ, afterNeedᵣ, afterFoundᵣ, was-found, chosen-option}
+use Rattle.horn.specs.Rulebook.{Theory}
+use Rattle.horn.proofs.Equality.{both, chosen, eqb-decides, named-decides, sameOutput-decides, first-some, first-none}
+use Rattle.horn.proofs.Inversion.{not-ok, ok-equal, afterᵣ, afterNeedᵣ, was-found, chosen-option}
 use Rattle.horn.proofs.SoundnessWords.{Sorted, a-variable, a-term, AllSorted, no-pattern, pattern-then, SortedJudgment}
-use Rattle.horn.proofs.SoundnessWords.{a-judgment, sorted-in-more, all-sorted-in-more, judgment-in-more, Throughout}
-use Rattle.horn.proofs.SoundnessWords.{at-variable, in-term, ThroughoutAll, in-none, in-next, Covers, OneSort, RuleFormed, WellFormed}
+use Rattle.horn.proofs.SoundnessWords.{a-judgment, sorted-in-more, judgment-in-more, Throughout}
+use Rattle.horn.proofs.SoundnessWords.{at-variable, in-term, ThroughoutAll, in-next, Covers, OneSort}
 
 -- Members of a list with one entry more.
 pub in-longer : {A : Type 0} {a : A} {xs : List A} (ys : List A) → List·Memᴰ a xs → List·Memᴰ a (xs ++ ys)
@@ -122,18 +121,20 @@ pub record JudgmentsRead (symbols : List Symbol) (vs : List Variable) (q : List 
   pub extends : Extends (λ P. (p : Pattern) → List·Memᴰ p (q .0) → Throughout P p) vs (q .1)
   pub sorted : (p : Pattern) → List·Memᴰ p (q .0) → SortedJudgment symbols (q .1) p
 
-known-variable : (symbols : List Symbol) (name s : Name) (vs : List Variable) {q : Pattern × List Variable} (v : Variable)
-    → first (Rulebook.isVariable name) vs ≡ some v
-    → (elim v [ variable n t ↦ need (named s t) Refusals.twoSorts >>= λ _. ok (var name, vs) ]) ≡ ok q
-    → ReadAs symbols vs s q
+known-variable : (symbols : List Symbol) (name s n t : Name) (vs : List Variable)
+    → first (Rulebook.isVariable name) vs ≡ some (variable n t)
+    → named s t ≡ true
+    → ReadAs symbols vs s (var name, vs)
 unfolding Rulebook.isVariable
-known-variable symbols name s vs (variable n t) f e =
-    afterNeedᵣ _ _ _ e λ p e₁.
+known-variable symbols name s n t vs f p =
     let (m, h) = first-some (Rulebook.isVariable name) vs f in
     let same-name = named-decides .equal name n h in
     let same-sort = named-decides .equal s t p in
     let here : List·Memᴰ (variable name s) vs = subst (λ w. List·Memᴰ w vs) (cc) m in
-    subst (ReadAs symbols vs s) (ok-equal e₁) record { extends = extends-none vs; sorted = a-variable here }
+    record { extends = extends-none vs; sorted = a-variable here }
+
+parts : (v : Variable) → (n : Name) × (t : Name) × (v ≡ variable n t)
+parts (variable n t) = (n, t, refl)
 
 read-schematic : (symbols : List Symbol) (name s : Name) (vs : List Variable) {q : Pattern × List Variable}
     → Rulebook.schematic name s vs ≡ ok q
@@ -144,7 +145,10 @@ read-schematic symbols name s vs e =
     chosen-option (first (Rulebook.isVariable name) vs) e₁
     (λ f e₂. subst (ReadAs symbols vs s) (ok-equal e₂)
     record { extends = extends-new name s vs f; sorted = a-variable (at-end (variable name s) vs) })
-    (λ v f e₂. known-variable symbols name s vs v f e₂)
+    (λ v f e₂.
+    let (n, t, is) = parts v in
+    afterNeedᵣ _ _ _ (rw is at e₂) λ h e₃.
+    subst (ReadAs symbols vs s) (ok-equal e₃) (known-variable symbols name s n t vs (f ∙ ap some is) h))
 
 -- A constructor over arguments that were read, and a predicate.
 read-term : {symbols : List Symbol} {vs : List Variable} (name s : Name) (n : ℕ) (c : Symbol) {q : Patterns × List Variable}

@@ -1,11 +1,12 @@
 -- Well-formed rules, and `Derivable` is right: in a well-formed theory it is closed under the rules, and it lies in every
 -- closed set.
 use mathlib.Core.Path.{_≡_, refl, sym, subst}
-use mathlib.Core.List.{List, [], _∷_, map, List·Memᴰ}
+use mathlib.Core.Logic.{Lift}
+use mathlib.Core.List.{List, [], _∷_, List·Memᴰ}
 use Rattle.horn.specs.Names.{Name}
 use Rattle.horn.specs.Rulebook.{Symbol, symbol, sort, judgment, Variable, variable, Pattern, var, app, Patterns, []ₚ, _∷ₚ_}
 use Rattle.horn.specs.Rulebook.{Rule, Theory, variablesOf, premisesOf, conclusionOf}
-use Rattle.horn.specs.StoredTerms.{Term, node, Terms, []ₜ, _∷ₜ_}
+use Rattle.horn.specs.StoredTerms.{Term}
 use Rattle.horn.specs.Forced.{Ground, ground, Grounds, none-left, and-then, WellSorted, well-sorted, Assignment, substitute}
 use Rattle.horn.specs.Forced.{substituteAll, Instance, IsInstance, premises, conclusion, Each, IsClosed, Forced, Derivable}
 use Rattle.horn.specs.Forced.{derive, Derivables, all-derived, derived}
@@ -50,6 +51,16 @@ mutual
   pub data ThroughoutAll (P : Name → Type 0) : Patterns → Type 0 where
     in-none : ThroughoutAll P []ₚ
     in-next : {p : Pattern} {ps : Patterns} → Throughout P p → ThroughoutAll P ps → ThroughoutAll P (p ∷ₚ ps)
+
+module _ {P Q : Name → Type 0} (f : (name : Name) → P name → Q name) where
+  mutual
+    pub throughout-by : {p : Pattern} → Throughout P p → Throughout Q p
+    throughout-by (at-variable h) = at-variable (f _ h)
+    throughout-by (in-term hs) = in-term (throughout-all-by hs)
+
+    pub throughout-all-by : {ps : Patterns} → ThroughoutAll P ps → ThroughoutAll Q ps
+    throughout-all-by in-none = in-none
+    throughout-all-by (in-next h hs) = in-next (throughout-by h) (throughout-all-by hs)
 
 abbrev pub Covers : (Name → Type 0) → List Variable → Type 0
 Covers P vs = (name s : Name) → List·Memᴰ (variable name s) vs → P name
@@ -120,6 +131,17 @@ pub derivable-closed : {th : Theory} → WellFormed th → IsClosed th (Derivabl
 derivable-closed w =
     record { members = derivable-well-sorted w; closed = λ i is ds. derive i is (derivables (premises i) ds) refl }
 
--- So what is forced among the sets of the lowest level is derivable: the two words are one.
-pub derivable-of-forced : {th : Theory} {j : Term} → WellFormed th → Forced {0} th j → Derivable th j
-derivable-of-forced {th} w f = f (Derivable th) (derivable-closed w)
+-- There is such a set at every level, so that what is forced at any level is derivable: the two words are one.
+lowered {ℓ} : (th : Theory) (js : List Term) → Each (λ j. Lift {0, ℓ} (Derivable th j)) js → Each (Derivable th) js
+lowered th [] ds = tt
+lowered th (j ∷ js) ds = (ds .0 .lower, lowered th js (ds .1))
+
+pub derivable-closed-at {ℓ} : {th : Theory} → WellFormed th → IsClosed th (λ j. Lift {0, ℓ} (Derivable th j))
+derivable-closed-at {th} w =
+    record {
+      members = λ j d. derivable-well-sorted w j (d .lower);
+      closed = λ i is ds. record { lower = derive i is (derivables (premises i) (lowered th (premises i) ds)) refl };
+    }
+
+pub derivable-of-forced {ℓ} : {th : Theory} {j : Term} → WellFormed th → Forced {ℓ} th j → Derivable th j
+derivable-of-forced {th} w f = (f (λ j. Lift (Derivable th j)) (derivable-closed-at w)) .lower
