@@ -15,9 +15,7 @@ ghost use Rattle.patterns.specs.Leaving.{_leaving_};
 ghost use Rattle.patterns.specs.Items.{named, numbered, walked, sum32, pushed};
 ghost use Rattle.patterns.specs.Patterns.{position, introduced, metAgain, schematic, applied, constant, leaf, compoundHead};
 ghost use Rattle.patterns.specs.Patterns.{pattern, arguments, judgment, judgments};
-use lex::Read;
 use lex::Reader;
-use lex::Token;
 use names::Found;
 
 pub mod items;
