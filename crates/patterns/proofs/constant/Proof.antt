@@ -1,0 +1,40 @@
+-- `patterns::constant` meets its contract. Assumes nothing.
+use borrow.Author.Needs.{needs}
+use Rattle.patterns.specs.Patterns.{constant}
+use Rattle.patterns.proofs.constant.Statement.{statement}
+use Rattle.patterns.proofs.constant.Tie as tie
+
+apply-requires : tie.Need-apply-requires
+apply-requires c κs = search needs
+
+enum-known-a : tie.Need-enum-known-a
+enum-known-a c = search needs
+
+enum-known-a-2 : tie.Need-enum-known-a-2
+enum-known-a-2 c = search needs
+
+same-length : tie.Need-same-length
+same-length c = search needs
+
+returns : tie.Need-returns
+unfolding constant
+returns c = rw (← c .before .before .before .before .before .apply .ensures, c .before .a .given .1)
+
+same-length-2 : tie.Need-same-length-2
+same-length-2 c = search needs
+
+returns-2 : tie.Need-returns-2
+unfolding constant
+returns-2 c = rw (← c .before .before .before .before .before .apply .ensures, c .before .a2 .given .1)
+
+pub constant-spec : {M : Type 1} → statement M
+constant-spec =
+    tie.close
+    (tie.spec
+    apply-requires
+    enum-known-a
+    enum-known-a-2
+    same-length
+    returns
+    same-length-2
+    returns-2)

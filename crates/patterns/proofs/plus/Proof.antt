@@ -1,0 +1,18 @@
+-- `patterns::plus` meets its contract. Assumes nothing.
+use borrow.Author.Needs.{needs}
+use Rattle.patterns.specs.Items.{sum32}
+use Rattle.patterns.proofs.plus.Statement.{statement}
+use Rattle.patterns.proofs.plus.Tie as tie
+
+add-result : tie.Need-add-result
+add-result c = search needs
+
+cast-result : tie.Need-cast-result
+cast-result c = search needs
+
+returns : tie.Need-returns
+unfolding sum32
+returns c = search needs
+
+pub plus-spec : {M : Type 1} → statement M
+plus-spec = tie.close (tie.spec add-result cast-result returns)

@@ -1,0 +1,24 @@
+-- `patterns::push` meets its contract. Assumes nothing.
+use borrow.Author.Needs.{needs}
+use Rattle.patterns.specs.Items.{pushed}
+use Rattle.patterns.proofs.push.Statement.{statement}
+use Rattle.patterns.proofs.push.Tie as tie
+
+cast-put : tie.Need-cast-put
+cast-put c = search needs
+
+put-requires : tie.Need-put-requires
+put-requires c κs = search needs
+
+plus-requires : tie.Need-plus-requires
+plus-requires c κs = search needs
+
+same-length : tie.Need-same-length
+same-length c = search needs
+
+returns : tie.Need-returns
+unfolding pushed
+returns c = rw (c .plus .ensures, c .before .before .before .before .put .ensures)
+
+pub push-spec : {M : Type 1} → statement M
+push-spec = tie.close (tie.spec cast-put put-requires plus-requires same-length returns)
