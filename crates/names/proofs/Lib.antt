@@ -1,0 +1,5 @@
+pub mod Turns
+pub mod Holds
+pub mod Kept
+pub mod Declared
+pub mod Firings
