@@ -1,0 +1,5 @@
+pub mod Frames
+pub mod Items
+pub mod Ready
+pub mod Lookups
+pub mod Leaves
