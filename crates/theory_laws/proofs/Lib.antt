@@ -3,3 +3,4 @@ pub mod Items
 pub mod Ready
 pub mod Lookups
 pub mod Leaves
+pub mod Patterns

@@ -1,9 +1,10 @@
 -- An answer of the walk beside the definition's: the same refusal by its number, or values that are related.
 use Prim.Native.Nat.{ℕ}
 use mathlib.Core.Path.{_≡_, refl, sym}
-use mathlib.Core.Bool.{Bool, true, false, true≢false}
+use mathlib.Core.Bool.{Bool, true, false, _&&_, true≢false}
 use mathlib.Core.Option.{Option, none, some}
 use Rattle.horn.specs.Refusals.{Refusal, number, Result, ok, refused, _>>=_, need, found}
+use Rattle.names.specs.Tables.{Agree, both-none, both-some}
 use Rattle.patterns.specs.Outcomes as outcomes
 use Rattle.patterns.specs.Outcomes.{Outcome}
 use Rattle.patterns.specs.Leaving as leaving
@@ -51,3 +52,86 @@ test true {b′ = true} n r f f′ e q k = k refl
 test false {b′ = false} n r f f′ e q k = refuse q
 test true {b′ = false} n r f f′ e q k = absurd (true≢false e)
 test false {b′ = true} n r f f′ e q k = absurd (true≢false (sym e))
+
+-- Two tests with one refusal, for one test of the definition.
+pub tests : {S C D : Type 0} {R : C → S → D → Type 0} {s : S} (b₁ b₂ : Bool) {b′ : Bool} (n : ℕ) (r : Refusal)
+    (f : Unit {0} × S → Did S C) (f′ : Unit {0} → Result D)
+    → (b₁ && b₂) ≡ b′
+    → n ≡ number r
+    → (b′ ≡ true → Simulates R (f (tt, s)) (f′ tt))
+    → Simulates R (leaving._>>=_ (outcomes.need b₁ n leaving s) (λ x. leaving._>>=_ (outcomes.need b₂ n leaving s) f)) (need b′ r >>= f′)
+unfolding _>>=_ need
+tests true b₂ n r f f′ e q k = test b₂ n r f f′ e q k
+tests false b₂ {b′ = false} n r f f′ e q k = refuse q
+tests false b₂ {b′ = true} n r f f′ e q k = absurd (true≢false (sym e))
+
+-- Something looked for, and what follows where it is found.
+pub look : {S A C D : Type 0} {Means : ℕ → A → Type 0} {R : C → S → D → Type 0} {o : Option ℕ} {o′ : Option A} {s : S} (n : ℕ) (r : Refusal)
+    (f : ℕ × S → Did S C) (f′ : A → Result D)
+    → Agree Means o o′
+    → n ≡ number r
+    → ((e : ℕ) (a : A) → Means e a → Simulates R (f (e, s)) (f′ a))
+    → Simulates R (leaving._>>=_ (outcomes.orElse o n leaving s) f) (found o′ r >>= f′)
+unfolding _>>=_ found
+look n r f f′ both-none q k = refuse q
+look n r f f′ (both-some m) q k = k _ _ m
+
+-- What follows a search and its test: the definition looks and tests, then goes on.
+pub checked : {S A C D E : Type 0} {Q : A → S → C → Type 0} {R : E → S → D → Type 0} {m : Did S A} (m′ : Result C) (g : C → Bool) (r : Refusal)
+    (f : A × S → Did S E) (f′ : C → Result D)
+    → Simulates Q m (m′ >>= λ c. need (g c) r >>= λ _. ok c)
+    → ((a : A) (s : S) (c : C) → Q a s c → Simulates R (f (a, s)) (f′ c))
+    → Simulates R (leaving._>>=_ m f) (m′ >>= λ c. need (g c) r >>= λ _. f′ c)
+unfolding _>>=_ need
+checked {Q} {R} {m} (ok c) g r f f′ h k = by (g c) h where
+  by : (b : Bool) → Simulates Q m (need b r >>= λ _. ok c) → Simulates R (leaving._>>=_ m f) (need b r >>= λ _. f′ c)
+  by true h = bind f (λ x. f′ x) h k
+  by false h = bind f (λ x. f′ x) h k
+checked (refused r′) g r f f′ h k = bind f f′ h k
+
+-- The same where the walk leaves an area beside another.
+pub aside : {P S A B : Type 0} {Q : A → S → B → Type 0} {R : A → P × S → B → Type 0} {m : Did S A} {m′ : Result B} (p : P)
+    → Simulates Q m m′
+    → ((a : A) (s : S) (b : B) → Q a s b → R a (p, s) b)
+    → Simulates R (leaving.beside p m) m′
+aside p (refuse e) k = refuse e
+aside p (leave q) k = leave (k _ _ _ q)
+
+pub bind-aside : {P S A B C D : Type 0} {Q : A → S → B → Type 0} {R : C → P × S → D → Type 0} {m : Did S A} {m′ : Result B} (p : P)
+    (f : A × (P × S) → Did (P × S) C) (f′ : B → Result D)
+    → Simulates Q m m′
+    → ((a : A) (s : S) (b : B) → Q a s b → Simulates R (f (a, (p, s))) (f′ b))
+    → Simulates R (leaving._>>=_ (leaving.beside p m) f) (m′ >>= f′)
+unfolding _>>=_
+bind-aside p f f′ (refuse e) k = refuse e
+bind-aside p f f′ (leave q) k = k _ _ _ q
+
+pub checked-aside : {P S A C D E : Type 0} {Q : A → S → C → Type 0} {R : E → P × S → D → Type 0} {m : Did S A} (p : P) (m′ : Result C) (g : C → Bool) (r : Refusal)
+    (f : A × (P × S) → Did (P × S) E) (f′ : C → Result D)
+    → Simulates Q m (m′ >>= λ c. need (g c) r >>= λ _. ok c)
+    → ((a : A) (s : S) (c : C) → Q a s c → Simulates R (f (a, (p, s))) (f′ c))
+    → Simulates R (leaving._>>=_ (leaving.beside p m) f) (m′ >>= λ c. need (g c) r >>= λ _. f′ c)
+unfolding _>>=_ need
+checked-aside {Q} {R} {m} p (ok c) g r f f′ h k = by (g c) h where
+  by : (b : Bool) → Simulates Q m (need b r >>= λ _. ok c) → Simulates R (leaving._>>=_ (leaving.beside p m) f) (need b r >>= λ _. f′ c)
+  by true h = bind-aside p f (λ x. f′ x) h k
+  by false h = bind-aside p f (λ x. f′ x) h k
+checked-aside p (refused r′) g r f f′ h k = bind-aside p f f′ h k
+
+pub tested-aside : {P S A C D E : Type 0} {Q : A → S → C → Type 0} {R : E → P × S → D → Type 0} {m : Did S A} (p : P) (b : Bool) (r₀ : Refusal) (m′ : Result C) (g : C → Bool) (r : Refusal)
+    (f : A × (P × S) → Did (P × S) E) (f′ : C → Result D)
+    → Simulates Q m (need b r₀ >>= λ _. m′ >>= λ c. need (g c) r >>= λ _. ok c)
+    → ((a : A) (s : S) (c : C) → Q a s c → Simulates R (f (a, (p, s))) (f′ c))
+    → Simulates R (leaving._>>=_ (leaving.beside p m) f) (need b r₀ >>= λ _. m′ >>= λ c. need (g c) r >>= λ _. f′ c)
+unfolding _>>=_ need
+tested-aside p true r₀ m′ g r f f′ h k = checked-aside p m′ g r f f′ h k
+tested-aside p false r₀ m′ g r f f′ h k = bind-aside p f f′ h k
+
+-- A value that the definition makes of what was read.
+pub after : {S A B C : Type 0} {Q : A → S → B → Type 0} {R : A → S → C → Type 0} {m : Did S A} {m′ : Result B} (g : B → C)
+    → Simulates Q m m′
+    → ((a : A) (s : S) (b : B) → Q a s b → R a s (g b))
+    → Simulates R m (m′ >>= λ b. ok (g b))
+unfolding _>>=_
+after g (refuse e) k = refuse e
+after g (leave q) k = leave (k _ _ _ q)
