@@ -83,10 +83,10 @@ module _ (vars : List ℕ) (v s t a : ℕ) where
         getD-set-same (set (set vars (3 * v) (s % 4294967296)) (3 * v + 1) (t % 4294967296)) (3 * v + 2) a 0 (simp length-set (omega arith))
 
 module _ (text counts : List ℕ) (Before : Reader → Stream Token → Type 0) (th : Theory) (es : Entries) (base : ℕ) where
-  abbrev Was : ℕ → Stream Token → List ℕ → List Variable → Walk → List ℕ → List ℕ → Type 0
+  abbrev pub Was : ℕ → Stream Token → List ℕ → List Variable → Walk → List ℕ → List ℕ → Type 0
   Was = Ready text counts Before th es base
 
-  abbrev Left : Stream Token → List ℕ → List Variable → ℕ → List ℕ → Walk → Areas → Pattern × List Variable → Type 0
+  abbrev pub Left : Stream Token → List ℕ → List Variable → ℕ → List ℕ → Walk → Areas → Pattern × List Variable → Type 0
   Left = PatternRead text counts Before th es base
 
   module _ {credit : ℕ} {ts : Stream Token} {ks : List ℕ} {vs : List Variable} {w : Walk} {vars heap : List ℕ} (r : Was credit ts ks vs w vars heap) where

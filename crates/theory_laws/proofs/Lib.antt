@@ -4,3 +4,4 @@ pub mod Ready
 pub mod Lookups
 pub mod Leaves
 pub mod Patterns
+pub mod Judgments

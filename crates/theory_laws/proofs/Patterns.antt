@@ -48,10 +48,10 @@ alone (x ∷ₛ xs) = ne-eqb (suc (suc (size xs))) 1 (λ e. omega arith)
 
 module _ (text counted : List ℕ) (Before : Reader → Stream Token → Type 0) (reads : Reads text Before) (short : length text ≤ 8192)
     (th : Theory) (es : Entries) (base : ℕ) where
-  abbrev Was : ℕ → Stream Token → List ℕ → List Variable → Walk → List ℕ → List ℕ → Type 0
+  abbrev pub Was : ℕ → Stream Token → List ℕ → List Variable → Walk → List ℕ → List ℕ → Type 0
   Was = Ready text counted Before th es base
 
-  abbrev Left : Stream Token → List ℕ → List Variable → ℕ → List ℕ → Walk → Areas → Pattern × List Variable → Type 0
+  abbrev pub Left : Stream Token → List ℕ → List Variable → ℕ → List ℕ → Walk → Areas → Pattern × List Variable → Type 0
   Left = PatternRead text counted Before th es base
 
   -- After a token.
@@ -158,7 +158,7 @@ module _ (text counted : List ℕ) (Before : Reader → Stream Token → Type 0)
       → Simulates (Left ts ks vs (w .top) heap) (walk.patternOf (walk.pattern left text counted) text counted a (items.list (size xs) w) vars heap)
       (definition.compound th xs sortName vs)
 
-  abbrev ArgumentsLaw : ℕ → Sexps → Type 0
+  abbrev pub ArgumentsLaw : ℕ → Sexps → Type 0
   ArgumentsLaw left xs =
       (ins : List Name) (o c k : ℕ) (ts : Stream Token) (ks : List ℕ) (vs : List Variable) (w : Walk) (vars heap : List ℕ)
       → o ≡ c + 5 + k
@@ -171,12 +171,12 @@ module _ (text counted : List ℕ) (Before : Reader → Stream Token → Type 0)
       (definition.patterns th xs ins vs)
 
   -- A head that is an atom.
-  head-met : {bytes : List ℕ} {ts : Stream Token} {ks : List ℕ} {w : Walk} (n : ℕ) (m : AtomMet text counted Before reads bytes ts ks w)
+  pub head-met : {bytes : List ℕ} {ts : Stream Token} {ks : List ℕ} {w : Walk} (n : ℕ) (m : AtomMet text counted Before reads bytes ts ks w)
       → headDue text counted (suc n) w ≡ outcomes.ok (m .s, m .t, readOn w (m .next))
   unfolding headDue atomDue
   head-met n m = rw (ne-eqb (suc n) 0 (λ e. omega arith), m .met)
 
-  head-list : {k : ℕ} {ts : Stream Token} {ks : List ℕ} {w : Walk} (n : ℕ) (m : ListMet text counted Before reads k ts ks w)
+  pub head-list : {k : ℕ} {ts : Stream Token} {ks : List ℕ} {w : Walk} (n : ℕ) (m : ListMet text counted Before reads k ts ks w)
       → headDue text counted (suc n) w ≡ outcomes.refused 7
   unfolding headDue atomDue
   head-list n m = rw (ne-eqb (suc n) 0 (λ e. omega arith), m .met)
@@ -186,7 +186,7 @@ module _ (text counted : List ℕ) (Before : Reader → Stream Token → Type 0)
   fits-count name ins out expected n e = sym (eqb-true (length ins) n (both (sameOutput out expected) (eqb (length ins) n) e .1))
 
   -- A symbol put before its arguments.
-  applied-arguments : {ts us : Stream Token} {ks ls : List ℕ} {vs : List Variable} {w : Walk} {vars heap : List ℕ} (left : ℕ) (xs : Sexps) (expected : Output)
+  pub applied-arguments : {ts us : Stream Token} {ks ls : List ℕ} {vs : List Variable} {w : Walk} {vars heap : List ℕ} (left : ℕ) (xs : Sexps) (expected : Output)
       → ArgumentsLaw left xs
       → us ≡ flat xs (closing ▹ ts)
       → ls ≡ counts xs ++ ks
