@@ -138,7 +138,7 @@ keeps-set top heap i v h = record {
 }
 
 module _ {text heap heap′ : List ℕ} {top top′ : ℕ} (k : Keeps top heap heap′) (up : top ≤ top′) where
-  declares-kept : {buckets : ℕ} {entries : List Entry} {A : Type 0} {test : Name → A → Bool} {Means Means′ : ℕ → A → Type 0} {things : List A}
+  pub declares-kept : {buckets : ℕ} {entries : List Entry} {A : Type 0} {test : Name → A → Bool} {Means Means′ : ℕ → A → Type 0} {things : List A}
       → ((e : ℕ) (a : A) → Means e a → Means′ e a)
       → Declares text heap top buckets entries test Means things
       → Declares text heap′ top′ buckets entries test Means′ things

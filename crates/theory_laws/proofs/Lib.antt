@@ -5,3 +5,5 @@ pub mod Lookups
 pub mod Leaves
 pub mod Patterns
 pub mod Judgments
+pub mod Names
+pub mod Adding

@@ -3,7 +3,7 @@ use Prim.Native.Nat.{ℕ, zero, suc, _+_, _*_, _≤_, _<_}
 use mathlib.Core.Path.{_≡_}
 use mathlib.Core.List.{List, [], _∷_}
 use lib.ListN.{length, getD}
-use Rattle.horn.specs.Tokens.{Stream, end, bad, _▹_, Token, opening, closing, atom}
+use Rattle.horn.specs.Tokens.{Stream, end, bad, _▹_, Token, opening, closing, atom, tokens}
 use Rattle.horn.specs.NestedLists.{Sexp, leaf, list, Sexps, []ₛ, _∷ₛ_}
 use Rattle.words.specs.Parts.{part}
 use Rattle.lex.specs.Answers as lexed
@@ -33,7 +33,7 @@ pub record Peeks (text : List ℕ) (Before : Reader → Stream Token → Type 0)
 
 -- What is asked of "this reader stands before these tokens".
 pub record Reads (text : List ℕ) (Before : Reader → Stream Token → Type 0) : Type 0 where
-  pub at-start : (ts : Stream Token) → Before lexed.start ts
+  pub at-start : Before lexed.start (tokens text)
   pub at-token : (r : Reader) (t : Token) (ts : Stream Token) → Before r (t ▹ ts) → Takes text Before r t ts
   pub peek-end : (r : Reader) → Before r end → lexed.peeked text r ≡ lexed.ended
   pub peek-token : (r : Reader) (t : Token) (ts : Stream Token) → Before r (t ▹ ts) → Peeks text Before r t ts

@@ -135,3 +135,12 @@ pub after : {S A B C : Type 0} {Q : A → S → B → Type 0} {R : A → S → C
 unfolding _>>=_
 after g (refuse e) k = refuse e
 after g (leave q) k = leave (k _ _ _ q)
+
+-- One after the other, without areas.
+pub then : {A B C D : Type 0} {Q : A → B → Type 0} {R : C → D → Type 0} {o : Outcome A} {m′ : Result B} (f : A → Outcome C) (f′ : B → Result D)
+    → Answers Q o m′
+    → ((a : A) (b : B) → Q a b → Answers R (f a) (f′ b))
+    → Answers R (outcomes._>>=_ o f) (m′ >>= f′)
+unfolding _>>=_
+then f f′ (both-refuse e) k = both-refuse e
+then f f′ (both-ok q) k = k _ _ q
