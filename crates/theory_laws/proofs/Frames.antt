@@ -48,12 +48,13 @@ module _ {es es′ : Entries} (g : Grown es es′) where
   called-kept judgment m = g .predicates _ m
 
   module _ {heap heap′ : List ℕ} where
-    pub sorts-kept : {o : ℕ} {ss : List Name} (top : ℕ) → Kept top heap heap′ → 1024 ≤ o → o + length ss ≤ top
+    pub sorts-kept : {o : ℕ} {ss : List Name} (top : ℕ) → ((i : ℕ) → o ≤ i → i < top → getD heap′ i 0 ≡ getD heap i 0)
+        → o + length ss ≤ top
         → SortsAt heap es o ss
         → SortsAt heap′ es′ o ss
-    sorts-kept top k l h no-sorts = no-sorts
-    sorts-kept {o} top k l h (one-sort {s} {ss} a r) =
-        one-sort {o = o} {s = s} (rw (k o l (omega arith)) (sort-kept a)) (sorts-kept top k (omega arith) (omega arith) r)
+    sorts-kept top k h no-sorts = no-sorts
+    sorts-kept {o} top k h (one-sort {s} {ss} a r) =
+        one-sort {o = o} {s = s} (rw (k o (omega arith) (omega arith)) (sort-kept a)) (sorts-kept top (λ i l u. k i (omega arith) u) (omega arith) r)
 
     module _ {top top′ : ℕ} (k : Kept top heap heap′) (up : top ≤ top′) where
       pub symbol-kept : {a : ℕ} {c : Symbol} → SymbolAt heap es top a c → SymbolAt heap′ es′ top′ a c
@@ -66,7 +67,7 @@ module _ {es es′ : Entries} (g : Grown es es′) where
             called = called-kept out (w .called);
             gives = rw (k (a + 3) (omega arith) (omega arith)) (output-kept (w .gives));
             arity = k (a + 4) (omega arith) (omega arith) ∙ w .arity;
-            takes = sorts-kept top k (omega arith) (omega arith) (w .takes);
+            takes = sorts-kept top (λ i l u. k i (omega arith) u) (omega arith) (w .takes);
           }
 
       module _ {vs vs′ : List Variable} (more : (v : ℕ) (name : Name) → Nth vs v name → Nth vs′ v name) where
@@ -124,6 +125,9 @@ pub record Keeps (top : ℕ) (heap heap′ : List ℕ) : Type 0 where
 
 pub keeps-all : {top : ℕ} {heap : List ℕ} → Keeps top heap heap
 keeps-all = record { same-length = refl; words = λ i h. refl }
+
+pub keeps-less : {top top′ : ℕ} {a b : List ℕ} → top ≤ top′ → Keeps top′ a b → Keeps top a b
+keeps-less u x = record { same-length = x .same-length; words = λ i h. x .words i (omega arith) }
 
 pub keeps-then : {top top′ : ℕ} {a b c : List ℕ} → top ≤ top′ → Keeps top a b → Keeps top′ b c → Keeps top a c
 keeps-then u x y = record {

@@ -44,12 +44,12 @@ module _ (text counted : List ℕ) (Before : Reader → Stream Token → Type 0)
       → Was 0 (flatOne (list xs) ts) (countsOne (list xs) ++ ks) vs w vars heap
       → Simulates (Left ts ks vs (w .top) heap) (walk.judgment text counted w vars heap) (definition.judgmentOf th xs vs)
 
-  list-due : {k : ℕ} {ts : Stream Token} {ks : List ℕ} {w : Walk} (m : ListMet text counted Before reads k ts ks w)
+  pub list-due : {k : ℕ} {ts : Stream Token} {ks : List ℕ} {w : Walk} (m : ListMet text counted Before reads k ts ks w)
       → listDue text counted w ≡ outcomes.ok (k, openedOne w (m .next))
   unfolding listDue
   list-due m = rw (m .met)
 
-  atom-due : {bytes : List ℕ} {ts : Stream Token} {ks : List ℕ} {w : Walk} (m : AtomMet text counted Before reads bytes ts ks w)
+  pub atom-due : {bytes : List ℕ} {ts : Stream Token} {ks : List ℕ} {w : Walk} (m : AtomMet text counted Before reads bytes ts ks w)
       → listDue text counted w ≡ outcomes.refused 7
   unfolding listDue
   atom-due m = rw (m .met)

@@ -7,3 +7,5 @@ pub mod Patterns
 pub mod Judgments
 pub mod Names
 pub mod Adding
+pub mod SymbolsAdded
+pub mod Symbols

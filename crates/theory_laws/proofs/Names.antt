@@ -97,17 +97,18 @@ module _ (text counted : List ℕ) (Before : Reader → Stream Token → Type 0)
       pub base-low : 1024 ≤ base
       pub room : 3 * w .top + 4 * weight ts + credit ≤ 49152
 
-    pub record InputsRead (ts : Stream Token) (ks : List ℕ) (from : ℕ) (heap : List ℕ) (q : Walk) (heap′ : List ℕ) (ins : List Name) : Type 0 where
+    pub record InputsRead (n : ℕ) (ts : Stream Token) (ks : List ℕ) (from : ℕ) (heap : List ℕ) (q : Walk) (heap′ : List ℕ) (ins : List Name) : Type 0 where
       pub ready : Midway 0 ts ks q heap′
       pub keeps : Keeps from heap heap′
       pub words : q .top ≡ from + length ins
       pub sorts : SortsAt heap′ es from ins
+      pub many : length ins ≡ n
 
     abbrev InputsLaw : Sexps → Type 0
     InputsLaw xs =
         (ts : Stream Token) (ks : List ℕ) (w : Walk) (heap : List ℕ)
         → Midway 0 (flat xs (closing ▹ ts)) (counts xs ++ ks) w heap
-        → Simulates (InputsRead ts ks (w .top) heap) (inputs (size xs) text counted w heap) (definition.sortsNamed th xs)
+        → Simulates (InputsRead (size xs) ts ks (w .top) heap) (inputs (size xs) text counted w heap) (definition.sortsNamed th xs)
 
     inputs-none : InputsLaw []ₛ
     unfolding inputs definition.sortsNamed flat counts size weight
@@ -120,6 +121,7 @@ module _ (text counted : List ℕ) (Before : Reader → Stream Token → Type 0)
           keeps = keeps-all;
           words = omega arith;
           sorts = no-sorts;
+          many = refl;
         })
 
     inputs-more : (x : Sexp) (xs : Sexps) → InputsLaw xs → InputsLaw (x ∷ₛ xs)
@@ -131,8 +133,8 @@ module _ (text counted : List ℕ) (Before : Reader → Stream Token → Type 0)
           us = flat xs (closing ▹ ts)
 
           join : (a : ℕ) (name : Name) (next : Reader) → SortAt es a name → 2 + weight us ≤ weight (flatOne x us) → {q : Walk} {heap′ : List ℕ} {ins : List Name}
-              → InputsRead ts ks (sum32 (w .top) 1) (set heap (w .top) a) q heap′ ins
-              → InputsRead ts ks (w .top) heap q heap′ (name ∷ ins)
+              → InputsRead (size xs) ts ks (sum32 (w .top) 1) (set heap (w .top) a) q heap′ ins
+              → InputsRead (suc (size xs)) ts ks (w .top) heap q heap′ (name ∷ ins)
           join a name next m h {q} {heap′} {ins} k =
               let c = r .room in
               let l = r .holds .long in
@@ -145,10 +147,11 @@ module _ (text counted : List ℕ) (Before : Reader → Stream Token → Type 0)
                 sorts = one-sort {o = w .top} {s = name} {ss = ins}
                 (rw (k .keeps .words (w .top) (rw e (omega arith)), getD-set-same heap (w .top) a 0 (omega arith)) m)
                 (rw (← e) (k .sorts));
+                many = ap suc (k .many);
               }
 
           one : (p : ℕ × Walk) (name : Name) → SortRead es x us (counts xs ++ ks) w p name
-              → Simulates (InputsRead ts ks (w .top) heap)
+              → Simulates (InputsRead (suc (size xs)) ts ks (w .top) heap)
               (leaving._>>=_ (pushed (p .0) (p .1) heap) (λ (q, heap′). inputs (size xs) text counted q heap′))
               (definition.sortsNamed th xs >>= λ ss. ok (name ∷ ss))
           one p name (sort-read {a} {next} m h k) =

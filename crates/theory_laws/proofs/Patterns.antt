@@ -222,7 +222,7 @@ module _ (text counted : List ℕ) (Before : Reader → Stream Token → Type 0)
             let l = y .low in
             law ins (e + 5) e 0 ts ks vs (withTop w (sum32 (w .top) 1)) vars new (omega arith) (fits-count name ins out expected (count xs) f)
             (omega arith) (omega arith)
-            (sorts-kept grown-none base (λ i g k. kept .words i (omega arith)) (omega arith) (omega arith) (y .takes))
+            (sorts-kept grown-none base (λ i g k. kept .words i (omega arith)) (omega arith) (y .takes))
             ready
 
         join : {q′ : Walk} {areas : Areas} {v : Patterns × List Variable} → ArgumentsRead ts ks vs (sum32 (w .top) 1) new q′ areas v
@@ -307,7 +307,7 @@ module _ (text counted : List ℕ) (Before : Reader → Stream Token → Type 0)
       (λ q vars′ heap′ vs′ r′ kept.
       let u = r .above in
       law ins (o + 1) c (k + 1) ts ks vs′ q vars′ heap′ (omega arith) (omega arith) (omega arith) (omega arith)
-      (sorts-kept grown-none base (λ j g f. kept .words j (omega arith)) (omega arith) (omega arith) s)
+      (sorts-kept grown-none base (λ j g f. kept .words j (omega arith)) (omega arith) s)
       r′)
 
   -- By induction on the nested list.

@@ -144,3 +144,30 @@ pub then : {A B C D : Type 0} {Q : A → B → Type 0} {R : C → D → Type 0} 
 unfolding _>>=_
 then f f′ (both-refuse e) k = both-refuse e
 then f f′ (both-ok q) k = k _ _ q
+
+-- A test, and a value with other areas where it holds.
+pub test-then : {S A C D : Type 0} {R : C → S → D → Type 0} (s : S) (b : Bool) {b′ : Bool} (n : ℕ) (r : Refusal) (a : A) (s′ : S)
+    (f : A × S → Did S C) (f′ : Unit {0} → Result D)
+    → b ≡ b′
+    → n ≡ number r
+    → (b′ ≡ true → Simulates R (f (a, s′)) (f′ tt))
+    → Simulates R (leaving._>>=_ (leaving._>>=_ (outcomes.need b n leaving s) (λ _. outcomes.ok a leaving s′)) f) (need b′ r >>= f′)
+unfolding _>>=_ need
+test-then s true {b′ = true} n r a s′ f f′ e q k = k refl
+test-then s false {b′ = false} n r a s′ f f′ e q k = refuse q
+test-then s true {b′ = false} n r a s′ f f′ e q k = absurd (true≢false e)
+test-then s false {b′ = true} n r a s′ f f′ e q k = absurd (true≢false (sym e))
+
+-- Three of the definition's steps as one.
+abbrev pub paired : {A C : Type 0} → A → C → A × C
+paired a c = (a, c)
+
+pub three : {A B C D : Type 0} (m₁ : Result A) (m₂ : Result B) (m₃ : B → Result C) (f : A → C → Result D)
+    → ((m₁ >>= λ a. m₂ >>= λ b. m₃ b >>= λ c. ok (paired a c)) >>= λ p. f (p .0) (p .1)) ≡ (m₁ >>= λ a. m₂ >>= λ b. m₃ b >>= λ c. f a c)
+unfolding _>>=_
+three (refused r) m₂ m₃ f = refl
+three (ok a) (refused r) m₃ f = refl
+three {C} (ok a) (ok b) m₃ f = one (m₃ b) where
+  one : (m : Result C) → ((m >>= λ c. ok (paired a c)) >>= λ p. f (p .0) (p .1)) ≡ (m >>= λ c. f a c)
+  one (ok c) = refl
+  one (refused r) = refl
