@@ -70,18 +70,19 @@ module _ {es es′ : Entries} (g : Grown es es′) where
             takes = sorts-kept top (λ i l u. k i (omega arith) u) (omega arith) (w .takes);
           }
 
-      module _ {vs vs′ : List Variable} (more : (v : ℕ) (name : Name) → Nth vs v name → Nth vs′ v name) where
+      module _ {low high high′ : ℕ} (kw : (i : ℕ) → low ≤ i → i < high → getD heap′ i 0 ≡ getD heap i 0) (rise : high ≤ high′)
+          {vs vs′ : List Variable} (more : (v : ℕ) (name : Name) → Nth vs v name → Nth vs′ v name) where
         mutual
-          pub flat-kept : {o o′ : ℕ} {p : Pattern} → Flat heap es top vs o p o′ → Flat heap′ es′ top′ vs′ o p o′
-          flat-kept {o} (flat-variable {v} {name} l h e n q) = flat-variable l (omega arith) (k o l h ∙ e) (more v name n) q
+          pub flat-kept : {o o′ : ℕ} {p : Pattern} → Flat heap es top low high vs o p o′ → Flat heap′ es′ top′ low high′ vs′ o p o′
+          flat-kept {o} (flat-variable {v} {name} l h e n q) = flat-variable l (omega arith) (kw o l h ∙ e) (more v name n) q
           flat-kept {o} (flat-symbol {c} l h a r) =
-              flat-symbol l (omega arith) (subst (λ (x : ℕ). SymbolAt heap′ es′ top′ x c) (sym (k o l h)) (symbol-kept a)) (flats-kept r)
+              flat-symbol l (omega arith) (subst (λ (x : ℕ). SymbolAt heap′ es′ top′ x c) (sym (kw o l h)) (symbol-kept a)) (flats-kept r)
 
-          pub flats-kept : {o o′ : ℕ} {ps : Patterns} → Flats heap es top vs o ps o′ → Flats heap′ es′ top′ vs′ o ps o′
+          pub flats-kept : {o o′ : ℕ} {ps : Patterns} → Flats heap es top low high vs o ps o′ → Flats heap′ es′ top′ low high′ vs′ o ps o′
           flats-kept no-flats = no-flats
           flats-kept (one-flat p ps) = one-flat (flat-kept p) (flats-kept ps)
 
-        pub premises-kept : {o o′ : ℕ} {ps : List Pattern} → FlatList heap es top vs o ps o′ → FlatList heap′ es′ top′ vs′ o ps o′
+        pub premises-kept : {o o′ : ℕ} {ps : List Pattern} → FlatList heap es top low high vs o ps o′ → FlatList heap′ es′ top′ low high′ vs′ o ps o′
         premises-kept no-premises = no-premises
         premises-kept (one-premise p ps) = one-premise (flat-kept p) (premises-kept ps)
 
@@ -111,8 +112,8 @@ module _ {es es′ : Entries} (g : Grown es es′) where
         variable-count = k (e + 4) (omega arith) (omega arith) ∙ w .variable-count;
         premises-end = w .premises-end;
         conclusion-end = w .conclusion-end;
-        at-premises = premises-kept k up (λ v name n. n) (w .at-premises);
-        at-conclusion = flat-kept k up (λ v name n. n) (w .at-conclusion);
+        at-premises = premises-kept k up (λ i p q. k i (omega arith) q) up (λ v name n. n) (w .at-premises);
+        at-conclusion = flat-kept k up (λ i p q. k i (omega arith) q) up (λ v name n. n) (w .at-conclusion);
         at-variables = variables-kept top (λ i p q. k i (omega arith) q) h (w .at-variables);
         rising = u;
         high = omega arith;

@@ -104,7 +104,7 @@ module _ (text counted : List ℕ) (Before : Reader → Stream Token → Type 0)
   -- "Premises left to right", then the closing.
   pub record JudgmentsRead (ts : Stream Token) (ks : List ℕ) (vs : List Variable) (from : ℕ) (heap : List ℕ) (q : Walk) (areas : Areas) (r : List Pattern × List Variable) : Type 0 where
     pub reached : Reached text counted Before th es base ts ks vs from heap q areas (r .1)
-    pub flats : FlatList (areas .1) es (q .top) (r .1) from (r .0) (q .top)
+    pub flats : FlatList (areas .1) es base (base + 5) (q .top) (r .1) from (r .0) (q .top)
 
   abbrev JudgmentsLaw : Sexps → Type 0
   JudgmentsLaw xs =
@@ -135,6 +135,7 @@ module _ (text counted : List ℕ) (Before : Reader → Stream Token → Type 0)
         join {q} {q′} y z =
             let a = y .reached .rises in
             let b = z .reached .rises in
+            let u = y .reached .ready .above in
             record {
               reached = record {
                 ready = z .reached .ready;
@@ -142,7 +143,7 @@ module _ (text counted : List ℕ) (Before : Reader → Stream Token → Type 0)
                 rises = omega arith;
                 more = λ v e m. z .reached .more v e (y .reached .more v e m);
               };
-              flats = one-premise (flat-kept grown-none (λ i g f. z .reached .keeps .words i f) b (z .reached .more) (y .flat)) (z .flats);
+              flats = one-premise (flat-kept grown-none (λ i g f. z .reached .keeps .words i (omega arith)) (omega arith) (λ i g f. z .reached .keeps .words i f) b (z .reached .more) (y .flat)) (z .flats);
             }
 
   pub judgments-law : (xs : Sexps) → Shallows 258 xs → JudgmentsLaw xs

@@ -259,15 +259,14 @@ module _ (text counts : List ℕ) (Before : Reader → Stream Token → Type 0) 
 
   module _ {ts : Stream Token} {ks : List ℕ} {vs : List Variable} {w : Walk} {vars heap : List ℕ} (r : Was 3 ts ks vs w vars heap) (e : ℕ) where
     -- The word of a symbol stands where it was put, and the symbol stays.
-    pub symbol-word : {c : Symbol} → SymbolAt heap es base e c → SymbolAt (set heap (w .top) e) es (sum32 (w .top) 1) (getD (set heap (w .top) e) (w .top) 0) c
+    pub symbol-word : {c : Symbol} → SymbolAt heap es base e c → SymbolAt (set heap (w .top) e) es base (getD (set heap (w .top) e) (w .top) 0) c
     symbol-word x =
         let u = r .above in
-        let q = top-after r in
         rw (word-there r (omega arith) e)
-        (symbol-kept grown-none (λ i p k. keeps-set base heap (w .top) e u .words i k) (rw q (omega arith)) x)
+        (symbol-kept grown-none (λ i p k. keeps-set base heap (w .top) e (omega arith) .words i k) (omega arith) x)
 
-    pub low-top : 1024 ≤ w .top
-    low-top = let u = r .above in let l = r .base-low in omega arith
+    pub low-top : base + 5 ≤ w .top
+    low-top = r .above
 
     pub top-rises : w .top < sum32 (w .top) 1
     top-rises = rw (top-after r) (omega arith)

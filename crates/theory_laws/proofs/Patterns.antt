@@ -94,7 +94,7 @@ module _ (text counted : List ℕ) (Before : Reader → Stream Token → Type 0)
   -- What reading arguments leaves.
   pub record ArgumentsRead (ts : Stream Token) (ks : List ℕ) (vs : List Variable) (from : ℕ) (heap : List ℕ) (q : Walk) (areas : Areas) (r : Patterns × List Variable) : Type 0 where
     pub reached : Reached text counted Before th es base ts ks vs from heap q areas (r .1)
-    pub flats : Flats (areas .1) es (q .top) (r .1) from (r .0) (q .top)
+    pub flats : Flats (areas .1) es base (base + 5) (q .top) (r .1) from (r .0) (q .top)
 
   -- No argument is left: the closing.
   no-arguments : {ts : Stream Token} {ks : List ℕ} {vs : List Variable} {w : Walk} {vars heap : List ℕ}
@@ -126,6 +126,7 @@ module _ (text counted : List ℕ) (Before : Reader → Stream Token → Type 0)
         join {q} {q′} y z =
             let a = y .reached .rises in
             let b = z .reached .rises in
+            let u = y .reached .ready .above in
             record {
               reached = record {
                 ready = z .reached .ready;
@@ -133,7 +134,7 @@ module _ (text counted : List ℕ) (Before : Reader → Stream Token → Type 0)
                 rises = omega arith;
                 more = λ v e m. z .reached .more v e (y .reached .more v e m);
               };
-              flats = one-flat (flat-kept grown-none (λ i g f. z .reached .keeps .words i f) b (z .reached .more) (y .flat)) (z .flats);
+              flats = one-flat (flat-kept grown-none (λ i g f. z .reached .keeps .words i (omega arith)) (omega arith) (λ i g f. z .reached .keeps .words i f) b (z .reached .more) (y .flat)) (z .flats);
             }
 
         by : (q : Walk) (areas : Areas) (x : Pattern × List Variable) (y : Left us ls vs (w .top) heap q areas x)
@@ -230,6 +231,7 @@ module _ (text counted : List ℕ) (Before : Reader → Stream Token → Type 0)
         join {q′} {areas} {v} k =
             let t = top-rises text counted Before th es base r e in
             let a = k .reached .rises in
+            let u = r .above in
             record {
               reached = record {
                 ready = k .reached .ready;
@@ -239,7 +241,7 @@ module _ (text counted : List ℕ) (Before : Reader → Stream Token → Type 0)
               };
               flat = flat-symbol {o = w .top} {o′ = q′ .top} {c = symbol name ins out} {ps = v .0} (low-top text counted Before th es base r e) (omega arith)
               (rw (k .reached .keeps .words (w .top) t)
-              (symbol-kept grown-none (λ i g h. k .reached .keeps .words i h) a (symbol-word text counted Before th es base r e (symbol-at y))))
+              (symbol-kept grown-none (λ i g h. k .reached .keeps .words i (omega arith)) (omega arith) (symbol-word text counted Before th es base r e (symbol-at y))))
               (rw (← top-after text counted Before th es base r) (k .flats));
             }
 

@@ -52,7 +52,7 @@ module _ (text counts : List ℕ) (Before : Reader → Stream Token → Type 0) 
   pub record Ready (credit : ℕ) (ts : Stream Token) (ks : List ℕ) (vs : List Variable) (w : Walk) (vars heap : List ℕ) : Type 0 where
     pub walks : Walks text counts Before ts ks w
     pub holds : Holds text heap es base th
-    pub above : base ≤ w .top
+    pub above : base + 5 ≤ w .top
     pub base-low : 1024 ≤ base
     pub many : w .variables ≡ length vs
     pub long : length vars ≡ 16384
@@ -68,7 +68,7 @@ module _ (text counts : List ℕ) (Before : Reader → Stream Token → Type 0) 
 
   pub record PatternRead (ts : Stream Token) (ks : List ℕ) (vs : List Variable) (from : ℕ) (heap : List ℕ) (q : Walk) (areas : Areas) (r : Pattern × List Variable) : Type 0 where
     pub reached : Reached ts ks vs from heap q areas (r .1)
-    pub flat : Flat (areas .1) es (q .top) (r .1) from (r .0) (q .top)
+    pub flat : Flat (areas .1) es base (base + 5) (q .top) (r .1) from (r .0) (q .top)
 
   -- One word more.
   pub push-ready : {ts : Stream Token} {ks : List ℕ} {vs : List Variable} {w : Walk} {vars heap : List ℕ} (word : ℕ)
@@ -80,7 +80,7 @@ module _ (text counts : List ℕ) (Before : Reader → Stream Token → Type 0) 
       let e : sum32 (w .top) 1 ≡ w .top + 1 = sum-small (w .top) 1 (omega arith) in
       record {
         walks = record { before = r .walks .before; counted = r .walks .counted; few = r .walks .few };
-        holds = holds-kept (keeps-set base heap (w .top) word a) (omega arith) (r .holds);
+        holds = holds-kept (keeps-set base heap (w .top) word (omega arith)) (omega arith) (r .holds);
         above = rw e (omega arith);
         base-low = r .base-low;
         many = r .many;

@@ -54,25 +54,25 @@ pub data Nth : List Variable → ℕ → Name → Type 0 where
   here : {name s : Name} {vs : List Variable} → Nth (variable name s ∷ vs) 0 name
   there : {x : Variable} {vs : List Variable} {v : ℕ} {name : Name} → Nth vs v name → Nth (x ∷ vs) (suc v) name
 
--- The words from one place up to another are a pattern in preorder.
+-- The words from one place up to another are a pattern in preorder: words between `low` and `top`, for symbols below `bound`.
 mutual
-  pub data Flat (heap : List ℕ) (es : Entries) (top : ℕ) (vs : List Variable) : ℕ → Pattern → ℕ → Type 0 where
-    flat-variable : {o o′ v : ℕ} {name : Name} → 1024 ≤ o → o < top → getD heap o 0 ≡ 16384 + v → Nth vs v name → o′ ≡ o + 1
-        → Flat heap es top vs o (var name) o′
-    flat-symbol : {o o′ : ℕ} {c : Symbol} {ps : Patterns} → 1024 ≤ o → o < top → SymbolAt heap es top (getD heap o 0) c
-        → Flats heap es top vs (o + 1) ps o′
-        → Flat heap es top vs o (app c ps) o′
+  pub data Flat (heap : List ℕ) (es : Entries) (bound low top : ℕ) (vs : List Variable) : ℕ → Pattern → ℕ → Type 0 where
+    flat-variable : {o o′ v : ℕ} {name : Name} → low ≤ o → o < top → getD heap o 0 ≡ 16384 + v → Nth vs v name → o′ ≡ o + 1
+        → Flat heap es bound low top vs o (var name) o′
+    flat-symbol : {o o′ : ℕ} {c : Symbol} {ps : Patterns} → low ≤ o → o < top → SymbolAt heap es bound (getD heap o 0) c
+        → Flats heap es bound low top vs (o + 1) ps o′
+        → Flat heap es bound low top vs o (app c ps) o′
 
-  pub data Flats (heap : List ℕ) (es : Entries) (top : ℕ) (vs : List Variable) : ℕ → Patterns → ℕ → Type 0 where
-    no-flats : {o : ℕ} → Flats heap es top vs o []ₚ o
-    one-flat : {o o₁ o′ : ℕ} {p : Pattern} {ps : Patterns} → Flat heap es top vs o p o₁ → Flats heap es top vs o₁ ps o′
-        → Flats heap es top vs o (p ∷ₚ ps) o′
+  pub data Flats (heap : List ℕ) (es : Entries) (bound low top : ℕ) (vs : List Variable) : ℕ → Patterns → ℕ → Type 0 where
+    no-flats : {o : ℕ} → Flats heap es bound low top vs o []ₚ o
+    one-flat : {o o₁ o′ : ℕ} {p : Pattern} {ps : Patterns} → Flat heap es bound low top vs o p o₁ → Flats heap es bound low top vs o₁ ps o′
+        → Flats heap es bound low top vs o (p ∷ₚ ps) o′
 
 -- The same of a rule's premises.
-pub data FlatList (heap : List ℕ) (es : Entries) (top : ℕ) (vs : List Variable) : ℕ → List Pattern → ℕ → Type 0 where
-  no-premises : {o : ℕ} → FlatList heap es top vs o [] o
-  one-premise : {o o₁ o′ : ℕ} {p : Pattern} {ps : List Pattern} → Flat heap es top vs o p o₁ → FlatList heap es top vs o₁ ps o′
-      → FlatList heap es top vs o (p ∷ ps) o′
+pub data FlatList (heap : List ℕ) (es : Entries) (bound low top : ℕ) (vs : List Variable) : ℕ → List Pattern → ℕ → Type 0 where
+  no-premises : {o : ℕ} → FlatList heap es bound low top vs o [] o
+  one-premise : {o o₁ o′ : ℕ} {p : Pattern} {ps : List Pattern} → Flat heap es bound low top vs o p o₁ → FlatList heap es bound low top vs o₁ ps o′
+      → FlatList heap es bound low top vs o (p ∷ ps) o′
 
 -- Variables, three words each: the bounds of the name and the sort.
 pub data VariablesAt (text area : List ℕ) (es : Entries) : ℕ → List Variable → Type 0 where
@@ -91,8 +91,8 @@ pub record RuleWords (text heap : List ℕ) (es : Entries) (top e : ℕ) (name :
   pub variable-count : getD heap (e + 4) 0 ≡ length vs
   pub premises-end : ℕ
   pub conclusion-end : ℕ
-  pub at-premises : FlatList heap es top vs (e + 5) premises premises-end
-  pub at-conclusion : Flat heap es top vs premises-end conclusion conclusion-end
+  pub at-premises : FlatList heap es top (e + 5) top vs (e + 5) premises premises-end
+  pub at-conclusion : Flat heap es top (e + 5) top vs premises-end conclusion conclusion-end
   pub at-variables : VariablesAt text heap es conclusion-end vs
   pub rising : e + 5 ≤ conclusion-end
   pub high : conclusion-end + 3 * length vs ≤ top
