@@ -9,3 +9,5 @@ pub mod Names
 pub mod Adding
 pub mod SymbolsAdded
 pub mod Symbols
+pub mod Skipping
+pub mod RulesAdded
