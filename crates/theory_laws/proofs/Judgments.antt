@@ -102,15 +102,16 @@ module _ (text counted : List ℕ) (Before : Reader → Stream Token → Type 0)
       let q : d ≡ 257 = omega arith in inside-law xs (rw q at s) ts ks vs w vars heap r
 
   -- "Premises left to right", then the closing.
-  pub record JudgmentsRead (ts : Stream Token) (ks : List ℕ) (vs : List Variable) (from : ℕ) (heap : List ℕ) (q : Walk) (areas : Areas) (r : List Pattern × List Variable) : Type 0 where
+  pub record JudgmentsRead (n : ℕ) (ts : Stream Token) (ks : List ℕ) (vs : List Variable) (from : ℕ) (heap : List ℕ) (q : Walk) (areas : Areas) (r : List Pattern × List Variable) : Type 0 where
     pub reached : Reached text counted Before th es base ts ks vs from heap q areas (r .1)
     pub flats : FlatList (areas .1) es base (base + 5) (q .top) (r .1) from (r .0) (q .top)
+    pub many : n ≡ length (r .0)
 
   abbrev JudgmentsLaw : Sexps → Type 0
   JudgmentsLaw xs =
       (ts : Stream Token) (ks : List ℕ) (vs : List Variable) (w : Walk) (vars heap : List ℕ)
       → Was 0 (flat xs (closing ▹ ts)) (counts xs ++ ks) vs w vars heap
-      → Simulates (JudgmentsRead ts ks vs (w .top) heap) (walk.judgments (size xs) text counted w vars heap) (definition.judgmentPatterns th xs vs)
+      → Simulates (JudgmentsRead (size xs) ts ks vs (w .top) heap) (walk.judgments (size xs) text counted w vars heap) (definition.judgmentPatterns th xs vs)
 
   judgments-none : JudgmentsLaw []ₛ
   unfolding walk.judgments definition.judgmentPatterns flat counts size
@@ -120,6 +121,7 @@ module _ (text counted : List ℕ) (Before : Reader → Stream Token → Type 0)
       (leave record {
         reached = record { ready = after-closing text counted Before reads short th es base r m; keeps = keeps-all; rises = omega arith; more = λ v x n. n };
         flats = no-premises;
+        many = refl;
       })
 
   judgments-more : (x : Sexp) (xs : Sexps) → JudgmentLaw x → JudgmentsLaw xs → JudgmentsLaw (x ∷ₛ xs)
@@ -130,8 +132,8 @@ module _ (text counted : List ℕ) (Before : Reader → Stream Token → Type 0)
       after (λ z. (p .0 ∷ z .0, z .1)) (law ts ks (p .1) q (areas .0) (areas .1) (y .reached .ready)) (λ q′ areas′ xs z. join y z)) where
         join : {q q′ : Walk} {areas areas′ : Areas} {p : Pattern × List Variable} {ps : List Pattern × List Variable}
             → Left (flat xs (closing ▹ ts)) (counts xs ++ ks) vs (w .top) heap q areas p
-            → JudgmentsRead ts ks (p .1) (q .top) (areas .1) q′ areas′ ps
-            → JudgmentsRead ts ks vs (w .top) heap q′ areas′ (p .0 ∷ ps .0, ps .1)
+            → JudgmentsRead (size xs) ts ks (p .1) (q .top) (areas .1) q′ areas′ ps
+            → JudgmentsRead (suc (size xs)) ts ks vs (w .top) heap q′ areas′ (p .0 ∷ ps .0, ps .1)
         join {q} {q′} y z =
             let a = y .reached .rises in
             let b = z .reached .rises in
@@ -144,6 +146,7 @@ module _ (text counted : List ℕ) (Before : Reader → Stream Token → Type 0)
                 more = λ v e m. z .reached .more v e (y .reached .more v e m);
               };
               flats = one-premise (flat-kept grown-none (λ i g f. z .reached .keeps .words i (omega arith)) (omega arith) (λ i g f. z .reached .keeps .words i f) b (z .reached .more) (y .flat)) (z .flats);
+              many = ap suc (z .many);
             }
 
   pub judgments-law : (xs : Sexps) → Shallows 258 xs → JudgmentsLaw xs

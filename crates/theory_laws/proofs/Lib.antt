@@ -11,3 +11,4 @@ pub mod SymbolsAdded
 pub mod Symbols
 pub mod Skipping
 pub mod RulesAdded
+pub mod Rules

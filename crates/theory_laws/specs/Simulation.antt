@@ -171,3 +171,16 @@ three {C} (ok a) (ok b) m₃ f = one (m₃ b) where
   one : (m : Result C) → ((m >>= λ c. ok (paired a c)) >>= λ p. f (p .0) (p .1)) ≡ (m >>= λ c. f a c)
   one (ok c) = refl
   one (refused r) = refl
+
+pub three-on : {A B C D : Type 0} (m₁ : Result A) (m₂ : A → Result B) (m₃ : B → Result C) (f : B → C → Result D)
+    → ((m₁ >>= λ a. m₂ a >>= λ b. m₃ b >>= λ c. ok (paired b c)) >>= λ p. f (p .0) (p .1)) ≡ (m₁ >>= λ a. m₂ a >>= λ b. m₃ b >>= λ c. f b c)
+unfolding _>>=_
+three-on (refused r) m₂ m₃ f = refl
+three-on {B} {C} (ok a) m₂ m₃ f = two (m₂ a) where
+  one : (b : B) (m : Result C) → ((m >>= λ c. ok (paired b c)) >>= λ p. f (p .0) (p .1)) ≡ (m >>= λ c. f b c)
+  one b (ok c) = refl
+  one b (refused r) = refl
+
+  two : (m : Result B) → ((m >>= λ b. m₃ b >>= λ c. ok (paired b c)) >>= λ p. f (p .0) (p .1)) ≡ (m >>= λ b. m₃ b >>= λ c. f b c)
+  two (ok b) = one b (m₃ b)
+  two (refused r) = refl
