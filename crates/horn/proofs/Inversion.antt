@@ -3,6 +3,8 @@ use mathlib.Core.Path.{_≡_, refl, ap, _∙_}
 use mathlib.Core.Bool.{Bool, true, false, true≢false}
 use mathlib.Core.Option.{Option, none, some}
 use Rattle.horn.specs.Refusals.{Refusal, Result, ok, refused, need, found, _>>=_ as _>>=ᵣ_}
+use Rattle.horn.specs.NestedLists.{Sexp, Sexps, []ₛ, _∷ₛ_}
+use Rattle.horn.specs.Rulebook.{oneMember, twoMembers, threeMembers}
 use Rattle.horn.specs.StoredTerms.{Store}
 use Rattle.horn.specs.Checker.{Reading, _>>=_, give, lift}
 
@@ -123,3 +125,27 @@ pub chosen-option {ℓ} : {A B : Type 0} {C : Type ℓ} (o : Option A) {x : B} {
     → C
 chosen-option none e f g = f refl e
 chosen-option (some a) e f g = g a refl e
+
+-- A form with one, two or three members after its head.
+pub afterOne {ℓ} : {A : Type 0} {C : Type ℓ} (xs : Sexps) (f : Sexp → Result A) {a : A} → oneMember xs f ≡ ok a
+    → ((x : Sexp) → xs ≡ x ∷ₛ []ₛ → f x ≡ ok a → C)
+    → C
+unfolding oneMember
+afterOne []ₛ f e k = not-ok e
+afterOne (x ∷ₛ []ₛ) f e k = k x refl e
+afterOne (x ∷ₛ y ∷ₛ xs) f e k = not-ok e
+
+pub afterTwo {ℓ} : {A : Type 0} {C : Type ℓ} (xs : Sexps) (f : Sexp → Sexp → Result A) {a : A} → twoMembers xs f ≡ ok a
+    → ((x y : Sexp) → xs ≡ x ∷ₛ y ∷ₛ []ₛ → f x y ≡ ok a → C)
+    → C
+unfolding twoMembers
+afterTwo []ₛ f e k = not-ok e
+afterTwo (x ∷ₛ xs) f e k = afterOne xs (f x) e λ y p e₁. k x y (ap (λ ys. x ∷ₛ ys) p) e₁
+
+pub afterThree {ℓ} : {A : Type 0} {C : Type ℓ} (xs : Sexps) (f : Sexp → Sexp → Sexp → Result A) {a : A}
+    → threeMembers xs f ≡ ok a
+    → ((x y z : Sexp) → xs ≡ x ∷ₛ y ∷ₛ z ∷ₛ []ₛ → f x y z ≡ ok a → C)
+    → C
+unfolding threeMembers
+afterThree []ₛ f e k = not-ok e
+afterThree (x ∷ₛ xs) f e k = afterTwo xs (f x) e λ y z p e₁. k x y z (ap (λ ys. x ∷ₛ ys) p) e₁

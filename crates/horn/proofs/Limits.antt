@@ -16,12 +16,13 @@ use Rattle.horn.specs.Setting.{Setting, document01}
 use Rattle.horn.specs.NestedLists.{Sexp, Sexps, []ₛ, _∷ₛ_, Items, closed, ended, badLine, _then_, items, sexps}
 use Rattle.horn.specs.Tokens.{tokens}
 use Rattle.horn.specs.Rulebook.{Symbol, symbol, sort, judgment, Theory, Keyword, sortWord, ctorWord, predWord, ruleWord, otherWord, keyword, count}
-use Rattle.horn.specs.Rulebook.{declareSort, withSymbol, declareConstructor, declarePredicate, declareRule, oneMember, twoMembers}
-use Rattle.horn.specs.Rulebook.{threeMembers, declare, headed, declaration, declarations, emptyTheory, theory}
+use Rattle.horn.specs.Rulebook.{declareSort, withSymbol, declareConstructor, declarePredicate, declareRule}
+use Rattle.horn.specs.Rulebook.{declare, headed, declaration, declarations, emptyTheory, theory}
 use Rattle.horn.specs.StoredTerms.{Term, Store, withinLimits, intern, holds}
 use Rattle.horn.specs.Checker.{stored}
 use Rattle.horn.specs.Calls.{Report, RulebookReport, constructorCount, predicateCount, rulebookAnswer, releaseAnswer, rulebookJudged, releaseJudged, rulebookCall, releaseCall}
-use Rattle.horn.proofs.Post.{Post, post-ok, post-refused, post-bind, post-after, post-weaken, either, Keeps}
+use Rattle.horn.proofs.Post.{Post, post-of, post-at, post-ok, post-refused, post-bind, post-after, post-weaken, either, Keeps}
+use Rattle.horn.proofs.Inversion.{afterOne, afterTwo, afterThree}
 use Rattle.horn.proofs.Counts.{itemCount, few-items}
 use Rattle.horn.proofs.Kept.{Any, keeps-goalsOf, keeps-certificateOf}
 
@@ -68,28 +69,12 @@ document01-values = refl
 abbrev Larger : ℕ → Theory → Theory → Type 0
 Larger n th next = length (next .symbols) ≤ length (th .symbols) + n
 
-post-one : {A : Type 0} {Q : A → Type 0} (xs : Sexps) (f : Sexp → Result A) → ((x : Sexp) → Post Q (f x)) → Post Q (oneMember xs f)
-unfolding oneMember
-post-one []ₛ f k = post-refused
-post-one (x ∷ₛ []ₛ) f k = k x
-post-one (x ∷ₛ y ∷ₛ xs) f k = post-refused
-
-post-two : {A : Type 0} {Q : A → Type 0} (xs : Sexps) (f : Sexp → Sexp → Result A) → ((x y : Sexp) → Post Q (f x y)) → Post Q (twoMembers xs f)
-unfolding twoMembers
-post-two []ₛ f k = post-refused
-post-two (x ∷ₛ xs) f k = post-one xs (f x) (k x)
-
-post-three : {A : Type 0} {Q : A → Type 0} (xs : Sexps) (f : Sexp → Sexp → Sexp → Result A) → ((x y z : Sexp) → Post Q (f x y z)) → Post Q (threeMembers xs f)
-unfolding threeMembers
-post-three []ₛ f k = post-refused
-post-three (x ∷ₛ xs) f k = post-two xs (f x) (k x)
-
 larger-declare : (th : Theory) (k : Keyword) (xs : Sexps) → Post (Larger 1 th) (declare th k xs)
 unfolding declare declareSort declareConstructor declarePredicate declareRule withSymbol
-larger-declare th sortWord xs = post-one xs _ λ n. post-after _ _ λ _. post-after _ _ λ _. post-ok (omega arith)
-larger-declare th ctorWord xs = post-three xs _ λ n is o. post-after _ _ λ _. post-after _ _ λ _. post-after _ _ λ _. post-after _ _ λ _. post-after _ _ λ _. post-ok (rw length-append (omega arith))
-larger-declare th predWord xs = post-two xs _ λ n is. post-after _ _ λ _. post-after _ _ λ _. post-after _ _ λ _. post-after _ _ λ _. post-ok (rw length-append (omega arith))
-larger-declare th ruleWord xs = post-three xs _ λ n js j. post-after _ _ λ _. post-after _ _ λ _. post-after _ _ λ _. post-after _ _ λ _. post-after _ _ λ _. post-ok (omega arith)
+larger-declare th sortWord xs = post-of λ next e. afterOne xs _ e λ n _ e₁. post-at {Q = Larger 1 th} e₁ (post-after _ _ λ _. post-after _ _ λ _. post-ok (omega arith))
+larger-declare th ctorWord xs = post-of λ next e. afterThree xs _ e λ n is o _ e₁. post-at {Q = Larger 1 th} e₁ (post-after _ _ λ _. post-after _ _ λ _. post-after _ _ λ _. post-after _ _ λ _. post-after _ _ λ _. post-ok (rw length-append (omega arith)))
+larger-declare th predWord xs = post-of λ next e. afterTwo xs _ e λ n is _ e₁. post-at {Q = Larger 1 th} e₁ (post-after _ _ λ _. post-after _ _ λ _. post-after _ _ λ _. post-after _ _ λ _. post-ok (rw length-append (omega arith)))
+larger-declare th ruleWord xs = post-of λ next e. afterThree xs _ e λ n js j _ e₁. post-at {Q = Larger 1 th} e₁ (post-after _ _ λ _. post-after _ _ λ _. post-after _ _ λ _. post-after _ _ λ _. post-after _ _ λ _. post-ok (omega arith))
 larger-declare th otherWord xs = post-refused
 
 larger-headed : (th : Theory) (xs : Sexps) → Post (Larger 1 th) (headed th xs)

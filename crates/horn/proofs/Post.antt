@@ -1,13 +1,24 @@
 -- What holds of a result if it is no refusal, carried through the ways in which the definition is put together.
+use mathlib.Core.Path.{_≡_, refl, subst}
 use mathlib.Core.Bool.{Bool, true, false}
 use mathlib.Core.Option.{Option, none, some}
 use Rattle.horn.specs.Refusals.{Refusal, Result, ok, refused, need, found, _>>=_}
 use Rattle.horn.specs.StoredTerms.{Store}
+use Rattle.horn.proofs.Inversion.{ok-equal, not-ok}
 use Rattle.horn.specs.Checker.{Reading, give, lift, _>>=_ as _>>=ₛ_}
 
 pub data Post {A : Type 0} (Q : A → Type 0) : Result A → Type 0 where
   post-ok : {a : A} → Q a → Post Q (ok a)
   post-refused : {r : Refusal} → Post Q (refused r)
+
+-- It is what holds of the answer, if there is one.
+pub post-of : {A : Type 0} {Q : A → Type 0} {m : Result A} → ((a : A) → m ≡ ok a → Q a) → Post Q m
+post-of {m = ok a} k = post-ok (k a refl)
+post-of {m = refused r} k = post-refused
+
+pub post-at : {A : Type 0} {Q : A → Type 0} {m : Result A} {a : A} → m ≡ ok a → Post Q m → Q a
+post-at {Q} e (post-ok q) = subst Q (ok-equal e) q
+post-at e post-refused = not-ok e
 
 pub post-bind : {A B : Type 0} {P : A → Type 0} {Q : B → Type 0} {m : Result A} (f : A → Result B) → Post P m → ((a : A) → P a → Post Q (f a)) → Post Q (m >>= f)
 unfolding _>>=_

@@ -8,7 +8,7 @@ use Rattle.horn.specs.NestedLists.{Sexp, Sexps, []ₛ, _∷ₛ_}
 use Rattle.horn.specs.Rulebook
 use Rattle.horn.specs.Rulebook.{Symbol, Variable, Pattern, Rule, rule, Theory}
 use Rattle.horn.specs.Rulebook.{Keyword, sortWord, ctorWord, predWord, ruleWord, otherWord}
-use Rattle.horn.proofs.Inversion.{not-ok, ok-equal, afterᵣ, afterNeedᵣ}
+use Rattle.horn.proofs.Inversion.{afterOne, afterTwo, afterThree, not-ok, ok-equal, afterᵣ, afterNeedᵣ}
 use Rattle.horn.proofs.SoundnessWords.{judgment-in-more, RuleFormed, WellFormed}
 use Rattle.horn.proofs.SoundnessPatterns.{in-longer, in-or-last, JudgmentRead, JudgmentsRead, read-judgment-pattern}
 use Rattle.horn.proofs.SoundnessPatterns.{read-judgment-patterns}
@@ -86,35 +86,12 @@ module _ (th : Theory) (w : WellFormed th) where
             (rule-formed name (read-judgment-patterns th xs [] e₃) (read-judgment-pattern th j (q .1) e₅)));
       }
 
-  one-formed : (xs : Sexps) (f : Sexp → Result Theory) {next : Theory} → ((x : Sexp) → f x ≡ ok next → WellFormed next)
-      → Rulebook.oneMember xs f ≡ ok next
-      → WellFormed next
-  unfolding Rulebook.oneMember
-  one-formed []ₛ f k e = not-ok e
-  one-formed (x ∷ₛ []ₛ) f k e = k x e
-  one-formed (x ∷ₛ y ∷ₛ xs) f k e = not-ok e
-
-  two-formed : (xs : Sexps) (f : Sexp → Sexp → Result Theory) {next : Theory} → ((x y : Sexp) → f x y ≡ ok next → WellFormed next)
-      → Rulebook.twoMembers xs f ≡ ok next
-      → WellFormed next
-  unfolding Rulebook.twoMembers
-  two-formed []ₛ f k e = not-ok e
-  two-formed (x ∷ₛ xs) f k e = one-formed xs (f x) (k x) e
-
-  three-formed : (xs : Sexps) (f : Sexp → Sexp → Sexp → Result Theory) {next : Theory}
-      → ((x y z : Sexp) → f x y z ≡ ok next → WellFormed next)
-      → Rulebook.threeMembers xs f ≡ ok next
-      → WellFormed next
-  unfolding Rulebook.threeMembers
-  three-formed []ₛ f k e = not-ok e
-  three-formed (x ∷ₛ xs) f k e = two-formed xs (f x) (k x) e
-
   declare-formed : (k : Keyword) (xs : Sexps) {next : Theory} → Rulebook.declare th k xs ≡ ok next → WellFormed next
   unfolding Rulebook.declare
-  declare-formed sortWord xs e = one-formed xs _ (λ x e₁. sort-formed x e₁) e
-  declare-formed ctorWord xs e = three-formed xs _ (λ x y z e₁. constructor-formed x y z e₁) e
-  declare-formed predWord xs e = two-formed xs _ (λ x y e₁. predicate-formed x y e₁) e
-  declare-formed ruleWord xs e = three-formed xs _ (λ x y z e₁. declared-rule-formed x y z e₁) e
+  declare-formed sortWord xs e = afterOne xs _ e λ x _ e₁. sort-formed x e₁
+  declare-formed ctorWord xs e = afterThree xs _ e λ x y z _ e₁. constructor-formed x y z e₁
+  declare-formed predWord xs e = afterTwo xs _ e λ x y _ e₁. predicate-formed x y e₁
+  declare-formed ruleWord xs e = afterThree xs _ e λ x y z _ e₁. declared-rule-formed x y z e₁
   declare-formed otherWord xs e = not-ok e
 
   headed-formed : (xs : Sexps) {next : Theory} → Rulebook.headed th xs ≡ ok next → WellFormed next

@@ -9,7 +9,7 @@ use Rattle.horn.specs.Setting.{Setting}
 use Rattle.horn.specs.Names.{Name, some-of, codes}
 use Rattle.horn.specs.NestedLists.{Sexp, leaf, list, Sexps, []ₛ, _∷ₛ_}
 use Rattle.horn.specs.Rulebook.{Symbol, symbol, Rule, rule, Theory}
-use Rattle.horn.specs.StoredTerms.{Term, node, Terms, []ₜ, _∷ₜ_, sameTerm, withinLimits}
+use Rattle.horn.specs.StoredTerms.{Term, node, Terms, []ₜ, _∷ₜ_, sameTerm, size}
 use Rattle.horn.specs.Checker.{Goal, goal}
 use Rattle.horn.specs.Forced.{Instance, IsInstance, premises, conclusion, Each, judgments}
 
@@ -158,7 +158,8 @@ pub record WithinLimits (limits : Setting) (a b c d : ℕ) (goals : List Goal) (
   pub fourth-area : limits .lastAreaWords ≤ d
   pub short : length (laidOut goals is) ≤ limits .certificateBytes
   pub shallow : depth (forms goals is) ≤ 256
-  pub small : withinLimits limits (spread goals is) ≡ true
+  pub few : length (spread goals is) ≤ limits .nodes
+  pub small : size (spread goals is) ≤ limits .nodeWords
 
 -- A list of instances that proves goals: well-sorted instances, each premise an earlier instance's conclusion, each
 -- goal's judgment some instance's conclusion.

@@ -91,7 +91,18 @@ module _ {area : List ℕ} {buckets count base : ℕ} {text : List ℕ} {entries
     each i (bucket-word low high) = h i low high
     each i (entry-word m low high) = let (b, d) = member-bounds (t .chain) m in k i (omega arith) (omega arith)
 
-  -- One word written elsewhere.
+  -- One word written above all entries, as the caller's words of the newest one are.
+  pub kept-put : (p v : ℕ) → Table area buckets count base text entries
+      → top base entries ≤ p
+      → Table (set area p v) buckets count base text entries
+  kept-put p v t h =
+      let f = t .buckets-first in
+      let l = base-below (t .chain) in
+      kept-within (set area p v) t (length-set area p v)
+      (λ i low high. getD-set-other area p i v 0 (λ q. omega arith))
+      (λ i low high. getD-set-other area p i v 0 (λ q. omega arith))
+
+  -- One word written anywhere else.
   pub kept-set : (p v : ℕ) → Table area buckets count base text entries
       → (Owns buckets count entries p → ⊥)
       → Table (set area p v) buckets count base text entries

@@ -1,0 +1,222 @@
+-- The items of printed forms are those forms; and every word that is met in a text is made of ordinary characters.
+use Prim.Native.Nat.{ℕ, suc}
+use mathlib.Core.Path.{_≡_, refl, sym, ap, _∙_}
+use mathlib.Core.Bool.{Bool, true, false}
+use mathlib.Core.List.{List, [], _∷_, _++_, append-nil, append-assoc}
+use mathlib.Core.Option.{Option, none, some}
+use lib.Dec.{eqb}
+use Rattle.horn.specs.Refusals.{ok}
+use Rattle.horn.specs.Utf8.{Char, char, decoded}
+use Rattle.horn.specs.Tokens.{Stream, end, bad, _▹_, before, lines, characters, Kind, blank, opens, closes, comments, ordinary, kind}
+use Rattle.horn.specs.Tokens.{Token, opening, closing, atom, Place, between, inComment, inAtom, Move, begins, continues, move, unended, tokensFrom, tokens}
+use Rattle.horn.specs.NestedLists.{Item, word, group, Items, closed, ended, badLine, _then_, Around, all, _inside_, innermost, outer, add, around, items}
+use Rattle.horn.specs.NestedLists.{Sexp, leaf, list, Sexps, []ₛ, _∷ₛ_, absent, askedAt, sexp, members, sexps}
+use Rattle.horn.specs.Layout.{printedLines}
+use Rattle.horn.proofs.Inversion.{afterᵣ, not-ok, ok-equal}
+use Rattle.horn.proofs.CompleteUtf8.{All, All-append, Proper, decoded-append, decoded-proper}
+use Rattle.horn.proofs.CompleteTokens.{Ordinary, bytesOf, Word, WordsIn, leaf-word, list-words, AllWords, no-words, _and-words_, tok, toks, formTokens, tokens-printed}
+
+-- A form as what stands in a text.
+unfoldable mutual
+  pub asItem : Sexp → Item
+  asItem (leaf name) = word name
+  asItem (list xs) = group (asItems xs)
+
+  pub asItems : Sexps → Items
+  asItems []ₛ = closed
+  asItems (x ∷ₛ xs) = asItem x then asItems xs
+
+unfoldable pub topItems : List Sexp → Items
+topItems [] = ended
+topItems (x ∷ xs) = asItem x then topItems xs
+
+mutual
+  unfolding around add innermost outer tok asItem
+
+  around-tok : (x : Sexp) (ts : Stream Token) → around (tok x ts) ≡ (asItem x then innermost (around ts)) inside outer (around ts)
+  around-tok (leaf name) ts = refl
+  around-tok (list xs) ts = ap (add opening) (around-toks xs ts)
+
+  around-toks : (xs : Sexps) (ts : Stream Token) → around (toks xs (closing ▹ ts)) ≡ asItems xs inside around ts
+  around-toks []ₛ ts = refl
+  around-toks (x ∷ₛ xs) ts =
+      around-tok x (toks xs (closing ▹ ts)) ∙ ap (λ a. (asItem x then innermost a) inside outer a) (around-toks xs ts)
+
+items-forms : (xs : List Sexp) → items (formTokens xs) ≡ topItems xs
+unfolding items formTokens topItems around innermost
+items-forms [] = refl
+items-forms (x ∷ xs) = ap innermost (around-tok x (formTokens xs)) ∙ ap (asItem x then_) (items-forms xs)
+
+pub items-printed : (xs : List Sexp) → All WordsIn xs → items (tokens (printedLines xs)) ≡ topItems xs
+items-printed xs ws = ap items (tokens-printed xs ws) ∙ items-forms xs
+
+-- Every character of a text is one that its bytes decode to.
+abbrev AllIn : {A : Type 0} → (A → Type 0) → Stream A → Type 0
+AllIn P end = Unit
+AllIn P bad = Unit
+AllIn P (a ▹ s) = P a × AllIn P s
+
+all-before : {A : Type 0} (P : A → Type 0) (xs : List A) (s : Stream A) → All P xs → AllIn P s → AllIn P (before xs s)
+unfolding before
+all-before P [] s p q = q
+all-before P (x ∷ xs) s p q = (p .0, all-before P xs s (p .1) q)
+
+line-proper : (o : Option (List Char)) (s : Stream Char) → ((cs : List Char) → o ≡ some cs → All Proper cs) → AllIn Proper s
+    → AllIn Proper (elim o [ none ↦ bad | some cs ↦ before cs s ])
+line-proper none s p q = tt
+line-proper (some cs) s p q = all-before Proper cs s (p cs refl) q
+
+characters-proper : (ls : List (List ℕ)) → AllIn Proper (characters ls)
+unfolding characters
+characters-proper [] = tt
+characters-proper (l ∷ ls) = line-proper (decoded l) (characters ls) (λ cs e. decoded-proper l e) (characters-proper ls)
+
+-- Every atom is a word.
+abbrev WordToken : Token → Type 0
+WordToken opening = Unit
+WordToken closing = Unit
+WordToken (atom bs) = Word bs
+
+abbrev WordPlace : Place → Type 0
+WordPlace between = Unit
+WordPlace inComment = Unit
+WordPlace (inAtom bs) = Word bs
+
+abbrev WordMove : Move → Type 0
+WordMove m = All WordToken (m .0) × WordPlace (m .1)
+
+pub first-word : (bs : List ℕ) (v : ℕ) → Proper (char bs v) → kind v ≡ ordinary → Word bs
+first-word bs v p o =
+    record { first = char bs v; others = []; decodes = p; bytes = append-nil bs; ordinarily = (o, tt) }
+
+bytesOf-append : (cs ds : List Char) → bytesOf (cs ++ ds) ≡ bytesOf cs ++ bytesOf ds
+bytesOf-append [] ds = refl
+bytesOf-append (char bs v ∷ cs) ds = ap (bs ++_) (bytesOf-append cs ds) ∙ sym (append-assoc bs (bytesOf cs) (bytesOf ds))
+
+pub word-append : {as′ bs : List ℕ} → Word as′ → Word bs → Word (as′ ++ bs)
+word-append {as′} {bs} w v =
+    record {
+      first = w .first;
+      others = w .others ++ (v .first ∷ v .others);
+      decodes = decoded-append as′ bs (w .decodes) (v .decodes);
+      bytes =
+          bytesOf-append (w .first ∷ w .others) (v .first ∷ v .others)
+          ∙ ap (_++ bytesOf (v .first ∷ v .others)) (w .bytes)
+          ∙ ap (as′ ++_) (v .bytes);
+      ordinarily = All-append Ordinary (w .first ∷ w .others) (v .first ∷ v .others) (w .ordinarily) (v .ordinarily);
+    }
+
+begins-words : (k : Kind) (bs : List ℕ) (v : ℕ) → Proper (char bs v) → kind v ≡ k → WordMove (begins k bs)
+unfolding begins
+begins-words blank bs v p e = (tt, tt)
+begins-words opens bs v p e = ((tt, tt), tt)
+begins-words closes bs v p e = ((tt, tt), tt)
+begins-words comments bs v p e = (tt, tt)
+begins-words ordinary bs v p e = (tt, first-word bs v p e)
+
+continues-words : (k : Kind) (as′ bs : List ℕ) (v : ℕ) → Word as′ → Proper (char bs v) → kind v ≡ k → WordMove (continues as′ k bs)
+unfolding continues
+continues-words blank as′ bs v w p e = ((w, tt), tt)
+continues-words opens as′ bs v w p e = ((w, (tt, tt)), tt)
+continues-words closes as′ bs v w p e = ((w, (tt, tt)), tt)
+continues-words comments as′ bs v w p e = ((w, tt), tt)
+continues-words ordinary as′ bs v w p e = (tt, word-append w (first-word bs v p e))
+
+comment-words : (b : Bool) → WordMove (elim b [ true ↦ ([], between) | false ↦ ([], inComment) ])
+comment-words true = (tt, tt)
+comment-words false = (tt, tt)
+
+move-words : (place : Place) (c : Char) → WordPlace place → Proper c → WordMove (move place c)
+unfolding move
+move-words between (char bs v) w p = begins-words (kind v) bs v p refl
+move-words (inAtom as′) (char bs v) w p = continues-words (kind v) as′ bs v w p refl
+move-words inComment (char bs v) w p = comment-words (eqb v 0x0A)
+
+unended-words : (place : Place) → WordPlace place → All WordToken (unended place)
+unfolding unended
+unended-words between w = tt
+unended-words inComment w = tt
+unended-words (inAtom bs) w = (w, tt)
+
+tokensFrom-words : (s : Stream Char) (place : Place) → WordPlace place → AllIn Proper s → AllIn WordToken (tokensFrom place s)
+unfolding tokensFrom
+tokensFrom-words end place w p = all-before WordToken (unended place) end (unended-words place w) tt
+tokensFrom-words bad place w p = all-before WordToken (unended place) bad (unended-words place w) tt
+tokensFrom-words (c ▹ cs) place w p =
+    let m = move-words place c w (p .0) in
+    all-before WordToken ((move place c) .0) (tokensFrom ((move place c) .1) cs) (m .0)
+    (tokensFrom-words cs ((move place c) .1) (m .1) (p .1))
+
+-- Every word of what stands in a text.
+mutual
+  pub data WordItem : Item → Type 0 where
+    a-word : {name : List ℕ} → Word name → WordItem (word name)
+    a-group : {is : Items} → WordItems is → WordItem (group is)
+
+  pub data WordItems : Items → Type 0 where
+    at-closed : WordItems closed
+    at-ended : WordItems ended
+    at-bad : WordItems badLine
+    _then-words_ : {item : Item} {rest : Items} → WordItem item → WordItems rest → WordItems (item then rest)
+
+infixr 20 _then-words_
+data WordAround : Around → Type 0 where
+  all-words : {is : Items} → WordItems is → WordAround (all is)
+  _inside-words_ : {is : Items} {a : Around} → WordItems is → WordAround a → WordAround (is inside a)
+
+infixr 20 _inside-words_
+innermost-words : {a : Around} → WordAround a → WordItems (innermost a)
+unfolding innermost
+innermost-words (all-words w) = w
+innermost-words (w inside-words ws) = w
+
+outer-words : {a : Around} → WordAround a → WordAround (outer a)
+unfolding outer
+outer-words (all-words w) = all-words w
+outer-words (w inside-words ws) = ws
+
+around-words : (ts : Stream Token) → AllIn WordToken ts → WordAround (around ts)
+unfolding around add
+around-words end w = all-words at-ended
+around-words bad w = all-words at-bad
+around-words (closing ▹ ts) w = _inside-words_ at-closed (around-words ts (w .1))
+around-words (atom bs ▹ ts) w =
+    let a = around-words ts (w .1) in
+    _inside-words_ (a-word (w .0) then-words innermost-words a) (outer-words a)
+around-words (opening ▹ ts) w =
+    let a = around-words ts (w .1) in
+    _inside-words_ (a-group (innermost-words a) then-words innermost-words (outer-words a)) (outer-words (outer-words a))
+
+pub items-words : (text : List ℕ) → WordItems (items (tokens text))
+unfolding items tokens
+items-words text =
+    innermost-words (around-words _ (tokensFrom-words (characters (lines text)) between tt (characters-proper (lines text))))
+
+-- Nested lists that were read have words for atoms.
+mutual
+  unfolding sexp absent
+
+  sexp-words : (item : Item) (depth : ℕ) {x : Sexp} → WordItem item → sexp depth item ≡ ok x → WordsIn x
+  sexp-words (word bs) depth (a-word w) e = rw (← ok-equal e) (leaf-word w)
+  sexp-words (group inner) depth (a-group w) e =
+      afterᵣ (members (suc depth) inner) e λ xs e₁ e₂. rw (← ok-equal e₂) (list-words (members-words inner (suc depth) w e₁))
+
+  members-words : (is : Items) (depth : ℕ) {xs : Sexps} → WordItems is → members depth is ≡ ok xs → AllWords xs
+  members-words closed depth at-closed e = rw (← ok-equal e) no-words
+  members-words badLine depth at-bad e = not-ok e
+  members-words ended depth at-ended e = afterᵣ (askedAt depth) e λ u e₁ e₂. not-ok e₂
+  members-words (item then rest) depth (w then-words ws) e =
+      afterᵣ (askedAt depth) e λ u e₀ e′.
+      afterᵣ (sexp depth item) e′ λ x e₁ e″.
+      afterᵣ (members depth rest) e″ λ xs e₂ e₃.
+      rw (← ok-equal e₃) (sexp-words item depth w e₁ and-words members-words rest depth ws e₂)
+
+pub sexps-words : (is : Items) {xs : Sexps} → WordItems is → sexps is ≡ ok xs → AllWords xs
+unfolding sexps
+sexps-words ended at-ended e = rw (← ok-equal e) no-words
+sexps-words badLine at-bad e = not-ok e
+sexps-words closed at-closed e = not-ok e
+sexps-words (item then rest) (w then-words ws) e =
+    afterᵣ (sexp 0 item) e λ x e₁ e″.
+    afterᵣ (sexps rest) e″ λ xs e₂ e₃.
+    rw (← ok-equal e₃) (sexp-words item 0 w e₁ and-words sexps-words rest ws e₂)

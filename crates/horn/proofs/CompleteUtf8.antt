@@ -1,0 +1,111 @@
+-- Decoding in parts: bytes that decode, put one after the other, decode to the characters of both; each character's own
+-- bytes decode to it alone; and for a text that decodes whole it does not matter that it is read by lines.
+use Prim.Native.Nat.{ℕ, _+_, _*_, _-_}
+use mathlib.Core.Path.{_≡_, refl, sym, ap, _∙_}
+use mathlib.Core.List.{List, [], _∷_, _++_, append-nil, append-assoc}
+use mathlib.Core.Option.{Option, none, some, Option·map}
+use Rattle.horn.specs.Utf8.{Range, within, Sequence, sequence, sequences, startedBy, Char, char, resumed, decoded}
+use Rattle.horn.proofs.Equality.{chosen, chose-true}
+use Rattle.horn.proofs.Inversion.{none-some, some-equal}
+
+-- What a first byte begins, taken apart.
+pub started {ℓ} : {C : Type ℓ} {B : Type 0} (o : Option Sequence) {f : Range → ℕ → List Range → Option B} {z : B}
+    → (elim o [ none ↦ none | some (sequence a m r) ↦ f a m r ]) ≡ some z
+    → ((a : Range) (m : ℕ) (r : List Range) → o ≡ some (sequence a m r) → f a m r ≡ some z → C)
+    → C
+started none e k = none-some e
+started (some (sequence a m r)) e k = k a m r refl e
+
+map-started : (o : Option Sequence) (f : Range → ℕ → List Range → Option (List Char)) (g : List Char → List Char)
+    → (elim o [ none ↦ none | some (sequence a m r) ↦ Option·map g (f a m r) ])
+    ≡ Option·map g (elim o [ none ↦ none | some (sequence a m r) ↦ f a m r ])
+map-started none f g = refl
+map-started (some (sequence a m r)) f g = refl
+
+-- After a whole character the rest is decoded by itself.
+pub resumed-done : (taken : List ℕ) (value : ℕ) (rest : List ℕ)
+    → resumed taken value [] rest ≡ Option·map (λ cs. char taken value ∷ cs) (decoded rest)
+unfolding resumed decoded
+resumed-done taken value [] = refl
+resumed-done taken value (b ∷ bs) =
+    map-started (startedBy b sequences) (λ a m r. resumed (b ∷ []) (b - m) r bs) (λ cs. char taken value ∷ cs)
+
+pub mapped {ℓ} : {A : Type 0} {C : Type ℓ} (o : Option A) {g : A → A} {z : A} → Option·map g o ≡ some z
+    → ((a : A) → o ≡ some a → g a ≡ z → C)
+    → C
+mapped none e k = none-some e
+mapped (some a) e k = k a refl (some-equal e)
+
+resumed-append : (bs rest taken : List ℕ) (value : ℕ) (rs : List Range) {cs ds : List Char} → decoded rest ≡ some ds
+    → resumed taken value rs bs ≡ some cs
+    → resumed taken value rs (bs ++ rest) ≡ some (cs ++ ds)
+unfolding resumed decoded
+resumed-append [] rest taken value (r ∷ rs) p e = none-some e
+resumed-append (b ∷ bs) rest taken value (r ∷ rs) p e =
+    chosen (within r b) e
+    (λ w q. rw (w, resumed) (resumed-append bs rest (taken ++ (b ∷ [])) (value * 0x40 + (b - 0x80)) rs p q))
+    (λ w q. none-some q)
+resumed-append [] rest taken value [] {cs} {ds} p e =
+    resumed-done taken value rest ∙ ap (Option·map (λ ks. char taken value ∷ ks)) p ∙ ap (λ ks. some (ks ++ ds)) (some-equal e)
+resumed-append (b ∷ bs) rest taken value [] {cs} {ds} p e =
+    mapped (decoded (b ∷ bs)) (sym (resumed-done taken value (b ∷ bs)) ∙ e) λ ks e₁ e₂.
+    started (startedBy b sequences) e₁ λ a m r s q.
+    rw (s, resumed) (ap (Option·map (λ us. char taken value ∷ us)) (resumed-append bs rest (b ∷ []) (b - m) r p q)
+    ∙ ap (λ us. some (us ++ ds)) e₂)
+
+pub decoded-append : (bs rest : List ℕ) {cs ds : List Char} → decoded bs ≡ some cs → decoded rest ≡ some ds
+    → decoded (bs ++ rest) ≡ some (cs ++ ds)
+unfolding decoded
+decoded-append [] rest {cs} {ds} e p = p ∙ ap (λ ks. some (ks ++ ds)) (some-equal e)
+decoded-append (b ∷ bs) rest e p =
+    started (startedBy b sequences) e λ a m r s q. rw (s, decoded) (resumed-append bs rest (b ∷ []) (b - m) r p q)
+
+pub decoded-of {ℓ} : {C : Type ℓ} (b : ℕ) (bs : List ℕ) {cs : List Char} → decoded (b ∷ bs) ≡ some cs
+    → ((a : Range) (m : ℕ) (r : List Range) → startedBy b sequences ≡ some (sequence a m r)
+    → resumed (b ∷ []) (b - m) r bs ≡ some cs → C)
+    → C
+unfolding decoded
+decoded-of b bs e k = started (startedBy b sequences) e k
+
+-- What holds of every entry of a list.
+abbrev pub All : {A : Type 0} → (A → Type 0) → List A → Type 0
+All P [] = Unit
+All P (x ∷ xs) = P x × All P xs
+
+pub All-append : {A : Type 0} (P : A → Type 0) (xs ys : List A) → All P xs → All P ys → All P (xs ++ ys)
+All-append P [] ys p q = q
+All-append P (x ∷ xs) ys p q = (p .0, All-append P xs ys (p .1) q)
+
+-- A character that its own bytes decode to.
+abbrev pub Proper : Char → Type 0
+Proper (char bs v) = decoded bs ≡ some (char bs v ∷ [])
+
+pub begun : (b : ℕ) {a : Range} {m : ℕ} {r : List Range} (rest : List ℕ) → startedBy b sequences ≡ some (sequence a m r)
+    → decoded (b ∷ rest) ≡ resumed (b ∷ []) (b - m) r rest
+unfolding decoded
+begun b rest s = rw (s, decoded)
+
+resumed-proper : (bs taken : List ℕ) (value : ℕ) (rs : List Range) {cs : List Char}
+    → ((rest : List ℕ) → decoded (taken ++ rest) ≡ resumed taken value rs rest)
+    → resumed taken value rs bs ≡ some cs
+    → All Proper cs
+unfolding resumed
+resumed-proper [] taken value (r ∷ rs) inv e = none-some e
+resumed-proper (b ∷ bs) taken value (r ∷ rs) inv e =
+    chosen (within r b) e
+    (λ w q.
+    resumed-proper bs (taken ++ (b ∷ [])) (value * 0x40 + (b - 0x80)) rs
+    (λ rest. ap decoded (append-assoc taken (b ∷ []) rest) ∙ inv (b ∷ rest) ∙ chose-true _ _ w) q)
+    (λ w q. none-some q)
+resumed-proper [] taken value [] inv e =
+    rw (← some-equal e) (ap decoded (sym (append-nil taken)) ∙ inv [], tt)
+resumed-proper (b ∷ bs) taken value [] inv e =
+    mapped (decoded (b ∷ bs)) (sym (resumed-done taken value (b ∷ bs)) ∙ e) λ ks e₁ e₂.
+    decoded-of b bs e₁ λ a m r s q.
+    rw (← e₂) (ap decoded (sym (append-nil taken)) ∙ inv [], resumed-proper bs (b ∷ []) (b - m) r (λ rest. begun b rest s) q)
+
+pub decoded-proper : (bs : List ℕ) {cs : List Char} → decoded bs ≡ some cs → All Proper cs
+unfolding decoded
+decoded-proper [] e = rw (← some-equal e) tt
+decoded-proper (b ∷ bs) e =
+    decoded-of b bs e λ a m r s q. resumed-proper bs (b ∷ []) (b - m) r (λ rest. begun b rest s) q

@@ -1,0 +1,10 @@
+pub mod Table
+pub mod Grammar
+pub mod Whiteness
+pub mod Turns
+pub mod Answering
+pub mod Streams
+pub mod Lines
+pub mod Skipping
+pub mod Standing
+pub mod Positions
