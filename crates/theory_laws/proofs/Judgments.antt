@@ -2,7 +2,7 @@
 -- Assumes nothing.
 use mathlib.Core.Path.{_≡_, refl, ap, sym, subst, _∙_}
 use mathlib.Core.Bool.{Bool, true, false, not}
-use mathlib.Core.List.{List, [], _∷_, _++_, append-assoc}
+use mathlib.Core.List.{List, [], _∷_, _++_}
 use Prim.Native.Nat.{ℕ, zero, suc, _+_, _*_, _≤_, _<_}
 use native.Mathlib.Omega.{arith}
 use lib.ListN.{length, getD, set}
@@ -13,7 +13,7 @@ use Rattle.horn.specs.NestedLists.{Sexp, leaf, list, Sexps, []ₛ, _∷ₛ_}
 use Rattle.horn.specs.Rulebook as definition
 use Rattle.horn.specs.Rulebook.{judgment, Variable, Pattern, isPredicate, Theory, fits, count}
 use Rattle.lex.specs.declared.Reader.{Reader}
-use Rattle.sexp.specs.Flattening.{flatOne, flat, size, countsOne, counts}
+use Rattle.sexp.specs.Flattening.{flatOne, flat, size, countsOne, countsAll}
 use Rattle.patterns.specs.Outcomes as outcomes
 use Rattle.patterns.specs.Leaving.{Did, _leaving_}
 use Rattle.patterns.specs.Items.{readOn, openedOne, listDue, headDue, closingDue}
@@ -41,7 +41,7 @@ module _ (text counted : List ℕ) (Before : Reader → Stream Token → Type 0)
   abbrev InsideLaw : Sexps → Type 0
   InsideLaw xs =
       (ts : Stream Token) (ks : List ℕ) (vs : List Variable) (w : Walk) (vars heap : List ℕ)
-      → Was 0 (flatOne (list xs) ts) (countsOne (list xs) ++ ks) vs w vars heap
+      → Was 0 (flatOne (list xs) ts) (countsOne (list xs) ks) vs w vars heap
       → Simulates (Left ts ks vs (w .top) heap) (walk.judgment text counted w vars heap) (definition.judgmentOf th xs vs)
 
   pub list-due : {k : ℕ} {ts : Stream Token} {ks : List ℕ} {w : Walk} (m : ListMet text counted Before reads k ts ks w)
@@ -72,13 +72,13 @@ module _ (text counted : List ℕ) (Before : Reader → Stream Token → Type 0)
       (applied-law text counted Before th es base 512 isPredicate name (head .s) (head .t) 0 (suc (size xs)) (count xs) judgment ready
       (r .holds .predicates) (head .name) (ap suc (size-count xs)) (judgment-output refl))
       (applied-arguments text counted Before reads short th es base 257 xs judgment law refl refl ready)) where
-        met : ListMet text counted Before reads (suc (size xs)) (atom name ▹ flat xs (closing ▹ ts)) (counts xs ++ ks) w
+        met : ListMet text counted Before reads (suc (size xs)) (atom name ▹ flat xs (closing ▹ ts)) (countsAll xs ks) w
         met = list-met text counted Before reads (r .walks)
 
-        head : AtomMet text counted Before reads name (flat xs (closing ▹ ts)) (counts xs ++ ks) (openedOne w (met .next))
+        head : AtomMet text counted Before reads name (flat xs (closing ▹ ts)) (countsAll xs ks) (openedOne w (met .next))
         head = atom-met text counted Before reads (met .walks)
 
-        ready : Was 3 (flat xs (closing ▹ ts)) (counts xs ++ ks) vs (readOn (openedOne w (met .next)) (head .next)) vars heap
+        ready : Was 3 (flat xs (closing ▹ ts)) (countsAll xs ks) vs (readOn (openedOne w (met .next)) (head .next)) vars heap
         ready =
             less-credit text counted Before th es base
             (after-atom text counted Before reads short th es base (after-opening text counted Before reads short th es base r met) head) 3 (omega arith)
@@ -92,7 +92,7 @@ module _ (text counted : List ℕ) (Before : Reader → Stream Token → Type 0)
   abbrev JudgmentLaw : Sexp → Type 0
   JudgmentLaw x =
       (ts : Stream Token) (ks : List ℕ) (vs : List Variable) (w : Walk) (vars heap : List ℕ)
-      → Was 0 (flatOne x ts) (countsOne x ++ ks) vs w vars heap
+      → Was 0 (flatOne x ts) (countsOne x ks) vs w vars heap
       → Simulates (Left ts ks vs (w .top) heap) (walk.judgment text counted w vars heap) (definition.judgmentPattern th x vs)
 
   pub judgment-law : (x : Sexp) → Shallow 258 x → JudgmentLaw x
@@ -110,11 +110,11 @@ module _ (text counted : List ℕ) (Before : Reader → Stream Token → Type 0)
   abbrev JudgmentsLaw : Sexps → Type 0
   JudgmentsLaw xs =
       (ts : Stream Token) (ks : List ℕ) (vs : List Variable) (w : Walk) (vars heap : List ℕ)
-      → Was 0 (flat xs (closing ▹ ts)) (counts xs ++ ks) vs w vars heap
+      → Was 0 (flat xs (closing ▹ ts)) (countsAll xs ks) vs w vars heap
       → Simulates (JudgmentsRead (size xs) ts ks vs (w .top) heap) (walk.judgments (size xs) text counted w vars heap) (definition.judgmentPatterns th xs vs)
 
   judgments-none : JudgmentsLaw []ₛ
-  unfolding walk.judgments definition.judgmentPatterns flat counts size
+  unfolding walk.judgments definition.judgmentPatterns flat countsAll size
   judgments-none ts ks vs w vars heap r =
       let m = closing-met text counted Before reads (r .walks) in
       rw (m .met)
@@ -125,13 +125,13 @@ module _ (text counted : List ℕ) (Before : Reader → Stream Token → Type 0)
       })
 
   judgments-more : (x : Sexp) (xs : Sexps) → JudgmentLaw x → JudgmentsLaw xs → JudgmentsLaw (x ∷ₛ xs)
-  unfolding walk.judgments definition.judgmentPatterns flat counts size
+  unfolding walk.judgments definition.judgmentPatterns flat countsAll size
   judgments-more x xs one law ts ks vs w vars heap r =
-      bind _ _ (one (flat xs (closing ▹ ts)) (counts xs ++ ks) vs w vars heap (rw append-assoc at r))
+      bind _ _ (one (flat xs (closing ▹ ts)) (countsAll xs ks) vs w vars heap r)
       (λ q areas p y.
       after (λ z. (p .0 ∷ z .0, z .1)) (law ts ks (p .1) q (areas .0) (areas .1) (y .reached .ready)) (λ q′ areas′ xs z. join y z)) where
         join : {q q′ : Walk} {areas areas′ : Areas} {p : Pattern × List Variable} {ps : List Pattern × List Variable}
-            → Left (flat xs (closing ▹ ts)) (counts xs ++ ks) vs (w .top) heap q areas p
+            → Left (flat xs (closing ▹ ts)) (countsAll xs ks) vs (w .top) heap q areas p
             → JudgmentsRead (size xs) ts ks (p .1) (q .top) (areas .1) q′ areas′ ps
             → JudgmentsRead (suc (size xs)) ts ks vs (w .top) heap q′ areas′ (p .0 ∷ ps .0, ps .1)
         join {q} {q′} y z =

@@ -1,7 +1,7 @@
 -- Names and sorts where the walk reads a declaration. Assumes nothing.
 use mathlib.Core.Path.{_≡_, refl, ap, sym, subst, _∙_}
 use mathlib.Core.Bool.{Bool, true, false, not, true≢false}
-use mathlib.Core.List.{List, [], _∷_, _++_, append-assoc}
+use mathlib.Core.List.{List, [], _∷_, _++_}
 use mathlib.Core.Option.{Option, none, some}
 use Prim.Native.Nat.{ℕ, zero, suc, _+_, _*_, _-_, _≤_, _<_}
 use native.Mathlib.Omega.{arith}
@@ -20,7 +20,7 @@ use Rattle.names.specs.Chains.{found}
 use Rattle.names.specs.Tables.{present}
 use Rattle.names.proofs.Declared.{find-present, found-some}
 use Rattle.lex.specs.declared.Reader.{Reader}
-use Rattle.sexp.specs.Flattening.{flatOne, flat, size, countsOne, counts}
+use Rattle.sexp.specs.Flattening.{flatOne, flat, size, countsOne, countsAll}
 use Rattle.patterns.specs.Outcomes as outcomes
 use Rattle.patterns.specs.Outcomes.{Outcome}
 use Rattle.patterns.specs.Leaving as leaving
@@ -43,7 +43,7 @@ module _ (text counted : List ℕ) (Before : Reader → Stream Token → Type 0)
         → Walks text counted Before ts ks (readOn w next)
         → NameRead x ts ks w (s, t, readOn w next) name
 
-  pub declared-name : (x : Sexp) {ts : Stream Token} {ks : List ℕ} {w : Walk} → Walks text counted Before (flatOne x ts) (countsOne x ++ ks) w
+  pub declared-name : (x : Sexp) {ts : Stream Token} {ks : List ℕ} {w : Walk} → Walks text counted Before (flatOne x ts) (countsOne x ks) w
       → Answers (NameRead x ts ks w) (declaredName text counted w) (definition.declaredName x)
   unfolding declaredName definition.declaredName definition.atomDue atomDue flatOne countsOne weight number need _>>=_
   declared-name (list xs) h = rw (list-met text counted Before reads h .met) (both-refuse refl)
@@ -83,7 +83,7 @@ module _ (text counted : List ℕ) (Before : Reader → Stream Token → Type 0)
         (λ a m. sort-read m (omega arith) k))
 
     -- "S unknown is 12."
-    pub sort-named : (x : Sexp) {ts : Stream Token} {ks : List ℕ} {w : Walk} → Walks text counted Before (flatOne x ts) (countsOne x ++ ks) w
+    pub sort-named : (x : Sexp) {ts : Stream Token} {ks : List ℕ} {w : Walk} → Walks text counted Before (flatOne x ts) (countsOne x ks) w
         → Answers (SortRead es x ts ks w) (sortNamed text counted heap w) (definition.sortNamed th x)
     unfolding sortNamed definition.sortNamed
     sort-named x h = then _ _ (declared-name x h) (λ b name k. sort-behind x b name k)
@@ -107,11 +107,11 @@ module _ (text counted : List ℕ) (Before : Reader → Stream Token → Type 0)
     abbrev InputsLaw : Sexps → Type 0
     InputsLaw xs =
         (ts : Stream Token) (ks : List ℕ) (w : Walk) (heap : List ℕ)
-        → Midway 0 (flat xs (closing ▹ ts)) (counts xs ++ ks) w heap
+        → Midway 0 (flat xs (closing ▹ ts)) (countsAll xs ks) w heap
         → Simulates (InputsRead (size xs) ts ks (w .top) heap) (inputs (size xs) text counted w heap) (definition.sortsNamed th xs)
 
     inputs-none : InputsLaw []ₛ
-    unfolding inputs definition.sortsNamed flat counts size weight
+    unfolding inputs definition.sortsNamed flat countsAll size weight
     inputs-none ts ks w heap r =
         let m = closing-met text counted Before reads (r .walks) in
         let c = r .room in
@@ -125,9 +125,9 @@ module _ (text counted : List ℕ) (Before : Reader → Stream Token → Type 0)
         })
 
     inputs-more : (x : Sexp) (xs : Sexps) → InputsLaw xs → InputsLaw (x ∷ₛ xs)
-    unfolding inputs definition.sortsNamed flat counts size pushed
+    unfolding inputs definition.sortsNamed flat countsAll size pushed
     inputs-more x xs law ts ks w heap r =
-        pure _ _ (sort-named (r .holds) x {ts = flat xs (closing ▹ ts)} {ks = counts xs ++ ks} (rw append-assoc at (r .walks)))
+        pure _ _ (sort-named (r .holds) x {ts = flat xs (closing ▹ ts)} {ks = countsAll xs ks} (r .walks))
         (λ p s k. one p s k) where
           us : Stream Token
           us = flat xs (closing ▹ ts)
@@ -150,7 +150,7 @@ module _ (text counted : List ℕ) (Before : Reader → Stream Token → Type 0)
                 many = ap suc (k .many);
               }
 
-          one : (p : ℕ × Walk) (name : Name) → SortRead es x us (counts xs ++ ks) w p name
+          one : (p : ℕ × Walk) (name : Name) → SortRead es x us (countsAll xs ks) w p name
               → Simulates (InputsRead (suc (size xs)) ts ks (w .top) heap)
               (leaving._>>=_ (pushed (p .0) (p .1) heap) (λ (q, heap′). inputs (size xs) text counted q heap′))
               (definition.sortsNamed th xs >>= λ ss. ok (name ∷ ss))

@@ -2,7 +2,7 @@
 -- Assumes nothing.
 use mathlib.Core.Path.{_≡_, refl, ap, sym, subst, _∙_}
 use mathlib.Core.Bool.{Bool, true, false, not, _&&_, true≢false}
-use mathlib.Core.List.{List, [], _∷_, _++_, append-assoc}
+use mathlib.Core.List.{List, [], _∷_, _++_}
 use Prim.Native.Nat.{ℕ, zero, suc, _+_, _*_, _-_, _≤_, _<_}
 use native.Mathlib.Nat.{le-of-lt}
 use native.Mathlib.Omega.{arith}
@@ -18,7 +18,7 @@ use Rattle.horn.specs.Rulebook.{Output, sort, judgment, sameOutput, Symbol, sym
 use Rattle.horn.proofs.Equality.{both}
 use Rattle.words.specs.Parts.{part}
 use Rattle.lex.specs.declared.Reader.{Reader}
-use Rattle.sexp.specs.Flattening.{flatOne, flat, size, countsOne, counts}
+use Rattle.sexp.specs.Flattening.{flatOne, flat, size, countsOne, countsAll}
 use Rattle.patterns.specs.Outcomes as outcomes
 use Rattle.patterns.specs.Leaving as leaving
 use Rattle.patterns.specs.Leaving.{Did, _leaving_, beside}
@@ -148,14 +148,14 @@ module _ (text counted : List ℕ) (Before : Reader → Stream Token → Type 0)
   PatternLaw left x =
       (sortName : Name) (a : ℕ) (ts : Stream Token) (ks : List ℕ) (vs : List Variable) (w : Walk) (vars heap : List ℕ)
       → SortAt es a sortName
-      → Was 0 (flatOne x ts) (countsOne x ++ ks) vs w vars heap
+      → Was 0 (flatOne x ts) (countsOne x ks) vs w vars heap
       → Simulates (Left ts ks vs (w .top) heap) (walk.pattern left text counted a w vars heap) (definition.pattern th x sortName vs)
 
   abbrev CompoundLaw : ℕ → Sexps → Type 0
   CompoundLaw left xs =
       (sortName : Name) (a : ℕ) (ts : Stream Token) (ks : List ℕ) (vs : List Variable) (w : Walk) (vars heap : List ℕ)
       → SortAt es a sortName
-      → Was 0 (flat xs (closing ▹ ts)) (counts xs ++ ks) vs w vars heap
+      → Was 0 (flat xs (closing ▹ ts)) (countsAll xs ks) vs w vars heap
       → Simulates (Left ts ks vs (w .top) heap) (walk.patternOf (walk.pattern left text counted) text counted a (items.list (size xs) w) vars heap)
       (definition.compound th xs sortName vs)
 
@@ -167,7 +167,7 @@ module _ (text counted : List ℕ) (Before : Reader → Stream Token → Type 0)
       → 1024 ≤ o
       → o + length ins ≤ base
       → SortsAt heap es o ins
-      → Was 0 (flat xs (closing ▹ ts)) (counts xs ++ ks) vs w vars heap
+      → Was 0 (flat xs (closing ▹ ts)) (countsAll xs ks) vs w vars heap
       → Simulates (ArgumentsRead ts ks vs (w .top) heap) (argumentsFrom (walk.pattern left text counted) (length ins) text c k w vars heap)
       (definition.patterns th xs ins vs)
 
@@ -190,7 +190,7 @@ module _ (text counted : List ℕ) (Before : Reader → Stream Token → Type 0)
   pub applied-arguments : {ts us : Stream Token} {ks ls : List ℕ} {vs : List Variable} {w : Walk} {vars heap : List ℕ} (left : ℕ) (xs : Sexps) (expected : Output)
       → ArgumentsLaw left xs
       → us ≡ flat xs (closing ▹ ts)
-      → ls ≡ counts xs ++ ks
+      → ls ≡ countsAll xs ks
       → Was 3 us ls vs w vars heap
       → (x : ℕ × Walk) (heap′ : List ℕ) (c : Symbol)
       → Applied text counted Before th es base us ls vs w vars heap expected (count xs) x heap′ c
@@ -209,9 +209,9 @@ module _ (text counted : List ℕ) (Before : Reader → Stream Token → Type 0)
         arity : getD new (e + 4) 0 ≡ length ins
         arity = let u = r .above in let h = y .high in kept .words (e + 4) (omega arith) ∙ y .arity
 
-        ready : Was 0 (flat xs (closing ▹ ts)) (counts xs ++ ks) vs (withTop w (sum32 (w .top) 1)) vars new
+        ready : Was 0 (flat xs (closing ▹ ts)) (countsAll xs ks) vs (withTop w (sum32 (w .top) 1)) vars new
         ready =
-            subst (λ (s : Stream Token). Was 0 s (counts xs ++ ks) vs (withTop w (sum32 (w .top) 1)) vars new) p
+            subst (λ (s : Stream Token). Was 0 s (countsAll xs ks) vs (withTop w (sum32 (w .top) 1)) vars new) p
             (subst (λ (s : List ℕ). Was 0 us s vs (withTop w (sum32 (w .top) 1)) vars new) q (push-ready text counted Before th es base e r))
 
         arguments : Simulates (ArgumentsRead ts ks vs (sum32 (w .top) 1) new)
@@ -261,19 +261,19 @@ module _ (text counted : List ℕ) (Before : Reader → Stream Token → Type 0)
       (r .holds .constructors) (met .name) (ap suc (size-count xs)) (sort-output m)))
 
   compound-atom : (left : ℕ) (name : Name) (xs : Sexps) → ArgumentsLaw left xs → CompoundLaw left (leaf name ∷ₛ xs)
-  unfolding definition.compound definition.atomDue flat counts size _>>=_
+  unfolding definition.compound definition.atomDue flat countsAll size _>>=_
   compound-atom left name xs law sortName a ts ks vs w vars heap m r =
       tested-aside vars (not (isEmpty xs)) bracketedConstant (definition.constructor th name) (λ c. fits c (sort sortName) (count xs)) sortArity _ _
       (compound-head name sortName a xs met m ready)
       (applied-arguments left xs (sort sortName) law refl refl ready) where
-        met : AtomMet text counted Before reads name (flat xs (closing ▹ ts)) (counts xs ++ ks) w
+        met : AtomMet text counted Before reads name (flat xs (closing ▹ ts)) (countsAll xs ks) w
         met = atom-met text counted Before reads (r .walks)
 
-        ready : Was 3 (flat xs (closing ▹ ts)) (counts xs ++ ks) vs (readOn w (met .next)) vars heap
+        ready : Was 3 (flat xs (closing ▹ ts)) (countsAll xs ks) vs (readOn w (met .next)) vars heap
         ready = less-credit text counted Before th es base (after-atom r met) 3 (omega arith)
 
   compound-list : (left : ℕ) (ys xs : Sexps) → CompoundLaw left (list ys ∷ₛ xs)
-  unfolding definition.compound definition.atomDue flat counts size _>>=_ compoundHead number
+  unfolding definition.compound definition.atomDue flat countsAll size _>>=_ compoundHead number
   compound-list left ys xs sortName a ts ks vs w vars heap m r =
       rw (head-list (size xs) (list-met text counted Before reads (r .walks))) (refuse refl)
 
@@ -296,16 +296,16 @@ module _ (text counted : List ℕ) (Before : Reader → Stream Token → Type 0)
       rw (e, met .met) (law sortName a ts ks vs (openedOne w (met .next)) vars heap m (after-opening r met))
 
   arguments-none : (left : ℕ) → ArgumentsLaw left []ₛ
-  unfolding argumentsFrom flat counts definition.patterns count
+  unfolding argumentsFrom flat countsAll definition.patterns count
   arguments-none left [] o c k ts ks vs w vars heap e n l h s r = no-arguments r
   arguments-none left (x ∷ ins) o c k ts ks vs w vars heap e n l h s r = absurd (omega arith)
 
   arguments-more : (left : ℕ) (x : Sexp) (xs : Sexps) → PatternLaw left x → ArgumentsLaw left xs → ArgumentsLaw left (x ∷ₛ xs)
-  unfolding flat counts definition.patterns count
+  unfolding flat countsAll definition.patterns count
   arguments-more left x xs one law [] o c k ts ks vs w vars heap e n l h s r = absurd (omega arith)
   arguments-more left x xs one law (i ∷ ins) o c k ts ks vs w vars heap e n l h (one-sort a s) r =
       more-arguments (walk.pattern left text counted) (length ins) c k (definition.pattern th x i vs) (λ us. definition.patterns th xs ins us)
-      (one i (getD heap (c + 5 + k) 0) (flat xs (closing ▹ ts)) (counts xs ++ ks) vs w vars heap (rw (← e) a) (rw append-assoc at r))
+      (one i (getD heap (c + 5 + k) 0) (flat xs (closing ▹ ts)) (countsAll xs ks) vs w vars heap (rw (← e) a) r)
       (λ q vars′ heap′ vs′ r′ kept.
       let u = r .above in
       law ins (o + 1) c (k + 1) ts ks vs′ q vars′ heap′ (omega arith) (omega arith) (omega arith) (omega arith)

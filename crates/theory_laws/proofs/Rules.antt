@@ -20,7 +20,7 @@ use Rattle.words.specs.Parts.{part}
 use Rattle.names.specs.Chains.{found, added}
 use Rattle.names.specs.Tables.{entry}
 use Rattle.lex.specs.declared.Reader.{Reader}
-use Rattle.sexp.specs.Flattening.{flatOne, flat, size, countsOne, counts}
+use Rattle.sexp.specs.Flattening.{flatOne, flat, size, countsOne, countsAll}
 use Rattle.patterns.specs.Outcomes as outcomes
 use Rattle.patterns.specs.Leaving as leaving
 use Rattle.patterns.specs.Leaving.{Did, _leaving_, beside}
@@ -70,7 +70,7 @@ module _ (text counted : List ℕ) (Before : Reader → Stream Token → Type 0)
     pub top : next .top ≡ w .top
     pub judged : Answers NameJudged (nameJudged text name) (definition.declaredName n)
 
-  name-kept : (n : Sexp) {ts : Stream Token} {ks : List ℕ} {w : Walk} → Walks text counted Before (flatOne n ts) (countsOne n ++ ks) w
+  name-kept : (n : Sexp) {ts : Stream Token} {ks : List ℕ} {w : Walk} → Walks text counted Before (flatOne n ts) (countsOne n ks) w
       → streamLength (flatOne n ts) ≤ length text
       → NameKept n ts ks w
   unfolding nameKept definition.declaredName definition.atomDue flatOne countsOne streamLength number need _>>=_
@@ -112,7 +112,7 @@ module _ (text counted : List ℕ) (Before : Reader → Stream Token → Type 0)
           → BodyRead base ts ks heap (n, q) areas (paired p c)
 
     body-law : (js j : Sexp) {base : ℕ} {ts : Stream Token} {ks : List ℕ} {w : Walk} {vars heap : List ℕ}
-        → Ready text counted Before th es base 0 (flatOne js (flatOne j ts)) (countsOne js ++ (countsOne j ++ ks)) [] w vars heap
+        → Ready text counted Before th es base 0 (flatOne js (flatOne j ts)) (countsOne js (countsOne j ks)) [] w vars heap
         → w .top ≡ base + 5
         → Shallow 259 js
         → Shallow 258 j
@@ -125,7 +125,7 @@ module _ (text counted : List ℕ) (Before : Reader → Stream Token → Type 0)
         let k : d ≡ 258 = omega arith in
         rw (list-due text counted Before reads short th es base m)
         (bind _ _
-        (judgments-law text counted Before reads short th es base xs (rw k at s₀) (flatOne j ts) (countsOne j ++ ks) [] (openedOne w (m .next)) vars heap
+        (judgments-law text counted Before reads short th es base xs (rw k at s₀) (flatOne j ts) (countsOne j ks) [] (openedOne w (m .next)) vars heap
         (after-opening text counted Before reads short th es base r m))
         (λ q₁ areas p y.
         bind _ _
@@ -133,7 +133,7 @@ module _ (text counted : List ℕ) (Before : Reader → Stream Token → Type 0)
         (λ q₂ areas′ c z.
         leave (join y z)))) where
           join : {q₁ q₂ : Walk} {areas areas′ : Areas} {p : List Pattern × List Variable} {c : Pattern × List Variable}
-              → JudgmentsRead text counted Before reads short th es base (size xs) (flatOne j ts) (countsOne j ++ ks) [] (w .top) heap q₁ areas p
+              → JudgmentsRead text counted Before reads short th es base (size xs) (flatOne j ts) (countsOne j ks) [] (w .top) heap q₁ areas p
               → PatternRead text counted Before th es base ts ks (p .1) (q₁ .top) (areas .1) q₂ areas′ c
               → BodyRead base ts ks heap (size xs, q₂) areas′ (paired p c)
           join {q₁} {q₂} {areas} {areas′} {p} {c} y z =
@@ -193,7 +193,7 @@ module _ (text counted : List ℕ) (Before : Reader → Stream Token → Type 0)
 
     -- "`(rule N (J...) J)`: premises left to right, conclusion, N, duplicate."
     pub rule-law : (n js j : Sexp) {ts : Stream Token} {ks : List ℕ} {w : Walk} (vars : List ℕ) {heap : List ℕ}
-        → Midway text counted Before reads th es (w .top) 20 (flatOne n (flatOne js (flatOne j (closing ▹ ts)))) (countsOne n ++ (countsOne js ++ (countsOne j ++ ks))) w heap
+        → Midway text counted Before reads th es (w .top) 20 (flatOne n (flatOne js (flatOne j (closing ▹ ts)))) (countsOne n (countsOne js (countsOne j ks))) w heap
         → length vars ≡ 16384
         → Shallow 259 js
         → Shallow 258 j

@@ -1,7 +1,7 @@
 -- A rule's name that is a list is passed over: the walk stands behind it. Assumes nothing.
 use mathlib.Core.Path.{_≡_, refl, ap, sym, subst, _∙_}
 use mathlib.Core.Bool.{Bool, true, false, not}
-use mathlib.Core.List.{List, [], _∷_, _++_, append-assoc}
+use mathlib.Core.List.{List, [], _∷_, _++_}
 use Prim.Native.Nat.{ℕ, zero, suc, _+_, _*_, _-_, _≤_, _<_}
 use native.Mathlib.Omega.{arith}
 use borrow.Author.Tests.{lt-ltb}
@@ -14,7 +14,7 @@ use Rattle.lex.specs.Answers as lexed
 use Rattle.lex.specs.declared.Token as read
 use Rattle.lex.specs.declared.Token.the-variants.{Opening, Closing, Atom}
 use Rattle.lex.specs.declared.Reader.{Reader}
-use Rattle.sexp.specs.Flattening.{flatOne, flat, size, countsOne, counts}
+use Rattle.sexp.specs.Flattening.{flatOne, flat, size, countsOne, countsAll}
 use Rattle.patterns.specs.Outcomes as outcomes
 use Rattle.patterns.specs.Outcomes.{Outcome}
 use Rattle.patterns.specs.Items.{sum32, readOn, openedOne}
@@ -112,14 +112,14 @@ module _ (text counted : List ℕ) (Before : Reader → Stream Token → Type 0)
 
   abbrev SkipLaw : Sexp → Type 0
   SkipLaw x =
-      (fuel depth : ℕ) (ts : Stream Token) (ks : List ℕ) (w : Walk) → Walks text counted Before (flatOne x ts) (countsOne x ++ ks) w → 0 < depth
+      (fuel depth : ℕ) (ts : Stream Token) (ks : List ℕ) (w : Walk) → Walks text counted Before (flatOne x ts) (countsOne x ks) w → 0 < depth
       → depth + fuel + 4 < 4294967296
       → streamLength (flatOne x ts) ≤ fuel
       → Skips fuel depth depth ts ks w
 
   abbrev SkipsLaw : Sexps → Type 0
   SkipsLaw xs =
-      (fuel depth : ℕ) (ts : Stream Token) (ks : List ℕ) (w : Walk) → Walks text counted Before (flat xs ts) (counts xs ++ ks) w → 0 < depth
+      (fuel depth : ℕ) (ts : Stream Token) (ks : List ℕ) (w : Walk) → Walks text counted Before (flat xs ts) (countsAll xs ks) w → 0 < depth
       → depth + fuel + 4 < 4294967296
       → streamLength (flat xs ts) ≤ fuel
       → Skips fuel depth depth ts ks w
@@ -140,14 +140,14 @@ module _ (text counted : List ℕ) (Before : Reader → Stream Token → Type 0)
       (skip-on (b .fuel′) (depth + 1) depth (pass-closing (b .walks)) (omega arith) (omega arith) (omega arith) (omega arith) (b .enough)))
 
   skip-none : SkipsLaw []ₛ
-  unfolding flat counts
+  unfolding flat countsAll
   skip-none fuel depth ts ks w h d small enough =
       record { fuel′ = fuel; next = w; same = refl; enough = enough; paid = omega arith; walks = h; top = refl }
 
   skip-more : (x : Sexp) (xs : Sexps) → SkipLaw x → SkipsLaw xs → SkipsLaw (x ∷ₛ xs)
-  unfolding flat counts
+  unfolding flat countsAll
   skip-more x xs one law fuel depth ts ks w h d small enough =
-      let a = one fuel depth (flat xs ts) (counts xs ++ ks) w (rw append-assoc at h) d small enough in
+      let a = one fuel depth (flat xs ts) (countsAll xs ks) w h d small enough in
       let x = a .paid in
       skips-then a (law (a .fuel′) depth ts ks (a .next) (a .walks) d (omega arith) (a .enough))
 
@@ -172,7 +172,7 @@ module _ (text counted : List ℕ) (Before : Reader → Stream Token → Type 0)
   skipped-none zero w = refl
   skipped-none (suc fuel) w = refl
 
-  pub rest-skipped : (xs : Sexps) {ts : Stream Token} {ks : List ℕ} {w : Walk} (fuel : ℕ) → Walks text counted Before (flat xs (closing ▹ ts)) (counts xs ++ ks) w
+  pub rest-skipped : (xs : Sexps) {ts : Stream Token} {ks : List ℕ} {w : Walk} (fuel : ℕ) → Walks text counted Before (flat xs (closing ▹ ts)) (countsAll xs ks) w
       → fuel ≤ 8192
       → streamLength (flat xs (closing ▹ ts)) ≤ fuel
       → Skipped ts ks w (skipped fuel 1 text w)

@@ -2,7 +2,7 @@
 -- theory with what is declared. Assumes nothing.
 use mathlib.Core.Path.{_≡_, refl, ap, sym, subst, _∙_}
 use mathlib.Core.Bool.{Bool, true, false, not}
-use mathlib.Core.List.{List, [], _∷_, _++_, List·Memᴰ, List·Memᴰ·head, List·Memᴰ·tail, append-assoc}
+use mathlib.Core.List.{List, [], _∷_, _++_, List·Memᴰ, List·Memᴰ·head, List·Memᴰ·tail}
 use mathlib.Core.Option.{Option, none, some}
 use Prim.Native.Nat.{ℕ, zero, suc, _+_, _*_, _-_, _≤_, _<_}
 use native.Mathlib.Omega.{arith}
@@ -21,7 +21,7 @@ use Rattle.names.specs.Tables.{Entry, entry, present}
 use Rattle.names.proofs.Kept.{length-added, added-other}
 use Rattle.names.proofs.Declared.{find-present}
 use Rattle.lex.specs.declared.Reader.{Reader}
-use Rattle.sexp.specs.Flattening.{flatOne, flat, size, countsOne, counts}
+use Rattle.sexp.specs.Flattening.{flatOne, flat, size, countsOne, countsAll}
 use Rattle.patterns.specs.Outcomes as outcomes
 use Rattle.patterns.specs.Leaving as leaving
 use Rattle.patterns.specs.Leaving.{Did, _leaving_}
@@ -96,7 +96,7 @@ module _ (text counted : List ℕ) (Before : Reader → Stream Token → Type 0)
 
   -- "`(sort N)`: N, then duplicate."
   sort-behind : {th : Theory} {es : Entries} (n : Sexp) {ts : Stream Token} {ks : List ℕ} {w : Walk} {heap : List ℕ} (b : ℕ × ℕ × Walk) (name : Name)
-      → Midway text counted Before reads th es (w .top) 20 (flatOne n (closing ▹ ts)) (countsOne n ++ ks) w heap
+      → Midway text counted Before reads th es (w .top) 20 (flatOne n (closing ▹ ts)) (countsOne n ks) w heap
       → NameRead text counted Before reads n (closing ▹ ts) ks w b name
       → Simulates (Stood ts ks)
       (leaving._>>=_ (entered text 0 (w .top) (b .0) (b .1) (b .2) heap) (λ (q, heap). closingDue text (reserved q 3) leaving heap))
@@ -123,7 +123,7 @@ module _ (text counted : List ℕ) (Before : Reader → Stream Token → Type 0)
       }))
 
   pub sort-law : {th : Theory} {es : Entries} (n : Sexp) {ts : Stream Token} {ks : List ℕ} {w : Walk} {heap : List ℕ}
-      → Midway text counted Before reads th es (w .top) 20 (flatOne n (closing ▹ ts)) (countsOne n ++ ks) w heap
+      → Midway text counted Before reads th es (w .top) 20 (flatOne n (closing ▹ ts)) (countsOne n ks) w heap
       → Simulates (Stood ts ks) (sortDeclared text counted w heap) (definition.declareSort th n)
   unfolding sortDeclared definition.declareSort
   sort-law n r = pure _ _ (declared-name text counted Before reads n (r .walks)) (λ b name k. sort-behind n b name r k)
@@ -136,8 +136,8 @@ module _ (text counted : List ℕ) (Before : Reader → Stream Token → Type 0)
 
   module _ {th : Theory} {es : Entries} where
     inputs-behind : {x : Sexp} (is : Sexp) {ts : Stream Token} {ks : List ℕ} {w : Walk} {heap : List ℕ} (b : ℕ × ℕ × Walk) (name : Name)
-        → Midway text counted Before reads th es (w .top) 20 (flatOne x (flatOne is ts)) (countsOne x ++ (countsOne is ++ ks)) w heap
-        → NameRead text counted Before reads x (flatOne is ts) (countsOne is ++ ks) w b name
+        → Midway text counted Before reads th es (w .top) 20 (flatOne x (flatOne is ts)) (countsOne x (countsOne is ks)) w heap
+        → NameRead text counted Before reads x (flatOne is ts) (countsOne is ks) w b name
         → Simulates (SignatureRead th es (w .top) ts ks heap)
         (leaving._>>=_ (listDue text counted (b .2) leaving heap)
         (λ ((n, q), heap). leaving._>>=_ (inputs n text counted (reserved q 5) heap) (λ (q, heap). outcomes.ok (b .0, b .1, n, q) leaving heap)))
@@ -163,7 +163,7 @@ module _ (text counted : List ℕ) (Before : Reader → Stream Token → Type 0)
         (λ q′ heap′ ins y. leave (signature-read p l u (rw e at y))))
 
     pub signature-law : (x is : Sexp) {ts : Stream Token} {ks : List ℕ} {w : Walk} {heap : List ℕ}
-        → Midway text counted Before reads th es (w .top) 20 (flatOne x (flatOne is ts)) (countsOne x ++ (countsOne is ++ ks)) w heap
+        → Midway text counted Before reads th es (w .top) 20 (flatOne x (flatOne is ts)) (countsOne x (countsOne is ks)) w heap
         → Simulates (SignatureRead th es (w .top) ts ks heap) (signature text counted w heap)
         (definition.declaredName x >>= λ name. definition.listDue is >>= λ xs. definition.sortsNamed th xs >>= λ ins. ok (paired name ins))
     unfolding signature
@@ -191,7 +191,7 @@ module _ (text counted : List ℕ) (Before : Reader → Stream Token → Type 0)
 
     output-behind : (o : Sexp) {ts : Stream Token} {ks : List ℕ} {base : ℕ} {heap : List ℕ} (b : ℕ × ℕ × ℕ × Walk) (heap′ : List ℕ) (name : Name) (ins : List Name)
         → Holds text heap es base th
-        → SignatureRead th es base (flatOne o (closing ▹ ts)) (countsOne o ++ ks) heap b heap′ (paired name ins)
+        → SignatureRead th es base (flatOne o (closing ▹ ts)) (countsOne o ks) heap b heap′ (paired name ins)
         → Simulates (Stood ts ks)
         (leaving._>>=_ (sortNamed text counted heap′ (b .3) leaving heap′)
         (λ ((a, q), heap). symbolEntered text 256 base (b .0) (b .1) a (b .2) q heap))
@@ -215,7 +215,7 @@ module _ (text counted : List ℕ) (Before : Reader → Stream Token → Type 0)
               p (omega arith) (omega arith) (k .sorts) (k .many) out m new)
 
     pub constructor-law : (x is o : Sexp) {ts : Stream Token} {ks : List ℕ} {w : Walk} {heap : List ℕ}
-        → Midway text counted Before reads th es (w .top) 20 (flatOne x (flatOne is (flatOne o (closing ▹ ts)))) (countsOne x ++ (countsOne is ++ (countsOne o ++ ks))) w heap
+        → Midway text counted Before reads th es (w .top) 20 (flatOne x (flatOne is (flatOne o (closing ▹ ts)))) (countsOne x (countsOne is (countsOne o ks))) w heap
         → Simulates (Stood ts ks) (constructorDeclared text counted w heap) (definition.declareConstructor th x is o)
     unfolding constructorDeclared definition.declareConstructor
     constructor-law x is o {ts} {ks} {w} {heap} r =
@@ -224,7 +224,7 @@ module _ (text counted : List ℕ) (Before : Reader → Stream Token → Type 0)
         (bind _ _ (signature-law x is r) (λ b heap′ y k. output-behind o b heap′ (y .0) (y .1) (r .holds) k))
 
     pub predicate-law : (x is : Sexp) {ts : Stream Token} {ks : List ℕ} {w : Walk} {heap : List ℕ}
-        → Midway text counted Before reads th es (w .top) 20 (flatOne x (flatOne is (closing ▹ ts))) (countsOne x ++ (countsOne is ++ ks)) w heap
+        → Midway text counted Before reads th es (w .top) 20 (flatOne x (flatOne is (closing ▹ ts))) (countsOne x (countsOne is ks)) w heap
         → Simulates (Stood ts ks) (predicateDeclared text counted w heap) (definition.declarePredicate th x is)
     unfolding predicateDeclared definition.declarePredicate
     predicate-law x is {ts} {ks} {w} {heap} r =
