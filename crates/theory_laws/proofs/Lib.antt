@@ -12,3 +12,4 @@ pub mod Symbols
 pub mod Skipping
 pub mod RulesAdded
 pub mod Rules
+pub mod Weights
