@@ -13,3 +13,5 @@ pub mod Skipping
 pub mod RulesAdded
 pub mod Rules
 pub mod Weights
+pub mod Depth
+pub mod Tallies
