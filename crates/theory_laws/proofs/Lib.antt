@@ -15,3 +15,4 @@ pub mod Rules
 pub mod Weights
 pub mod Depth
 pub mod Tallies
+pub mod Forms

@@ -184,3 +184,17 @@ three-on {B} {C} (ok a) m₂ m₃ f = two (m₂ a) where
   two : (m : Result B) → ((m >>= λ b. m₃ b >>= λ c. ok (paired b c)) >>= λ p. f (p .0) (p .1)) ≡ (m >>= λ b. m₃ b >>= λ c. f b c)
   two (ok b) = one b (m₃ b)
   two (refused r) = refl
+
+-- What the definition gave is known.
+pub knowing : {S A B : Type 0} {Q : A → S → B → Type 0} {m : Did S A} {m′ : Result B} → Simulates Q m m′
+    → Simulates (λ a s b. Q a s b × (m′ ≡ ok b)) m m′
+knowing (refuse e) = refuse e
+knowing (leave q) = leave (q, refl)
+
+-- A value that the walk makes of what was read.
+pub giving : {S A B C : Type 0} {Q : A → S → B → Type 0} {R : C → S → B → Type 0} {m : Did S A} {m′ : Result B} (g : A → C)
+    → Simulates Q m m′
+    → ((a : A) (s : S) (b : B) → Q a s b → R (g a) s b)
+    → Simulates R (leaving._>>=_ m (λ x. outcomes.ok (g (x .0)) leaving (x .1))) m′
+giving g (refuse e) k = refuse e
+giving g (leave q) k = leave (k _ _ _ q)
