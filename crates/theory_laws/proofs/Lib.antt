@@ -16,3 +16,4 @@ pub mod Weights
 pub mod Depth
 pub mod Tallies
 pub mod Forms
+pub mod Declarations

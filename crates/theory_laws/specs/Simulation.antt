@@ -198,3 +198,10 @@ pub giving : {S A B C : Type 0} {Q : A → S → B → Type 0} {R : C → S → 
     → Simulates R (leaving._>>=_ m (λ x. outcomes.ok (g (x .0)) leaving (x .1))) m′
 giving g (refuse e) k = refuse e
 giving g (leave q) k = leave (k _ _ _ q)
+
+-- Less is said.
+pub weaker : {S A B : Type 0} {Q R : A → S → B → Type 0} {m : Did S A} {m′ : Result B} → Simulates Q m m′
+    → ((a : A) (s : S) (b : B) → Q a s b → R a s b)
+    → Simulates R m m′
+weaker (refuse e) k = refuse e
+weaker (leave q) k = leave (k _ _ _ q)
