@@ -17,3 +17,4 @@ pub mod Depth
 pub mod Tallies
 pub mod Forms
 pub mod Declarations
+pub mod Readers
