@@ -18,3 +18,4 @@ pub mod Tallies
 pub mod Forms
 pub mod Declarations
 pub mod Readers
+pub mod Whole

@@ -59,6 +59,10 @@ pub none-counted : noCounts ≡ tally emptyTheory
 unfolding noCounts emptyTheory constructorCount predicateCount
 none-counted = refl
 
+pub none-total : total (tally emptyTheory) ≡ 0
+unfolding emptyTheory constructorCount predicateCount
+none-total = refl
+
 module _ (name : Name) (ins : List Name) where
   constructors-more : (s : Name) (cs : List Symbol) → constructorCount (cs ++ (symbol name ins (sort s) ∷ [])) ≡ constructorCount cs + 1
   unfolding constructorCount
