@@ -177,7 +177,7 @@ module _ (text member-counts : List ℕ) (Before : Reader → Stream Token → T
     pub top : ℕ
     pub holds : Holds text (areas .1) entries top th
     pub low : 1024 ≤ top
-    pub high : top ≤ 16384
+    pub high : top ≤ 11948
 
   pub declarations-law : (xs : Sexps) (fuel : ℕ) (th : Theory) (es : Entries) {w : Walk} (vars : List ℕ) {heap : List ℕ}
       → Mid th es (w .top) 0 (flat xs end) (countsAll xs []) w heap

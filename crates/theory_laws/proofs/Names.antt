@@ -95,7 +95,7 @@ module _ (text counted : List ℕ) (Before : Reader → Stream Token → Type 0)
       pub holds : Holds text heap es base th
       pub above : base ≤ w .top
       pub base-low : 1024 ≤ base
-      pub room : 3 * w .top + 4 * weight ts + credit ≤ 49152
+      pub room : 3 * w .top + 4 * weight ts + credit ≤ 35844
 
     pub record InputsRead (n : ℕ) (ts : Stream Token) (ks : List ℕ) (from : ℕ) (heap : List ℕ) (q : Walk) (heap′ : List ℕ) (ins : List Name) : Type 0 where
       pub ready : Midway 0 ts ks q heap′

@@ -57,7 +57,7 @@ module _ (text counts : List ℕ) (Before : Reader → Stream Token → Type 0) 
     pub many : w .variables ≡ length vs
     pub long : length vars ≡ 16384
     pub variables : VariablesAt text vars es 0 vs
-    pub room : 3 * w .top + 9 * length vs + 4 * weight ts + credit ≤ 49152
+    pub room : 3 * w .top + 9 * length vs + 4 * weight ts + credit ≤ 35844
 
   -- What reading leaves.
   pub record Reached (ts : Stream Token) (ks : List ℕ) (vs : List Variable) (from : ℕ) (heap : List ℕ) (q : Walk) (areas : Areas) (vs′ : List Variable) : Type 0 where

@@ -90,7 +90,7 @@ pub record Judged (text : List ℕ) (c : Counts) (areas : AllAreas) (th : Theory
   pub top : ℕ
   pub holds : Holds text (areas .2) entries top th
   pub low : 1024 ≤ top
-  pub high : top ≤ 16384
+  pub high : top ≤ 11948
 
 module _ (text : List ℕ) (short : length text ≤ 8192) where
   with-counts : (area : List ℕ) {m : Did Areas Counts} {m′ : Result Theory}
