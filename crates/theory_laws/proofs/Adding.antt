@@ -60,7 +60,7 @@ module _ {text heap heap′ : List ℕ} {base buckets s t : ℕ} (k : Adds text 
         let v = base-below (m .table .chain) in
         record {
           table = kept-within heap′ (kept-added-above buckets 256 base text s t (m .table) (omega arith) apart b h)
-          length-whole (λ i x y. k .words i (omega arith)) (λ i x y. k .words i (omega arith));
+              length-whole (λ i x y. k .words i (omega arith)) (λ i x y. k .words i (omega arith));
           below = omega arith;
           stands = stands-kept test Means Means′ (d .stands) (λ e name a n x. means e a x);
         }

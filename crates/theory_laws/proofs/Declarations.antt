@@ -118,9 +118,9 @@ module _ (text member-counts : List ℕ) (Before : Reader → Stream Token → T
     headed-atom name xs {ts} {ks} {w} vars {heap} r long s₀ s₁ enough =
         let c = r .room in
         let met : ListMet text member-counts Before reads (suc (size xs)) (atom name ▹ flat xs (closing ▹ ts)) (countsAll xs ks) w =
-          list-met text member-counts Before reads (r .walks) in
+        list-met text member-counts Before reads (r .walks) in
         let head : AtomMet text member-counts Before reads name (flat xs (closing ▹ ts)) (countsAll xs ks) (openedOne w (met .next)) =
-          atom-met text member-counts Before reads (met .walks) in
+        atom-met text member-counts Before reads (met .walks) in
         rw (list-due text member-counts Before reads short th es 0 met, head-met text member-counts Before reads short th es 0 (size xs) head, head .name)
         (giving (λ q. (formNamed name (suc (size xs)), q))
         (by-form vars (formed name xs)
@@ -142,8 +142,10 @@ module _ (text member-counts : List ℕ) (Before : Reader → Stream Token → T
         rw (list-due text member-counts Before reads short th es 0 (list-met text member-counts Before reads (r .walks))) (refuse refl)
     declaration-law (list (list ys ∷ₛ xs)) vars r long s₀ s₁ enough =
         let m = list-met text member-counts Before reads (r .walks) in
-        rw (list-due text member-counts Before reads short th es 0 m,
-          head-list text member-counts Before reads short th es 0 (size xs) (list-met text member-counts Before reads (m .walks))) (refuse refl)
+        rw (
+          list-due text member-counts Before reads short th es 0 m,
+          head-list text member-counts Before reads short th es 0 (size xs) (list-met text member-counts Before reads (m .walks)),
+        ) (refuse refl)
     declaration-law (list (leaf name ∷ₛ xs)) vars r long (shallow-list {d} e (shallow-more h s)) (shallow-list {d = d′} e′ (shallow-more h′ s′)) enough =
         let k : d ≡ 259 = omega arith in
         let k′ : d′ ≡ 258 = omega arith in

@@ -100,8 +100,14 @@ module _ (text counts : List ℕ) (Before : Reader → Stream Token → Type 0) 
     less-credit c h =
         let m = r .room in
         record {
-          walks = r .walks; holds = r .holds; above = r .above; base-low = r .base-low; many = r .many; long = r .long;
-          variables = r .variables; room = omega arith;
+          walks = r .walks;
+          holds = r .holds;
+          above = r .above;
+          base-low = r .base-low;
+          many = r .many;
+          long = r .long;
+          variables = r .variables;
+          room = omega arith;
         }
 
   -- A variable that the rule has.
@@ -217,7 +223,7 @@ module _ (text counts : List ℕ) (Before : Reader → Stream Token → Type 0) 
       (λ e.
       let d = eqb-false (t - s) 1 (sym b ∙ not-true _ e) in
       let k : Located vars es 0 vs name (position text vars (w .variables) s t) (first (isVariable name) vs) =
-        rw (r .many, p) (positions text vars name 0 (omega arith) (r .variables)) in
+      rw (r .many, p) (positions text vars name 0 (omega arith) (r .variables)) in
       variable-law name sortName s t a (less-credit r 12 (omega arith)) p (omega arith) (omega arith) m k)
 
   -- The tests of a symbol's output and number of inputs are the definition's.

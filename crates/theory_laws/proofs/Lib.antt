@@ -19,3 +19,4 @@ pub mod Forms
 pub mod Declarations
 pub mod Readers
 pub mod Whole
+pub mod Readback

@@ -145,8 +145,8 @@ module _ (text counted : List ℕ) (Before : Reader → Stream Token → Type 0)
                 keeps = keeps-then (rw e (omega arith)) (keeps-set (w .top) heap (w .top) a (omega arith)) (k .keeps);
                 words = omega arith;
                 sorts = one-sort {o = w .top} {s = name} {ss = ins}
-                (rw (k .keeps .words (w .top) (rw e (omega arith)), getD-set-same heap (w .top) a 0 (omega arith)) m)
-                (rw (← e) (k .sorts));
+                    (rw (k .keeps .words (w .top) (rw e (omega arith)), getD-set-same heap (w .top) a 0 (omega arith)) m)
+                    (rw (← e) (k .sorts));
                 many = ap suc (k .many);
               }
 

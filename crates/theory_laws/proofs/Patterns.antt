@@ -63,8 +63,14 @@ module _ (text counted : List ℕ) (Before : Reader → Stream Token → Type 0)
   after-atom r m =
       let c = r .room in
       record {
-        walks = m .walks; holds = r .holds; above = r .above; base-low = r .base-low; many = r .many; long = r .long;
-        variables = r .variables; room = omega arith;
+        walks = m .walks;
+        holds = r .holds;
+        above = r .above;
+        base-low = r .base-low;
+        many = r .many;
+        long = r .long;
+        variables = r .variables;
+        room = omega arith;
       }
 
   pub after-opening : {k : ℕ} {ts : Stream Token} {ks : List ℕ} {vs : List Variable} {w : Walk} {vars heap : List ℕ}
@@ -75,8 +81,14 @@ module _ (text counted : List ℕ) (Before : Reader → Stream Token → Type 0)
   after-opening r m =
       let c = r .room in
       record {
-        walks = m .walks; holds = r .holds; above = r .above; base-low = r .base-low; many = r .many; long = r .long;
-        variables = r .variables; room = omega arith;
+        walks = m .walks;
+        holds = r .holds;
+        above = r .above;
+        base-low = r .base-low;
+        many = r .many;
+        long = r .long;
+        variables = r .variables;
+        room = omega arith;
       }
 
   pub after-closing : {ts : Stream Token} {ks : List ℕ} {vs : List Variable} {w : Walk} {vars heap : List ℕ}
@@ -87,8 +99,14 @@ module _ (text counted : List ℕ) (Before : Reader → Stream Token → Type 0)
   after-closing r m =
       let c = r .room in
       record {
-        walks = m .walks; holds = r .holds; above = r .above; base-low = r .base-low; many = r .many; long = r .long;
-        variables = r .variables; room = omega arith;
+        walks = m .walks;
+        holds = r .holds;
+        above = r .above;
+        base-low = r .base-low;
+        many = r .many;
+        long = r .long;
+        variables = r .variables;
+        room = omega arith;
       }
 
   -- What reading arguments leaves.
@@ -113,7 +131,7 @@ module _ (text counted : List ℕ) (Before : Reader → Stream Token → Type 0)
       (read : ℕ → Walk → List ℕ → List ℕ → Did Areas Walk) (n c k : ℕ) (p : definition.Read Pattern) (ps : List Variable → definition.Read Patterns)
       → Simulates (Left us ls vs (w .top) heap) (read (getD heap (c + 5 + k) 0) w vars heap) p
       → ((q : Walk) (vars′ heap′ : List ℕ) (vs′ : List Variable) → Was 0 us ls vs′ q vars′ heap′ → Keeps (w .top) heap heap′
-        → Simulates (ArgumentsRead ts ks vs′ (q .top) heap′) (argumentsFrom read n text c (k + 1) q vars′ heap′) (ps vs′))
+      → Simulates (ArgumentsRead ts ks vs′ (q .top) heap′) (argumentsFrom read n text c (k + 1) q vars′ heap′) (ps vs′))
       → Simulates (ArgumentsRead ts ks vs (w .top) heap) (argumentsFrom read (suc n) text c k w vars heap)
       (p >>= λ (x, us). ps us >>= λ (xs, ws). ok (x ∷ₚ xs, ws))
   unfolding argumentsFrom
@@ -240,9 +258,9 @@ module _ (text counted : List ℕ) (Before : Reader → Stream Token → Type 0)
                 more = k .reached .more;
               };
               flat = flat-symbol {o = w .top} {o′ = q′ .top} {c = symbol name ins out} {ps = v .0} (low-top text counted Before th es base r e) (omega arith)
-              (rw (k .reached .keeps .words (w .top) t)
-              (symbol-kept grown-none (λ i g h. k .reached .keeps .words i (omega arith)) (omega arith) (symbol-word text counted Before th es base r e (symbol-at y))))
-              (rw (← top-after text counted Before th es base r) (k .flats));
+                  (rw (k .reached .keeps .words (w .top) t)
+                  (symbol-kept grown-none (λ i g h. k .reached .keeps .words i (omega arith)) (omega arith) (symbol-word text counted Before th es base r e (symbol-at y))))
+                  (rw (← top-after text counted Before th es base r) (k .flats));
             }
 
   -- A list whose head is an atom.

@@ -141,7 +141,7 @@ module _ (text counted : List ℕ) (Before : Reader → Stream Token → Type 0)
               let b = z .reached .rises in
               let u = y .reached .ready .above in
               let f : FlatList (areas′ .1) es base (base + 5) (q₂ .top) (c .1) (w .top) (p .0) (q₁ .top) =
-                premises-kept grown-none (λ i g f. z .reached .keeps .words i (omega arith)) (omega arith) (λ i g f. z .reached .keeps .words i f) b (z .reached .more) (y .flats) in
+              premises-kept grown-none (λ i g f. z .reached .keeps .words i (omega arith)) (omega arith) (λ i g f. z .reached .keeps .words i f) b (z .reached .more) (y .flats) in
               body-read (q₁ .top) (y .many) (z .reached .ready)
               (rw e at (keeps-then a (y .reached .keeps) (z .reached .keeps)))
               (rw e at f)
@@ -170,7 +170,7 @@ module _ (text counted : List ℕ) (Before : Reader → Stream Token → Type 0)
         let k : (q .top + 3 * q .variables) % 4294967296 ≡ q .top + 3 * q .variables = mod-eq-of-lt (omega arith) in
         let q′ : Walk = withTop q ((q .top + 3 * q .variables) % 4294967296) in
         let m : ClosingMet text counted Before reads ts ks q′ =
-          closing-met text counted Before reads record { before = r .walks .before; counted = r .walks .counted; few = r .walks .few } in
+        closing-met text counted Before reads record { before = r .walks .before; counted = r .walks .counted; few = r .walks .few } in
         aside {Q = λ q₁ heap₁ th′. Stood text counted Before reads short ts ks q₁ heap₁ th′} (areas .0)
         (test-then (areas .1) (isNew (found (areas .1) 768 256 text (part s t text))) 13 duplicate q (added (areas .1) 768 256 base text s t) _ _
         (rw e (new-test name (r .holds .rules))) refl
@@ -206,9 +206,12 @@ module _ (text counted : List ℕ) (Before : Reader → Stream Token → Type 0)
         let low = r .base-low in
         let light = lighter n (flatOne js (flatOne j (closing ▹ ts))) in
         let e : sum32 (k .next .top) 5 ≡ w .top + 5 = rw (k .top) (sum-small (w .top) 5 (omega arith)) in
-        rw (k .met, ← three-on {D = Theory} (definition.listDue js) (λ xs. definition.judgmentPatterns th xs []) (λ p. definition.judgmentPattern th j (p .1))
-          (λ p c. definition.declaredName n >>= λ name. need (not (some-of (isRule name) (th .rules))) duplicate >>= λ _.
-          ok record { sorts = th .sorts; symbols = th .symbols; rules = th .rules ++ (rule name (c .1) (p .0) (c .0) ∷ []) }))
+        rw (
+          k .met,
+          ← three-on {D = Theory} (definition.listDue js) (λ xs. definition.judgmentPatterns th xs []) (λ p. definition.judgmentPattern th j (p .1))
+              (λ p c. definition.declaredName n >>= λ name. need (not (some-of (isRule name) (th .rules))) duplicate >>= λ _.
+              ok record { sorts = th .sorts; symbols = th .symbols; rules = th .rules ++ (rule name (c .1) (p .0) (c .0) ∷ []) }),
+        )
         (bind _ _
         (body-law js j
         record {

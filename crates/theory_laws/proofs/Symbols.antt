@@ -220,7 +220,7 @@ module _ (text counted : List ℕ) (Before : Reader → Stream Token → Type 0)
     unfolding constructorDeclared definition.declareConstructor
     constructor-law x is o {ts} {ks} {w} {heap} r =
         rw (← three (definition.declaredName x) (definition.listDue is) (definition.sortsNamed th)
-          (λ name ins. definition.sortNamed th o >>= λ out. need (not (some-of (isConstructor name) (th .symbols))) duplicate >>= λ _. ok (withSymbol th (symbol name ins (sort out)))))
+        (λ name ins. definition.sortNamed th o >>= λ out. need (not (some-of (isConstructor name) (th .symbols))) duplicate >>= λ _. ok (withSymbol th (symbol name ins (sort out)))))
         (bind _ _ (signature-law x is r) (λ b heap′ y k. output-behind o b heap′ (y .0) (y .1) (r .holds) k))
 
     pub predicate-law : (x is : Sexp) {ts : Stream Token} {ks : List ℕ} {w : Walk} {heap : List ℕ}
@@ -229,7 +229,7 @@ module _ (text counted : List ℕ) (Before : Reader → Stream Token → Type 0)
     unfolding predicateDeclared definition.declarePredicate
     predicate-law x is {ts} {ks} {w} {heap} r =
         rw (← three (definition.declaredName x) (definition.listDue is) (definition.sortsNamed th)
-          (λ name ins. need (not (some-of (isPredicate name) (th .symbols))) duplicate >>= λ _. ok (withSymbol th (symbol name ins judgment))))
+        (λ name ins. need (not (some-of (isPredicate name) (th .symbols))) duplicate >>= λ _. ok (withSymbol th (symbol name ins judgment))))
         (bind _ _ (signature-law x is r) (λ b heap′ y k. one b heap′ (y .0) (y .1) k)) where
           one : (b : ℕ × ℕ × ℕ × Walk) (heap′ : List ℕ) (name : Name) (ins : List Name)
               → SignatureRead th es (w .top) (closing ▹ ts) ks heap b heap′ (paired name ins)
