@@ -1,16 +1,16 @@
 -- A theory with one entry more: what the words hold after a name was added, whatever stands behind its three words.
 -- Assumes nothing.
-use mathlib.Core.Path.{_≡_, refl, ap, sym, subst, _∙_}
-use mathlib.Core.Bool.{Bool, true, false, not}
-use mathlib.Core.List.{List, [], _∷_, _++_, List·Memᴰ, List·Memᴰ·head, List·Memᴰ·tail}
-use Prim.Native.Nat.{ℕ, zero, suc, _+_, _*_, _-_, _≤_, _<_}
+use mathlib.Core.Path.{_≡_, refl, sym, _∙_}
+use mathlib.Core.Bool.{Bool, false}
+use mathlib.Core.List.{List, [], _∷_, _++_}
+use Prim.Native.Nat.{ℕ, _+_, _≤_, _<_}
 use native.Mathlib.Omega.{arith}
-use lib.ListN.{length, getD, set}
+use lib.ListN.{length, getD}
 use Rattle.horn.specs.Names.{Name, named, some-of}
 use Rattle.words.specs.Parts.{part}
 use Rattle.names.specs.Chains.{added}
 use Rattle.names.specs.Tables as tables
-use Rattle.names.specs.Tables.{Entry, entry, Table, Stands, declared, other-kind}
+use Rattle.names.specs.Tables.{Entry, entry, declared, other-kind}
 use Rattle.names.proofs.Holds.{base-below}
 use Rattle.names.proofs.Kept.{kept-within, kept-added-above, add-law, added-other, length-added}
 use Rattle.names.proofs.Declared.{stands-kept}

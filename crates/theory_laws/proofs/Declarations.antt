@@ -1,40 +1,36 @@
 -- All declarations: the second walk answers as the definition does, and the words hold its theory. Assumes nothing.
 use mathlib.Core.Path.{_≡_, refl, ap, sym, subst, _∙_}
-use mathlib.Core.Bool.{Bool, true, false}
-use mathlib.Core.List.{List, [], _∷_}
-use Prim.Native.Nat.{ℕ, zero, suc, _+_, _*_, _-_, _≤_, _<_}
+use mathlib.Core.List.{List, []}
+use Prim.Native.Nat.{ℕ, zero, suc, _+_, _*_, _≤_, _<_}
 use native.Mathlib.Omega.{arith}
 use lib.ListN.{length}
-use Rattle.horn.specs.Refusals.{Refusal, number, Result, ok, refused, _>>=_}
+use Rattle.horn.specs.Refusals.{number, ok, _>>=_}
 use Rattle.horn.specs.Names.{Name}
 use Rattle.horn.specs.Tokens.{Stream, end, _▹_, Token, opening, closing, atom}
 use Rattle.horn.specs.NestedLists.{Sexp, leaf, list, Sexps, []ₛ, _∷ₛ_}
 use Rattle.horn.specs.Rulebook as definition
 use Rattle.horn.specs.Rulebook.{Theory, Keyword, keyword, oneMember, twoMembers, threeMembers}
 use Rattle.horn.proofs.Counts.{streamLength}
-use Rattle.horn.proofs.Inversion.{not-ok, ok-equal}
-use Rattle.lex.specs.Answers as lexed
+use Rattle.horn.proofs.Inversion.{not-ok}
 use Rattle.lex.specs.declared.Reader.{Reader}
 use Rattle.sexp.specs.Flattening.{flatOne, flat, size, countsOne, countsAll}
 use Rattle.patterns.specs.Outcomes as outcomes
-use Rattle.patterns.specs.Leaving.{Did, _leaving_, beside}
 use Rattle.patterns.specs.Items.{readOn, openedOne, listDue, headDue}
 use Rattle.patterns.specs.Patterns.{Areas}
 use Rattle.patterns.specs.declared.Walk.{Walk}
 use Rattle.theory.specs.Declarations as walk
-use Rattle.theory.specs.Declarations.{another, nothing, formOf, formNamed, declaredBy, moreDue, counted, declarationsFrom, declarationsBy}
+use Rattle.theory.specs.Declarations.{another, nothing, formOf, formNamed, declaredBy, moreDue, counted, declarationsFrom}
 use Rattle.theory.specs.declared.Counts.{Counts}
 use Rattle.theory.specs.declared.Form.{Form}
-use Rattle.theory.specs.declared.Form.the-variants as forms
 use Rattle.theory_laws.specs.Simulation.{Simulates, refuse, leave, bind, aside, weaker, knowing, giving}
-use Rattle.theory_laws.specs.Reading.{Reads, Peeks, Walks, weight, Shallow, shallow-leaf, shallow-list, Shallows, shallow-none, shallow-more}
+use Rattle.theory_laws.specs.Reading.{Reads, Walks, weight, Shallow, shallow-list, Shallows, shallow-more}
 use Rattle.theory_laws.specs.Representation.{Entries, Holds}
 use Rattle.theory_laws.proofs.Items.{AtomMet, atom-met, ListMet, list-met}
 use Rattle.theory_laws.proofs.Patterns.{head-met, head-list}
 use Rattle.theory_laws.proofs.Judgments.{list-due, atom-due}
 use Rattle.theory_laws.proofs.Names.{Midway}
 use Rattle.theory_laws.proofs.Symbols.{Stood, sort-law, constructor-law, predicate-law}
-use Rattle.theory_laws.proofs.Rules.{StoodWith, rule-law}
+use Rattle.theory_laws.proofs.Rules.{rule-law}
 use Rattle.theory_laws.proofs.Tallies.{tally, total, oneMore, one-counted, one-total, sort-tally, constructor-tally, predicate-tally, rule-tally}
 use Rattle.theory_laws.proofs.Forms.{Formed, is-sort, is-constructor, is-predicate, is-rule, is-other, formed}
 

@@ -1,15 +1,13 @@
 -- Nested lists that were read whole are nested no deeper than the walk goes. Assumes nothing.
-use mathlib.Core.Path.{_≡_, refl, sym, _∙_}
+use mathlib.Core.Path.{_≡_, refl}
 use mathlib.Core.Bool.{Bool, true, false}
-use mathlib.Core.List.{List}
-use Prim.Native.Nat.{ℕ, zero, suc, _+_, _-_, _≤_, _<_}
+use Prim.Native.Nat.{ℕ, suc, _+_, _-_, _≤_}
 use native.Mathlib.Omega.{arith}
 use borrow.Author.Tests.{leb-true}
 use lib.Dec.{leb}
-use Rattle.horn.specs.Refusals.{Refusal, nesting, notUtf8, textEnds, strayClosing, Result, ok, refused, _>>=_, need}
+use Rattle.horn.specs.Refusals.{nesting, Result, ok, refused, _>>=_, need}
 use Rattle.horn.specs.NestedLists.{Item, word, group, Items, closed, ended, badLine, _then_, askedAt, absent, sexp, members, sexps}
-use Rattle.horn.specs.NestedLists.{Sexp, leaf, list, Sexps, []ₛ, _∷ₛ_}
-use Rattle.horn.proofs.Equality.{case}
+use Rattle.horn.specs.NestedLists.{Sexps}
 use Rattle.horn.proofs.Inversion.{ok-equal, not-ok}
 use Rattle.horn.proofs.Post.{Post, post-ok, post-refused, post-bind, post-after}
 use Rattle.theory_laws.specs.Reading.{Shallow, shallow-leaf, shallow-list, Shallows, shallow-none, shallow-more}

@@ -1,8 +1,8 @@
 -- The form of a declaration, by its head and its length: the walk's is the definition's. Assumes nothing.
-use mathlib.Core.Path.{_≡_, refl, ap, sym, subst, _∙_}
+use mathlib.Core.Path.{_≡_, refl, ap}
 use mathlib.Core.Bool.{Bool, true, false}
-use mathlib.Core.List.{List, [], _∷_}
-use Prim.Native.Nat.{ℕ, zero, suc, _+_}
+use mathlib.Core.List.{[], _∷_}
+use Prim.Native.Nat.{ℕ, suc}
 use native.Mathlib.Omega.{arith}
 use borrow.Author.Tests.{ne-eqb}
 use lib.Dec.{eqb}
@@ -12,7 +12,6 @@ use Rattle.horn.specs.Names.{Name, named, codes}
 use Rattle.horn.specs.NestedLists.{Sexp, Sexps, []ₛ, _∷ₛ_}
 use Rattle.horn.specs.Rulebook.{Theory, Keyword, sortWord, ctorWord, predWord, ruleWord, otherWord, keyword, declare, oneMember, twoMembers, threeMembers}
 use Rattle.horn.proofs.Equality.{named-decides}
-use Rattle.words.specs.Parts.{sameBytes}
 use Rattle.sexp.specs.Flattening.{size}
 use Rattle.patterns.specs.Outcomes.{pick}
 use Rattle.theory.specs.Declarations as walk

@@ -1,17 +1,15 @@
 -- Words written at or above `top` keep all that is held below it, and what is held stays where tables and variables grow.
 -- Assumes nothing.
-use mathlib.Core.Path.{_≡_, refl, ap, sym, subst, _∙_}
+use mathlib.Core.Path.{_≡_, refl, sym, subst, _∙_}
 use mathlib.Core.Bool.{Bool}
-use mathlib.Core.List.{List, [], _∷_, _++_, List·Memᴰ}
-use Prim.Native.Nat.{ℕ, zero, suc, _+_, _*_, _≤_, _<_}
+use mathlib.Core.List.{List, List·Memᴰ}
+use Prim.Native.Nat.{ℕ, _+_, _*_, _≤_, _<_}
 use native.Mathlib.Omega.{arith}
 use lib.ListN.{length, getD, set, length-set}
-use lib.Seq.{getD-set-same, getD-set-other}
+use lib.Seq.{getD-set-other}
 use Rattle.horn.specs.Names.{Name}
-use Rattle.horn.specs.Rulebook.{Output, sort, judgment, Symbol, symbol, Variable, variable, Pattern, Patterns, Rule, Theory}
-use Rattle.words.specs.Parts.{part}
-use Rattle.names.specs.Tables as tables
-use Rattle.names.specs.Tables.{Entry, entry, Table, Stands}
+use Rattle.horn.specs.Rulebook.{Output, sort, judgment, Symbol, Variable, Pattern, Patterns, Rule, Theory}
+use Rattle.names.specs.Tables.{Entry}
 use Rattle.names.proofs.Kept.{kept-within}
 use Rattle.names.proofs.Holds.{base-below}
 use Rattle.names.proofs.Declared.{stands-kept}

@@ -1,11 +1,11 @@
 -- The next item, where the walk stands before a nested list that was read whole. Assumes nothing.
-use mathlib.Core.Path.{_≡_, refl, ap, sym, _∙_}
-use mathlib.Core.List.{List, [], _∷_}
-use Prim.Native.Nat.{ℕ, zero, suc, _+_, _%_, _≤_, _<_}
+use mathlib.Core.Path.{_≡_}
+use mathlib.Core.List.{List, _∷_}
+use Prim.Native.Nat.{ℕ, _+_, _≤_, _<_}
 use native.Mathlib.Nat.{mod-eq-of-lt}
 use native.Mathlib.Omega.{arith}
 use lib.ListN.{length, getD}
-use Rattle.horn.specs.Tokens.{Stream, end, bad, _▹_, Token, opening, closing, atom}
+use Rattle.horn.specs.Tokens.{Stream, _▹_, Token, opening, closing, atom}
 use Rattle.words.specs.Parts.{part}
 use Rattle.lex.specs.Answers as lexed
 use Rattle.lex.specs.declared.Token as read
@@ -15,7 +15,7 @@ use Rattle.patterns.specs.Outcomes as outcomes
 use Rattle.patterns.specs.Items as items
 use Rattle.patterns.specs.Items.{sum32, readOn, openedOne, itemDue, closingDue}
 use Rattle.patterns.specs.declared.Walk.{Walk}
-use Rattle.theory_laws.specs.Reading.{Same, same-opening, same-closing, same-atom, Takes, Reads, Next, no-more, one-next, Walks}
+use Rattle.theory_laws.specs.Reading.{Same, same-opening, same-closing, same-atom, Takes, Reads, Next, one-next, Walks}
 
 -- No sum of the walk wraps.
 pub sum-small : (a b : ℕ) → a + b < 4294967296 → sum32 a b ≡ a + b

@@ -1,30 +1,28 @@
 -- Judgments of a rule: the walk reads what the definition reads, and the words that it writes stand for it.
 -- Assumes nothing.
-use mathlib.Core.Path.{_≡_, refl, ap, sym, subst, _∙_}
-use mathlib.Core.Bool.{Bool, true, false, not}
-use mathlib.Core.List.{List, [], _∷_, _++_}
-use Prim.Native.Nat.{ℕ, zero, suc, _+_, _*_, _≤_, _<_}
+use mathlib.Core.Path.{_≡_, refl, ap}
+use mathlib.Core.List.{List, _∷_}
+use Prim.Native.Nat.{ℕ, suc, _+_, _≤_}
 use native.Mathlib.Omega.{arith}
-use lib.ListN.{length, getD, set}
-use Rattle.horn.specs.Refusals.{Refusal, number, Result, ok, refused, need, _>>=_, sortArity}
+use lib.ListN.{length}
+use Rattle.horn.specs.Refusals.{number, ok, refused, _>>=_, sortArity}
 use Rattle.horn.specs.Names.{Name}
-use Rattle.horn.specs.Tokens.{Stream, _▹_, Token, opening, closing, atom}
+use Rattle.horn.specs.Tokens.{Stream, _▹_, Token, closing, atom}
 use Rattle.horn.specs.NestedLists.{Sexp, leaf, list, Sexps, []ₛ, _∷ₛ_}
 use Rattle.horn.specs.Rulebook as definition
 use Rattle.horn.specs.Rulebook.{judgment, Variable, Pattern, isPredicate, Theory, fits, count}
 use Rattle.lex.specs.declared.Reader.{Reader}
 use Rattle.sexp.specs.Flattening.{flatOne, flat, size, countsOne, countsAll}
 use Rattle.patterns.specs.Outcomes as outcomes
-use Rattle.patterns.specs.Leaving.{Did, _leaving_}
-use Rattle.patterns.specs.Items.{readOn, openedOne, listDue, headDue, closingDue}
+use Rattle.patterns.specs.Items.{readOn, openedOne, listDue, headDue}
 use Rattle.patterns.specs.Patterns as walk
 use Rattle.patterns.specs.Patterns.{Areas}
 use Rattle.patterns.specs.declared.Walk.{Walk}
 use Rattle.theory_laws.specs.Simulation.{Simulates, refuse, leave, bind, checked-aside, after}
-use Rattle.theory_laws.specs.Reading.{Reads, Shallow, shallow-leaf, shallow-list, Shallows, shallow-none, shallow-more}
+use Rattle.theory_laws.specs.Reading.{Reads, Shallow, shallow-list, Shallows, shallow-more}
 use Rattle.theory_laws.specs.Representation.{Entries, judgment-output, FlatList, no-premises, one-premise}
 use Rattle.theory_laws.proofs.Items.{AtomMet, atom-met, ListMet, list-met, closing-met}
-use Rattle.theory_laws.proofs.Frames.{Keeps, keeps-all, keeps-then, grown-none, flat-kept}
+use Rattle.theory_laws.proofs.Frames.{keeps-all, keeps-then, grown-none, flat-kept}
 use Rattle.theory_laws.proofs.Ready.{Ready, Reached, PatternRead}
 use Rattle.theory_laws.proofs.Leaves.{applied-law, less-credit}
 use Rattle.theory_laws.proofs.Patterns.{size-count, after-atom, after-opening, after-closing, head-met, head-list, applied-arguments, ArgumentsLaw, arguments-law}

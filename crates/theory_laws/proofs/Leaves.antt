@@ -1,42 +1,39 @@
 -- An atom as a term, and a symbol as the head of a list. Assumes nothing.
-use mathlib.Core.Path.{_≡_, refl, ap, sym, subst, _∙_}
-use mathlib.Core.Bool.{Bool, true, false, not, _&&_, true≢false}
-use mathlib.Core.List.{List, [], _∷_, _++_, List·Memᴰ}
+use mathlib.Core.Path.{_≡_, refl, ap, sym, _∙_}
+use mathlib.Core.Bool.{Bool, true, false, not, _&&_}
+use mathlib.Core.List.{List, [], _∷_, _++_}
 use mathlib.Core.Option.{Option, none, some}
-use Prim.Native.Nat.{ℕ, zero, suc, _+_, _*_, _-_, _%_, _≤_, _<_}
+use Prim.Native.Nat.{ℕ, suc, _+_, _*_, _-_, _%_, _≤_, _<_}
 use native.Mathlib.Nat.{mod-eq-of-lt, le-of-lt}
 use native.Mathlib.Omega.{arith}
-use borrow.Author.Tests.{eqb-true, eqb-false, eq-eqb, ne-eqb, not-true}
+use borrow.Author.Tests.{eqb-false, eq-eqb, ne-eqb, not-true}
 use lib.Dec.{eqb}
 use lib.ListN.{length, getD, set, length-set, length-append}
 use lib.Seq.{getD-set-same, getD-set-other}
-use Rattle.horn.specs.Refusals.{Refusal, number, Result, ok, refused, need, _>>=_, unknown, sortArity, variableName, twoSorts}
+use Rattle.horn.specs.Refusals.{number, ok, need, _>>=_, unknown, sortArity, variableName, twoSorts}
 use Rattle.horn.specs.Refusals as refusals
-use Rattle.horn.specs.Names.{Name, named, questioned, bare, first}
+use Rattle.horn.specs.Names.{Name, named, questioned, first}
 use Rattle.horn.specs.Tokens.{Stream, Token}
 use Rattle.horn.specs.NestedLists.{leaf}
 use Rattle.horn.specs.Rulebook as definition
-use Rattle.horn.specs.Rulebook.{Output, sort, judgment, sameOutput, Symbol, symbol, Variable, variable, Pattern, var, app, Patterns, []ₚ, _∷ₚ_, isVariable, isConstructor, isPredicate, Theory, fits}
-use Rattle.horn.proofs.Equality.{case, named-decides, chose-true, chose-false}
+use Rattle.horn.specs.Rulebook.{Output, sort, sameOutput, Symbol, Variable, variable, Pattern, var, app, []ₚ, isVariable, isConstructor, Theory, fits}
+use Rattle.horn.proofs.Equality.{case, chose-true, chose-false}
 use Rattle.words.specs.Parts.{part}
 use Rattle.names.specs.Chains.{found}
-use Rattle.names.specs.Tables.{Entry, Agree, both-none, both-some}
+use Rattle.names.specs.Tables.{Entry}
 use Rattle.names.proofs.Declared.{find-agrees}
 use Rattle.names.proofs.Holds.{by-number}
 use Rattle.lex.specs.declared.Reader.{Reader}
-use Rattle.patterns.specs.Outcomes as outcomes
-use Rattle.patterns.specs.Leaving as leaving
-use Rattle.patterns.specs.Leaving.{Did, _leaving_, beside}
+use Rattle.patterns.specs.Leaving.{beside}
 use Rattle.patterns.specs.Items.{sum32, withTop, pushed, question}
 use Rattle.patterns.specs.Patterns as walk
 use Rattle.patterns.specs.Patterns.{Areas, variableWord, withVariable, oneVariable, introduced, metAgain, variableAt, position, applied}
 use Rattle.patterns.specs.declared.Walk.{Walk}
-use Rattle.theory_laws.specs.Simulation.{Simulates, refuse, leave, bind, pure, test, tests, look, checked, aside}
-use Rattle.theory_laws.specs.Reading.{Reads, Walks, weight}
-use Rattle.theory_laws.specs.Representation.{Entries, SortAt, OutputAt, sort-output, judgment-output, SymbolAt, symbol-at, Nth, Flat, flat-variable, flat-symbol, no-flats, VariablesAt, Declares, Holds}
+use Rattle.theory_laws.specs.Simulation.{Simulates, leave, test, tests, look, checked, aside}
+use Rattle.theory_laws.specs.Representation.{Entries, SortAt, OutputAt, sort-output, SymbolAt, symbol-at, Nth, flat-variable, flat-symbol, no-flats, Declares, Holds}
 use Rattle.theory_laws.proofs.Items.{sum-small}
-use Rattle.theory_laws.proofs.Frames.{Keeps, keeps-set, grown-none, symbol-kept, variables-kept}
-use Rattle.theory_laws.proofs.Ready.{Ready, Reached, PatternRead, push-ready, nth-more, nth-last, nth-below, variables-more}
+use Rattle.theory_laws.proofs.Frames.{keeps-set, grown-none, symbol-kept, variables-kept}
+use Rattle.theory_laws.proofs.Ready.{Ready, PatternRead, push-ready, nth-more, nth-last, nth-below, variables-more}
 use Rattle.theory_laws.proofs.Lookups.{named-turned, part-question, part-length, bare-width, Located, nowhere, located, positions, same-sort, same-output}
 
 -- An atom as a term, by its first byte.

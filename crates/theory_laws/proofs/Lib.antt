@@ -20,3 +20,4 @@ pub mod Declarations
 pub mod Readers
 pub mod Whole
 pub mod Readback
+pub mod Refusing

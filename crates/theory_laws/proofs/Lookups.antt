@@ -1,26 +1,26 @@
 -- Looking up: variables of the rule by their bytes, sorts by their addresses, symbols by their names. Assumes nothing.
-use mathlib.Core.Path.{_≡_, refl, ap, sym, subst, _∙_}
-use mathlib.Core.Bool.{Bool, true, false, not, _&&_, true≢false}
-use mathlib.Core.List.{List, [], _∷_, _++_, List·Memᴰ}
+use mathlib.Core.Path.{_≡_, refl, ap, sym, _∙_}
+use mathlib.Core.Bool.{true, true≢false}
+use mathlib.Core.List.{List, [], _∷_}
 use mathlib.Core.Option.{Option, none, some}
-use Prim.Native.Nat.{ℕ, zero, suc, _+_, _*_, _-_, _%_, _≤_, _<_}
+use Prim.Native.Nat.{ℕ, zero, suc, _+_, _*_, _-_, _≤_, _<_}
 use native.Mathlib.Omega.{arith}
-use borrow.Author.Tests.{eqb-true, eqb-false, eq-eqb, ne-eqb}
+use borrow.Author.Tests.{eq-eqb, ne-eqb}
 use lib.Dec.{eqb}
 use lib.ListN.{length, getD, take, drop, length-take, length-drop}
 use lib.Seq.{drop-cons}
 use Rattle.horn.specs.Names.{Name, named, sameList, questioned, bare, codes, first}
-use Rattle.horn.specs.Rulebook.{Output, sort, judgment, sameOutput, Symbol, symbol, Variable, variable, isVariable, Theory, fits}
-use Rattle.horn.proofs.Equality.{case, named-decides, apart, chose-true, chose-false}
+use Rattle.horn.specs.Rulebook.{Output, sameOutput, Variable, variable, isVariable, Theory}
+use Rattle.horn.proofs.Equality.{case, named-decides, apart}
 use Rattle.horn.proofs.Inversion.{some-equal}
 use Rattle.words.specs.Parts.{part, sameBytes}
 use Rattle.names.specs.Chains.{nameAt}
-use Rattle.names.specs.Tables.{Entry, entry, lookup}
-use Rattle.names.proofs.Holds.{by-name, by-number}
+use Rattle.names.specs.Tables.{lookup}
+use Rattle.names.proofs.Holds.{by-name}
 use Rattle.names.proofs.Kept.{member-named, member-bounds}
 use Rattle.names.proofs.Declared.{lookup-member, stands-distinct}
 use Rattle.patterns.specs.Items.{question}
-use Rattle.patterns.specs.Patterns.{variableName, positionFrom, position}
+use Rattle.patterns.specs.Patterns.{variableName, positionFrom}
 use Rattle.theory_laws.specs.Representation.{Entries, SortAt, sort-at, OutputAt, sort-output, judgment-output, Nth, here, there, VariablesAt, no-variables, one-variable, Holds}
 
 -- The comparison of the code is the definition's.

@@ -1,38 +1,35 @@
 -- Names and sorts where the walk reads a declaration. Assumes nothing.
-use mathlib.Core.Path.{_≡_, refl, ap, sym, subst, _∙_}
-use mathlib.Core.Bool.{Bool, true, false, not, true≢false}
-use mathlib.Core.List.{List, [], _∷_, _++_}
+use mathlib.Core.Path.{_≡_, refl, ap, sym, _∙_}
+use mathlib.Core.Bool.{Bool, true, false, true≢false}
+use mathlib.Core.List.{List, [], _∷_}
 use mathlib.Core.Option.{Option, none, some}
-use Prim.Native.Nat.{ℕ, zero, suc, _+_, _*_, _-_, _≤_, _<_}
+use Prim.Native.Nat.{ℕ, suc, _+_, _*_, _-_, _≤_, _<_}
 use native.Mathlib.Omega.{arith}
-use lib.ListN.{length, getD, set}
+use lib.ListN.{length, set}
 use lib.Seq.{getD-set-same}
-use Rattle.horn.specs.Refusals.{Refusal, number, Result, ok, refused, need, _>>=_, unknown, variableName}
+use Rattle.horn.specs.Refusals.{number, ok, need, _>>=_, unknown}
 use Rattle.horn.specs.Names.{Name, named, questioned, some-of}
-use Rattle.horn.specs.Tokens.{Stream, _▹_, Token, opening, closing, atom}
+use Rattle.horn.specs.Tokens.{Stream, _▹_, Token, closing}
 use Rattle.horn.specs.NestedLists.{Sexp, leaf, list, Sexps, []ₛ, _∷ₛ_}
 use Rattle.horn.specs.Rulebook as definition
 use Rattle.horn.specs.Rulebook.{Theory}
 use Rattle.horn.proofs.Equality.{case}
-use Rattle.horn.proofs.Inversion.{case-option, not-ok, ok-equal}
 use Rattle.words.specs.Parts.{part}
-use Rattle.names.specs.Chains.{found}
 use Rattle.names.specs.Tables.{present}
 use Rattle.names.proofs.Declared.{find-present, found-some}
 use Rattle.lex.specs.declared.Reader.{Reader}
 use Rattle.sexp.specs.Flattening.{flatOne, flat, size, countsOne, countsAll}
 use Rattle.patterns.specs.Outcomes as outcomes
-use Rattle.patterns.specs.Outcomes.{Outcome}
 use Rattle.patterns.specs.Leaving as leaving
-use Rattle.patterns.specs.Leaving.{Did, _leaving_}
-use Rattle.patterns.specs.Items.{sum32, readOn, openedOne, withTop, pushed, atomDue, listDue, declaredName, closingDue}
+use Rattle.patterns.specs.Leaving.{_leaving_}
+use Rattle.patterns.specs.Items.{sum32, readOn, withTop, pushed, atomDue, declaredName}
 use Rattle.patterns.specs.declared.Walk.{Walk}
 use Rattle.theory.specs.Symbols.{sortFrom, sortNamed, inputs}
-use Rattle.theory_laws.specs.Simulation.{Answers, both-refuse, both-ok, then, Simulates, refuse, leave, bind, pure, after}
+use Rattle.theory_laws.specs.Simulation.{Answers, both-refuse, both-ok, then, Simulates, leave, pure, after}
 use Rattle.theory_laws.specs.Reading.{Reads, Walks, weight}
 use Rattle.theory_laws.specs.Representation.{Entries, SortAt, sort-at, SortsAt, no-sorts, one-sort, Holds}
-use Rattle.theory_laws.proofs.Items.{sum-small, AtomMet, atom-met, ListMet, list-met, ClosingMet, closing-met}
-use Rattle.theory_laws.proofs.Frames.{Keeps, keeps-all, keeps-then, keeps-set, holds-kept, grown-none, sorts-kept}
+use Rattle.theory_laws.proofs.Items.{sum-small, atom-met, list-met, closing-met}
+use Rattle.theory_laws.proofs.Frames.{Keeps, keeps-all, keeps-then, keeps-set, holds-kept}
 use Rattle.theory_laws.proofs.Lookups.{part-length, part-question}
 
 module _ (text counted : List ℕ) (Before : Reader → Stream Token → Type 0) (reads : Reads text Before) where

@@ -1,37 +1,34 @@
 -- Terms and judgments of a rule: the walk reads what the definition reads, and the words that it writes stand for it.
 -- Assumes nothing.
 use mathlib.Core.Path.{_≡_, refl, ap, sym, subst, _∙_}
-use mathlib.Core.Bool.{Bool, true, false, not, _&&_, true≢false}
-use mathlib.Core.List.{List, [], _∷_, _++_}
-use Prim.Native.Nat.{ℕ, zero, suc, _+_, _*_, _-_, _≤_, _<_}
-use native.Mathlib.Nat.{le-of-lt}
+use mathlib.Core.Bool.{true, not}
+use mathlib.Core.List.{List, [], _∷_}
+use Prim.Native.Nat.{ℕ, suc, _+_, _*_, _≤_}
 use native.Mathlib.Omega.{arith}
-use borrow.Author.Tests.{eqb-true, eqb-false, eq-eqb, ne-eqb}
+use borrow.Author.Tests.{eqb-true, ne-eqb}
 use lib.Dec.{eqb}
 use lib.ListN.{length, getD, set}
-use Rattle.horn.specs.Refusals.{Refusal, number, Result, ok, refused, need, _>>=_, unknown, sortArity, emptyList, bracketedConstant}
+use Rattle.horn.specs.Refusals.{number, ok, refused, need, _>>=_, sortArity, bracketedConstant}
 use Rattle.horn.specs.Names.{Name}
 use Rattle.horn.specs.Tokens.{Stream, _▹_, Token, opening, closing, atom}
 use Rattle.horn.specs.NestedLists.{Sexp, leaf, list, Sexps, []ₛ, _∷ₛ_}
 use Rattle.horn.specs.Rulebook as definition
-use Rattle.horn.specs.Rulebook.{Output, sort, judgment, sameOutput, Symbol, symbol, Variable, Pattern, app, Patterns, []ₚ, _∷ₚ_, isConstructor, isPredicate, Theory, fits, count, isEmpty, inputs}
+use Rattle.horn.specs.Rulebook.{Output, sort, sameOutput, Symbol, symbol, Variable, Pattern, app, Patterns, []ₚ, _∷ₚ_, isConstructor, Theory, fits, count, isEmpty, inputs}
 use Rattle.horn.proofs.Equality.{both}
-use Rattle.words.specs.Parts.{part}
 use Rattle.lex.specs.declared.Reader.{Reader}
 use Rattle.sexp.specs.Flattening.{flatOne, flat, size, countsOne, countsAll}
 use Rattle.patterns.specs.Outcomes as outcomes
-use Rattle.patterns.specs.Leaving as leaving
-use Rattle.patterns.specs.Leaving.{Did, _leaving_, beside}
+use Rattle.patterns.specs.Leaving.{Did, _leaving_}
 use Rattle.patterns.specs.Items as items
-use Rattle.patterns.specs.Items.{sum32, readOn, openedOne, withTop, itemDue, atomDue, headDue, closingDue}
+use Rattle.patterns.specs.Items.{sum32, readOn, openedOne, withTop, atomDue, headDue, closingDue}
 use Rattle.patterns.specs.Patterns as walk
-use Rattle.patterns.specs.Patterns.{Areas, applied, compoundHead, argumentsFrom}
+use Rattle.patterns.specs.Patterns.{Areas, compoundHead, argumentsFrom}
 use Rattle.patterns.specs.declared.Walk.{Walk}
-use Rattle.theory_laws.specs.Simulation.{Simulates, refuse, leave, bind, pure, test, checked-aside, tested-aside, after}
-use Rattle.theory_laws.specs.Reading.{Reads, Walks, weight, Shallow, shallow-leaf, shallow-list, Shallows, shallow-none, shallow-more}
-use Rattle.theory_laws.specs.Representation.{Entries, SortAt, SortsAt, no-sorts, one-sort, sort-output, judgment-output, SymbolAt, symbol-at, Nth, Flat, flat-symbol, Flats, no-flats, one-flat, Holds}
+use Rattle.theory_laws.specs.Simulation.{Simulates, refuse, leave, bind, test, tested-aside, after}
+use Rattle.theory_laws.specs.Reading.{Reads, weight, Shallow, shallow-leaf, shallow-list, Shallows, shallow-more}
+use Rattle.theory_laws.specs.Representation.{Entries, SortAt, SortsAt, one-sort, sort-output, symbol-at, flat-symbol, Flats, no-flats, one-flat}
 use Rattle.theory_laws.proofs.Items.{AtomMet, atom-met, ListMet, list-met, ClosingMet, closing-met}
-use Rattle.theory_laws.proofs.Frames.{Keeps, keeps-all, keeps-then, keeps-set, grown-none, sorts-kept, symbol-kept, flat-kept, flats-kept}
+use Rattle.theory_laws.proofs.Frames.{Keeps, keeps-all, keeps-then, keeps-set, grown-none, sorts-kept, symbol-kept, flat-kept}
 use Rattle.theory_laws.proofs.Ready.{Ready, Reached, PatternRead, push-ready}
 use Rattle.theory_laws.proofs.Leaves.{Applied, applied-at, applied-law, leaf-law, less-credit, symbol-word, low-top, top-rises, top-after}
 

@@ -1,27 +1,30 @@
 -- Reading a held theory: what is found by its bytes is what the definition finds, and the words of an entry say what it
 -- is. Assumes nothing.
-use mathlib.Core.Path.{_≡_, refl, ap, ap₂, sym, subst, _∙_}
-use mathlib.Core.Bool.{Bool, true, false, _&&_, true≢false}
+use mathlib.Core.Path.{_≡_, refl, ap₂, sym, _∙_}
 use mathlib.Core.List.{List, [], _∷_, List·Memᴰ}
-use mathlib.Core.Option.{Option, some}
+use mathlib.Core.Option.{Option}
 use Prim.Native.Nat.{ℕ, zero, suc, _+_, _*_, _≤_, _<_}
 use native.Mathlib.Omega.{arith}
-use borrow.Author.Tests.{eqb-true, eq-eqb, ne-eqb}
+use borrow.Author.Tests.{eq-eqb, ne-eqb}
 use lib.Dec.{eqb}
 use lib.ListN.{length, getD}
+use Rattle.horn.specs.Refusals as refusals
+use Rattle.horn.specs.Refusals.{number, unknown}
 use Rattle.horn.specs.Names.{Name, named, first}
-use Rattle.horn.specs.Rulebook.{Output, sort, judgment, Symbol, symbol, sameSymbol, inputs, output, Variable, variable, Pattern, var, app, Patterns, Rule, Theory}
-use Rattle.horn.specs.Rulebook.{isConstructor, isPredicate, isRule, variablesOf, premisesOf}
+use Rattle.horn.specs.Rulebook.{Output, sort, judgment, Symbol, sameSymbol, inputs, output, Variable, variable, var, app, Patterns, Rule, Theory}
+use Rattle.horn.specs.Rulebook.{isConstructor, isPredicate, isRule, variablesOf, premisesOf, constructor, predicate, ruleNamed}
 use Rattle.horn.proofs.Equality.{named-decides, sameOutput-decides, sameSymbol-decides, apart}
 use Rattle.horn.proofs.Inversion.{some-equal}
 use Rattle.words.specs.Parts.{part}
-use Rattle.names.specs.Chains.{found, nameAt}
-use Rattle.names.specs.Tables.{Entry, entry, lookup, Agree, Stands}
+use Rattle.names.specs.Chains.{found}
+use Rattle.names.specs.Tables.{entry, Agree, both-none, both-some}
 use Rattle.names.proofs.Holds.{by-number}
 use Rattle.names.proofs.Kept.{member-named}
 use Rattle.names.proofs.Declared.{find-agrees, lookup-member, stands-distinct}
+use Rattle.patterns.specs.Outcomes as outcomes
+use Rattle.theory_laws.specs.Simulation.{Answers, both-refuse, both-ok}
 use Rattle.theory_laws.specs.Representation.{Entries, tableOf, SortAt, OutputAt, SortsAt, no-sorts, one-sort, SymbolAt, symbol-at, Nth, here, there}
-use Rattle.theory_laws.specs.Representation.{Flat, flat-variable, flat-symbol, Flats, VariablesAt, no-variables, one-variable, RuleAt, rule-at, Declares, Holds}
+use Rattle.theory_laws.specs.Representation.{Flat, flat-variable, flat-symbol, Flats, VariablesAt, one-variable, RuleAt, rule-at, Holds}
 use Rattle.theory_laws.proofs.Lookups.{same-sort, same-output}
 
 -- The i-th of some sorts.
@@ -46,6 +49,12 @@ pub variable-sort : {text area : List ℕ} {es : Entries} {o : ℕ} {vs : List V
 variable-sort {o} (one-variable n a r) sorted-here = let q : o + 3 * 0 ≡ o = omega arith in rw q a
 variable-sort {o} (one-variable n a r) (sorted-there {v} m) = let q : o + 3 * suc v ≡ o + 3 + 3 * v = omega arith in rw q (variable-sort r m)
 
+-- What is found or unknown, 12.
+known : {A : Type 0} {Means : ℕ → A → Type 0} {o : Option ℕ} {o′ : Option A} → Agree Means o o′ → Answers Means (outcomes.orElse o 12) (refusals.found o′ unknown)
+unfolding refusals.found number
+known both-none = both-refuse refl
+known (both-some m) = both-ok m
+
 module _ {text heap : List ℕ} {es : Entries} {top : ℕ} {th : Theory} (h : Holds text heap es top th) where
   -- By its bytes.
   pub find-sort : (name : Name) → Agree (SortAt es) (found heap 0 256 text name) (first (named name) (th .sorts))
@@ -59,6 +68,19 @@ module _ {text heap : List ℕ} {es : Entries} {top : ℕ} {th : Theory} (h : Ho
 
   pub find-rule : (name : Name) → Agree (RuleAt text heap es top) (found heap 768 256 text name) (first (isRule name) (th .rules))
   find-rule name = find-agrees isRule (RuleAt text heap es top) name (h .rules .table) (h .rules .stands)
+
+  -- The same as the definition asks for it.
+  pub constructor-known : (name : Name) → Answers (SymbolAt heap es top) (outcomes.orElse (found heap 256 256 text name) 12) (constructor th name)
+  unfolding constructor
+  constructor-known name = known (find-constructor name)
+
+  pub predicate-known : (name : Name) → Answers (SymbolAt heap es top) (outcomes.orElse (found heap 512 256 text name) 12) (predicate th name)
+  unfolding predicate
+  predicate-known name = known (find-predicate name)
+
+  pub rule-known : (name : Name) → Answers (RuleAt text heap es top) (outcomes.orElse (found heap 768 256 text name) 12) (ruleNamed th name)
+  unfolding ruleNamed
+  rule-known name = known (find-rule name)
 
   -- A symbol's words.
   module _ {a : ℕ} {c : Symbol} (x : SymbolAt heap es top a c) where

@@ -1,23 +1,19 @@
 -- Where the walk stands while a rule's patterns are read: before which tokens, with which variables, over which theory.
 -- Assumes nothing.
-use mathlib.Core.Path.{_≡_, refl, ap, sym, subst, _∙_}
-use mathlib.Core.Bool.{Bool, true, false, not}
-use mathlib.Core.List.{List, [], _∷_, _++_, List·Memᴰ}
-use mathlib.Core.Option.{Option, none, some}
-use Prim.Native.Nat.{ℕ, zero, suc, _+_, _*_, _-_, _%_, _≤_, _<_}
-use native.Mathlib.Nat.{mod-eq-of-lt}
+use mathlib.Core.Path.{_≡_}
+use mathlib.Core.List.{List, [], _∷_, _++_}
+use Prim.Native.Nat.{ℕ, zero, suc, _+_, _*_, _≤_, _<_}
 use native.Mathlib.Omega.{arith}
-use lib.ListN.{length, getD, set, length-set, length-append}
-use lib.Seq.{getD-set-same, getD-set-other}
+use lib.ListN.{length, getD, set}
 use Rattle.horn.specs.Names.{Name}
 use Rattle.horn.specs.Tokens.{Stream, Token}
 use Rattle.horn.specs.Rulebook.{Variable, variable, Pattern, Theory}
 use Rattle.words.specs.Parts.{part}
 use Rattle.lex.specs.declared.Reader.{Reader}
-use Rattle.patterns.specs.Items.{sum32, withTop, pushed}
+use Rattle.patterns.specs.Items.{sum32, withTop}
 use Rattle.patterns.specs.Patterns.{Areas}
 use Rattle.patterns.specs.declared.Walk.{Walk}
-use Rattle.theory_laws.specs.Reading.{Reads, Walks, weight}
+use Rattle.theory_laws.specs.Reading.{Walks, weight}
 use Rattle.theory_laws.specs.Representation.{Entries, SortAt, Nth, here, there, Flat, VariablesAt, no-variables, one-variable, Holds}
 use Rattle.theory_laws.proofs.Items.{sum-small}
 use Rattle.theory_laws.proofs.Frames.{Keeps, keeps-set, holds-kept}

@@ -1,16 +1,16 @@
 -- Declarations of rules: the walk answers as the definition does, and the words hold the theory with the rule.
 -- Assumes nothing.
-use mathlib.Core.Path.{_≡_, refl, ap, sym, subst, _∙_}
-use mathlib.Core.Bool.{Bool, true, false, not}
+use mathlib.Core.Path.{_≡_, refl, ap, sym, _∙_}
+use mathlib.Core.Bool.{not}
 use mathlib.Core.List.{List, [], _∷_, _++_}
-use Prim.Native.Nat.{ℕ, zero, suc, _+_, _*_, _-_, _%_, _≤_, _<_}
+use Prim.Native.Nat.{ℕ, _+_, _*_, _%_, _≤_, _<_}
 use native.Mathlib.Nat.{mod-eq-of-lt}
 use native.Mathlib.Omega.{arith}
 use borrow.Author.Tests.{not-true}
-use lib.ListN.{length, getD}
-use Rattle.horn.specs.Refusals.{Refusal, number, Result, ok, refused, need, _>>=_, duplicate}
+use lib.ListN.{length}
+use Rattle.horn.specs.Refusals.{number, ok, need, _>>=_, duplicate}
 use Rattle.horn.specs.Names.{Name, questioned, some-of}
-use Rattle.horn.specs.Tokens.{Stream, _▹_, Token, opening, closing, atom}
+use Rattle.horn.specs.Tokens.{Stream, _▹_, Token, closing}
 use Rattle.horn.specs.NestedLists.{Sexp, leaf, list, Sexps, []ₛ, _∷ₛ_}
 use Rattle.horn.specs.Rulebook as definition
 use Rattle.horn.specs.Rulebook.{Variable, Pattern, rule, Theory, isRule}
@@ -20,20 +20,19 @@ use Rattle.words.specs.Parts.{part}
 use Rattle.names.specs.Chains.{found, added}
 use Rattle.names.specs.Tables.{entry}
 use Rattle.lex.specs.declared.Reader.{Reader}
-use Rattle.sexp.specs.Flattening.{flatOne, flat, size, countsOne, countsAll}
+use Rattle.sexp.specs.Flattening.{flatOne, flat, size, countsOne}
 use Rattle.patterns.specs.Outcomes as outcomes
-use Rattle.patterns.specs.Leaving as leaving
-use Rattle.patterns.specs.Leaving.{Did, _leaving_, beside}
-use Rattle.patterns.specs.Items.{sum32, readOn, openedOne, withTop, listDue, closingDue}
+use Rattle.patterns.specs.Leaving.{beside}
+use Rattle.patterns.specs.Items.{sum32, readOn, openedOne, withTop, listDue}
 use Rattle.patterns.specs.Patterns.{Areas}
 use Rattle.patterns.specs.declared.Walk.{Walk}
 use Rattle.theory.specs.Symbols.{isNew, entered, described}
 use Rattle.theory.specs.Rules.{nameKept, nameJudged, begun, bodyRead, copied, variablesStored, ruleEntered, ruleDeclared}
 use Rattle.theory.specs.declared.RuleName.{RuleName}
 use Rattle.theory.specs.declared.RuleName.the-variants as ruleNames
-use Rattle.theory_laws.specs.Simulation.{Answers, both-refuse, both-ok, Simulates, refuse, leave, bind, pure, after, aside, test-then, paired, three-on}
-use Rattle.theory_laws.specs.Reading.{Reads, Walks, weight, Shallow, shallow-leaf, shallow-list, Shallows}
-use Rattle.theory_laws.specs.Representation.{Entries, Flat, FlatList, VariablesAt, no-variables, Holds}
+use Rattle.theory_laws.specs.Simulation.{Answers, both-refuse, both-ok, Simulates, refuse, leave, bind, pure, aside, test-then, paired, three-on}
+use Rattle.theory_laws.specs.Reading.{Reads, Walks, weight, Shallow, shallow-list}
+use Rattle.theory_laws.specs.Representation.{Entries, Flat, FlatList, no-variables, Holds}
 use Rattle.theory_laws.proofs.Items.{sum-small, atom-met, list-met, ClosingMet, closing-met}
 use Rattle.theory_laws.proofs.Frames.{Keeps, keeps-less, keeps-then, grown-none, premises-kept}
 use Rattle.theory_laws.proofs.Lookups.{part-question}

@@ -1,13 +1,13 @@
 -- A theory with one rule more. Assumes nothing.
-use mathlib.Core.Path.{_≡_, refl, ap, sym, subst, _∙_}
-use mathlib.Core.Bool.{Bool, true, false, not}
-use mathlib.Core.List.{List, [], _∷_, _++_, List·Memᴰ, List·Memᴰ·head, List·Memᴰ·tail}
-use Prim.Native.Nat.{ℕ, zero, suc, _+_, _*_, _-_, _≤_, _<_}
+use mathlib.Core.Path.{_≡_, refl, _∙_}
+use mathlib.Core.Bool.{false}
+use mathlib.Core.List.{List, [], _∷_, _++_, List·Memᴰ·head, List·Memᴰ·tail}
+use Prim.Native.Nat.{ℕ, zero, suc, _+_, _*_, _≤_, _<_}
 use native.Mathlib.Omega.{arith}
 use lib.ListN.{length, getD, set, length-set}
 use lib.Seq.{getD-set-same, getD-set-other}
-use Rattle.horn.specs.Names.{Name, named, some-of}
-use Rattle.horn.specs.Rulebook.{Variable, variable, Pattern, Rule, rule, Theory, isRule}
+use Rattle.horn.specs.Names.{Name, some-of}
+use Rattle.horn.specs.Rulebook.{Variable, Pattern, rule, Theory, isRule}
 use Rattle.words.specs.Parts.{part}
 use Rattle.names.specs.Chains.{added}
 use Rattle.names.specs.Tables.{Entry, entry}
@@ -15,7 +15,7 @@ use Rattle.names.proofs.Holds.{by-number}
 use Rattle.names.proofs.Kept.{length-added, added-other}
 use Rattle.theory.specs.Symbols.{described}
 use Rattle.theory.specs.Rules.{copied}
-use Rattle.theory_laws.specs.Representation.{Entries, SortAt, Flat, FlatList, VariablesAt, no-variables, one-variable, RuleAt, rule-at, Declares, Holds}
+use Rattle.theory_laws.specs.Representation.{Entries, Flat, FlatList, VariablesAt, no-variables, one-variable, RuleAt, rule-at, Holds}
 use Rattle.theory_laws.proofs.Frames.{Grown, Keeps, sort-kept, symbol-kept, rule-kept, flat-kept, premises-kept}
 use Rattle.theory_laws.proofs.Adding.{Adds, adds-kept, others, newer}
 use Rattle.theory_laws.proofs.SymbolsAdded.{length-described, described-other, described-first, described-second}

@@ -1,12 +1,9 @@
 -- A rule's name that is a list is passed over: the walk stands behind it. Assumes nothing.
-use mathlib.Core.Path.{_≡_, refl, ap, sym, subst, _∙_}
-use mathlib.Core.Bool.{Bool, true, false, not}
-use mathlib.Core.List.{List, [], _∷_, _++_}
-use Prim.Native.Nat.{ℕ, zero, suc, _+_, _*_, _-_, _≤_, _<_}
+use mathlib.Core.Path.{_≡_, refl, _∙_}
+use mathlib.Core.List.{List, _∷_}
+use Prim.Native.Nat.{ℕ, zero, suc, _+_, _-_, _≤_, _<_}
 use native.Mathlib.Omega.{arith}
 use borrow.Author.Tests.{lt-ltb}
-use lib.Dec.{ltb}
-use lib.ListN.{length, getD}
 use Rattle.horn.specs.Tokens.{Stream, _▹_, Token, opening, closing, atom}
 use Rattle.horn.specs.NestedLists.{Sexp, leaf, list, Sexps, []ₛ, _∷ₛ_}
 use Rattle.horn.proofs.Counts.{streamLength}
@@ -14,13 +11,13 @@ use Rattle.lex.specs.Answers as lexed
 use Rattle.lex.specs.declared.Token as read
 use Rattle.lex.specs.declared.Token.the-variants.{Opening, Closing, Atom}
 use Rattle.lex.specs.declared.Reader.{Reader}
-use Rattle.sexp.specs.Flattening.{flatOne, flat, size, countsOne, countsAll}
+use Rattle.sexp.specs.Flattening.{flatOne, flat, countsOne, countsAll}
 use Rattle.patterns.specs.Outcomes as outcomes
 use Rattle.patterns.specs.Outcomes.{Outcome}
 use Rattle.patterns.specs.Items.{sum32, readOn, openedOne}
 use Rattle.patterns.specs.declared.Walk.{Walk}
 use Rattle.theory.specs.Rules.{passed, skipped}
-use Rattle.theory_laws.specs.Reading.{Same, same-opening, same-closing, same-atom, Takes, Reads, Next, no-more, one-next, Walks}
+use Rattle.theory_laws.specs.Reading.{Same, same-opening, same-closing, same-atom, Takes, Reads, Next, one-next, Walks}
 use Rattle.theory_laws.proofs.Items.{sum-small}
 
 module _ (text counted : List ℕ) (Before : Reader → Stream Token → Type 0) (reads : Reads text Before) where
@@ -110,6 +107,14 @@ module _ (text counted : List ℕ) (Before : Reader → Stream Token → Type 0)
         top = b .top ∙ a .top;
       }
 
+  skips-closed : {fuel depth : ℕ} (depth′ : ℕ) {ts : Stream Token} {ks : List ℕ} {w : Walk} → Skips fuel depth (depth′ + 1) (closing ▹ ts) ks w
+      → depth′ + 3 < 4294967296
+      → Skips fuel depth depth′ ts ks w
+  unfolding streamLength
+  skips-closed depth′ b small =
+      skips-then b
+      (skip-on (b .fuel′) (depth′ + 1) depth′ (pass-closing (b .walks)) (omega arith) (omega arith) (omega arith) (omega arith) (b .enough))
+
   abbrev SkipLaw : Sexp → Type 0
   SkipLaw x =
       (fuel depth : ℕ) (ts : Stream Token) (ks : List ℕ) (w : Walk) → Walks text counted Before (flatOne x ts) (countsOne x ks) w → 0 < depth
@@ -133,11 +138,8 @@ module _ (text counted : List ℕ) (Before : Reader → Stream Token → Type 0)
   skip-list xs law fuel depth ts ks w h d small enough =
       let a = skip-on fuel depth (depth + 1) (pass-opening h) d (omega arith) (omega arith) (omega arith) enough in
       let x = a .paid in
-      let b = law (a .fuel′) (depth + 1) (closing ▹ ts) ks (a .next) (a .walks) (omega arith) (omega arith) (a .enough) in
-      let y = b .paid in
       skips-then a
-      (skips-then b
-      (skip-on (b .fuel′) (depth + 1) depth (pass-closing (b .walks)) (omega arith) (omega arith) (omega arith) (omega arith) (b .enough)))
+      (skips-closed depth (law (a .fuel′) (depth + 1) (closing ▹ ts) ks (a .next) (a .walks) (omega arith) (omega arith) (a .enough)) (omega arith))
 
   skip-none : SkipsLaw []ₛ
   unfolding flat countsAll
@@ -172,17 +174,12 @@ module _ (text counted : List ℕ) (Before : Reader → Stream Token → Type 0)
   skipped-none zero w = refl
   skipped-none (suc fuel) w = refl
 
+  ended : {fuel depth : ℕ} {ts : Stream Token} {ks : List ℕ} {w : Walk} → Skips fuel depth 0 ts ks w → Skipped ts ks w (skipped fuel depth text w)
+  ended b = record { next = b .next; met = b .same ∙ skipped-none (b .fuel′) (b .next); walks = b .walks; top = b .top }
+
   pub rest-skipped : (xs : Sexps) {ts : Stream Token} {ks : List ℕ} {w : Walk} (fuel : ℕ) → Walks text counted Before (flat xs (closing ▹ ts)) (countsAll xs ks) w
       → fuel ≤ 8192
       → streamLength (flat xs (closing ▹ ts)) ≤ fuel
       → Skipped ts ks w (skipped fuel 1 text w)
-  unfolding streamLength
   rest-skipped xs {ts} {ks} {w} fuel h small enough =
-      let a = skips-law xs fuel 1 (closing ▹ ts) ks w h (omega arith) (omega arith) enough in
-      let b = skip-on (a .fuel′) 1 0 (pass-closing (a .walks)) (omega arith) (omega arith) (omega arith) (omega arith) (a .enough) in
-      record {
-        next = b .next;
-        met = a .same ∙ b .same ∙ skipped-none (b .fuel′) (b .next);
-        walks = b .walks;
-        top = b .top ∙ a .top;
-      }
+      ended (skips-closed 0 (skips-law xs fuel 1 (closing ▹ ts) ks w h (omega arith) (omega arith) enough) (omega arith))

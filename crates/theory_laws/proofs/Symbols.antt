@@ -1,40 +1,39 @@
 -- Declarations of sorts, constructors and predicates: the walk answers as the definition does, and the words hold the
 -- theory with what is declared. Assumes nothing.
-use mathlib.Core.Path.{_≡_, refl, ap, sym, subst, _∙_}
-use mathlib.Core.Bool.{Bool, true, false, not}
-use mathlib.Core.List.{List, [], _∷_, _++_, List·Memᴰ, List·Memᴰ·head, List·Memᴰ·tail}
+use mathlib.Core.Path.{_≡_, refl, ap, _∙_}
+use mathlib.Core.Bool.{Bool, false, not}
+use mathlib.Core.List.{List, [], _∷_, _++_, List·Memᴰ·head, List·Memᴰ·tail}
 use mathlib.Core.Option.{Option, none, some}
-use Prim.Native.Nat.{ℕ, zero, suc, _+_, _*_, _-_, _≤_, _<_}
+use Prim.Native.Nat.{ℕ, _+_, _≤_, _<_}
 use native.Mathlib.Omega.{arith}
 use borrow.Author.Tests.{not-true}
-use lib.ListN.{length, getD, set, length-set}
-use lib.Seq.{getD-set-same, getD-set-other}
-use Rattle.horn.specs.Refusals.{Refusal, number, Result, ok, refused, need, _>>=_, duplicate, atomOrList}
+use lib.ListN.{length}
+use Rattle.horn.specs.Refusals.{number, ok, need, _>>=_, duplicate}
 use Rattle.horn.specs.Names.{Name, named, some-of}
-use Rattle.horn.specs.Tokens.{Stream, _▹_, Token, opening, closing, atom}
-use Rattle.horn.specs.NestedLists.{Sexp, leaf, list, Sexps, []ₛ, _∷ₛ_}
+use Rattle.horn.specs.Tokens.{Stream, _▹_, Token, closing}
+use Rattle.horn.specs.NestedLists.{Sexp, leaf, list}
 use Rattle.horn.specs.Rulebook as definition
-use Rattle.horn.specs.Rulebook.{Output, sort, judgment, Symbol, symbol, Theory, isConstructor, isPredicate, withSymbol}
+use Rattle.horn.specs.Rulebook.{sort, judgment, symbol, Theory, isConstructor, isPredicate, withSymbol}
 use Rattle.words.specs.Parts.{part}
 use Rattle.names.specs.Chains.{found, added}
 use Rattle.names.specs.Tables.{Entry, entry, present}
-use Rattle.names.proofs.Kept.{length-added, added-other}
+use Rattle.names.proofs.Kept.{length-added}
 use Rattle.names.proofs.Declared.{find-present}
 use Rattle.lex.specs.declared.Reader.{Reader}
-use Rattle.sexp.specs.Flattening.{flatOne, flat, size, countsOne, countsAll}
+use Rattle.sexp.specs.Flattening.{flatOne, countsOne}
 use Rattle.patterns.specs.Outcomes as outcomes
 use Rattle.patterns.specs.Leaving as leaving
-use Rattle.patterns.specs.Leaving.{Did, _leaving_}
+use Rattle.patterns.specs.Leaving.{_leaving_}
 use Rattle.patterns.specs.Items.{sum32, readOn, openedOne, withTop, declaredName, listDue, closingDue}
 use Rattle.patterns.specs.declared.Walk.{Walk}
 use Rattle.theory.specs.Symbols.{reserved, isNew, sortNamed, entered, described, sortDeclared, inputs, signature, symbolEntered, constructorDeclared, predicateDeclared}
-use Rattle.theory_laws.specs.Simulation.{Answers, both-refuse, both-ok, Simulates, refuse, leave, bind, pure, test-then, paired, three}
-use Rattle.theory_laws.specs.Reading.{Reads, Walks, weight}
-use Rattle.theory_laws.specs.Representation.{Entries, tableOf, SortAt, sort-at, OutputAt, sort-output, judgment-output, SortsAt, SymbolAt, symbol-at, Declares, Holds}
-use Rattle.theory_laws.proofs.Items.{sum-small, AtomMet, atom-met, ListMet, list-met, ClosingMet, closing-met}
-use Rattle.theory_laws.proofs.Frames.{Grown, Keeps, keeps-all, keeps-less, sort-kept, output-kept, sorts-kept, symbol-kept, rule-kept}
+use Rattle.theory_laws.specs.Simulation.{Simulates, refuse, leave, bind, pure, test-then, paired, three}
+use Rattle.theory_laws.specs.Reading.{Reads, weight}
+use Rattle.theory_laws.specs.Representation.{Entries, sort-at, Declares, Holds}
+use Rattle.theory_laws.proofs.Items.{sum-small, atom-met, list-met, ClosingMet, closing-met}
+use Rattle.theory_laws.proofs.Frames.{Grown, keeps-all, keeps-less, sort-kept, symbol-kept, rule-kept}
 use Rattle.theory_laws.proofs.Names.{NameRead, name-read, declared-name, SortRead, sort-read, sort-named, Midway, InputsRead, inputs-law}
-use Rattle.theory_laws.proofs.Adding.{Adds, adds-kept, others, others-more, newer}
+use Rattle.theory_laws.proofs.Adding.{Adds, adds-kept, others, newer}
 use Rattle.theory_laws.proofs.SymbolsAdded.{withConstructor, withPredicate, constructor-added, predicate-added}
 
 -- The test for duplicates.

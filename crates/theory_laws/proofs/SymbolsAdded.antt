@@ -1,19 +1,19 @@
 -- A theory with one symbol more. Assumes nothing.
-use mathlib.Core.Path.{_≡_, refl, ap, sym, subst, _∙_}
-use mathlib.Core.Bool.{Bool, true, false, not}
-use mathlib.Core.List.{List, [], _∷_, _++_, List·Memᴰ, List·Memᴰ·head, List·Memᴰ·tail}
-use Prim.Native.Nat.{ℕ, zero, suc, _+_, _*_, _-_, _≤_, _<_}
+use mathlib.Core.Path.{_≡_, refl, sym, _∙_}
+use mathlib.Core.Bool.{false}
+use mathlib.Core.List.{List, _∷_, List·Memᴰ, List·Memᴰ·head, List·Memᴰ·tail}
+use Prim.Native.Nat.{ℕ, _+_, _≤_, _<_}
 use native.Mathlib.Omega.{arith}
 use lib.ListN.{length, getD, set, length-set}
 use lib.Seq.{getD-set-same, getD-set-other}
-use Rattle.horn.specs.Names.{Name, named, some-of}
-use Rattle.horn.specs.Rulebook.{Output, sort, judgment, Symbol, symbol, Theory, isConstructor, isPredicate, withSymbol}
+use Rattle.horn.specs.Names.{Name, some-of}
+use Rattle.horn.specs.Rulebook.{Output, sort, judgment, symbol, Theory, isConstructor, isPredicate, withSymbol}
 use Rattle.words.specs.Parts.{part}
 use Rattle.names.specs.Chains.{added}
 use Rattle.names.specs.Tables.{Entry, entry}
 use Rattle.names.proofs.Kept.{length-added, added-other}
 use Rattle.theory.specs.Symbols.{described}
-use Rattle.theory_laws.specs.Representation.{Entries, tableOf, SortAt, OutputAt, sort-output, judgment-output, SortsAt, SymbolAt, symbol-at, Declares, Holds}
+use Rattle.theory_laws.specs.Representation.{Entries, tableOf, SortAt, OutputAt, sort-output, judgment-output, SortsAt, SymbolAt, symbol-at, Holds}
 use Rattle.theory_laws.proofs.Frames.{Grown, Keeps, sort-kept, output-kept, sorts-kept, symbol-kept, rule-kept}
 use Rattle.theory_laws.proofs.Adding.{Adds, adds-kept, others, others-more, newer}
 

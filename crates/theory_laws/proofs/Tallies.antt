@@ -1,8 +1,7 @@
 -- How many are declared: the walk's counts are those of the definition's theory. Assumes nothing.
-use mathlib.Core.Path.{_≡_, refl, ap, sym, subst, _∙_}
-use mathlib.Core.Bool.{Bool, true, false}
+use mathlib.Core.Path.{_≡_, refl, ap}
 use mathlib.Core.List.{List, [], _∷_, _++_}
-use Prim.Native.Nat.{ℕ, zero, suc, _+_, _≤_, _<_}
+use Prim.Native.Nat.{ℕ, suc, _+_, _≤_, _<_}
 use native.Mathlib.Omega.{arith}
 use lib.ListN.{length, length-append}
 use Rattle.horn.specs.Refusals.{ok}
@@ -12,7 +11,6 @@ use Rattle.horn.specs.Rulebook as definition
 use Rattle.horn.specs.Rulebook.{sort, judgment, Symbol, symbol, Rule, Theory, withSymbol, emptyTheory}
 use Rattle.horn.specs.Calls.{constructorCount, predicateCount}
 use Rattle.horn.proofs.Inversion.{afterᵣ, afterNeedᵣ, ok-equal}
-use Rattle.patterns.specs.Items.{sum32}
 use Rattle.theory.specs.Declarations.{counted, noCounts}
 use Rattle.theory.specs.declared.Counts.{Counts}
 use Rattle.theory.specs.declared.Form.{Form}

@@ -2,23 +2,24 @@
 -- words of any contents; an accepted rulebook's theory stands in the words. Assumes nothing.
 use mathlib.Core.Path.{_≡_, refl, ap, sym, subst, _∙_}
 use mathlib.Core.List.{List, [], _∷_}
-use Prim.Native.Nat.{ℕ, zero, suc, _+_, _*_, _/_, _≤_, _<_}
+use Prim.Native.Nat.{ℕ, zero, suc, _+_, _/_, _≤_}
 use native.Mathlib.Omega.{arith}
-use lib.ListN.{length, getD, take}
-use Rattle.horn.specs.Refusals.{Refusal, number, Result, ok, refused, _>>=_}
-use Rattle.horn.specs.Tokens.{Stream, end, Token, tokens}
+use lib.ListN.{length, take}
+use Rattle.horn.specs.Refusals.{number, Result, ok, refused, _>>=_}
+use Rattle.horn.specs.Tokens.{end, tokens}
 use Rattle.horn.specs.NestedLists.{items, sexps, Sexps}
 use Rattle.horn.specs.Rulebook as definition
 use Rattle.horn.specs.Rulebook.{Theory, emptyTheory}
-use Rattle.horn.specs.Calls.{RulebookReport, rulebookReport, rulebookAnswer, constructorCount, predicateCount}
+use Rattle.horn.specs.Calls.{RulebookReport, rulebookReport, rulebookAnswer}
 use Rattle.horn.proofs.Counts.{streamLength, few-tokens}
+use Rattle.horn.proofs.Inversion.{not-ok}
 use Rattle.words.specs.Parts.{cleared}
 use Rattle.names.specs.Tables as tables
 use Rattle.names.specs.Tables.{none-yet}
 use Rattle.names.proofs.Kept.{empty-table, cleared-zero}
 use Rattle.lex.specs.Answers as lexed
 use Rattle.lex.proofs.Standing.{Stands}
-use Rattle.sexp.specs.Flattening.{flat, flattened, size, countsAll, counts}
+use Rattle.sexp.specs.Flattening.{flattened, countsAll, counts}
 use Rattle.sexp.specs.Walk.{walked}
 use Rattle.sexp.proofs.Whole.{few-lists}
 use Rattle.sexp.proofs.Ahead.{Ahead, ahead-start}
@@ -26,19 +27,19 @@ use Rattle.sexp.proofs.Law.{walk-cases}
 use Rattle.patterns.specs.Outcomes as outcomes
 use Rattle.patterns.specs.Leaving.{Did, _leaving_}
 use Rattle.patterns.specs.Patterns.{Areas}
-use Rattle.theory.specs.Declarations.{declarations, declarationsFrom, startWalk, noCounts}
+use Rattle.theory.specs.Declarations.{declarations, startWalk}
 use Rattle.theory.specs.Walks as walk
 use Rattle.theory.specs.Walks.{AllAreas, withCounts}
 use Rattle.theory.specs.declared.Counts.{Counts}
 use Rattle.theory_laws.specs.Simulation.{Simulates, refuse, leave}
 use Rattle.theory_laws.specs.Reading.{Next, no-more, one-next, weight}
 use Rattle.theory_laws.specs.Representation.{Entries, Holds}
-use Rattle.theory_laws.proofs.Names.{Midway}
 use Rattle.theory_laws.proofs.Weights.{light-tokens}
 use Rattle.theory_laws.proofs.Depth.{whole-shallow}
 use Rattle.theory_laws.proofs.Tallies.{tally, none-counted, none-total}
 use Rattle.theory_laws.proofs.Declarations.{Accepted, declarations-law, size-longer}
 use Rattle.theory_laws.proofs.Readers.{reads}
+use Rattle.theory_laws.proofs.Refusing.{Judges, judges-refused, judging-number, judges-declarations}
 
 length-cleared : (n : ℕ) (s : List ℕ) → length (cleared n s) ≡ length s
 unfolding cleared
@@ -154,3 +155,23 @@ report-of (leave q) = rw (q .tallied)
 pub report-law : (text vars member-counts heap : List ℕ) → length text ≤ 8192 → length vars ≡ 16384 → length member-counts ≡ 16384 → length heap ≡ 16384
     → reported (walk.theory text vars member-counts heap) ≡ rulebookAnswer (definition.theory text)
 report-law text vars member-counts heap short long-vars long-counts long = report-of (theory-law text short vars member-counts heap long-vars long-counts long)
+
+-- "In the second walk refusals 3 to 6 can't happen", nor can 10: what was read whole is only judged.
+refuses-judging : {S A B : Type 0} {Q : A → S → B → Type 0} {m : Did S A} {m′ : Result B} → Simulates Q m m′ → Judges m′ → {n : ℕ} {s : S}
+    → m ≡ (outcomes.refused n leaving s)
+    → (7 ≤ n) × (n ≡ 10 → ⊥)
+refuses-judging (refuse {n = k} e) (judges-refused r j) {n} f =
+    let q : n ≡ number r = (let z : n ≡ k = cc in z ∙ e) in rw q (judging-number j)
+refuses-judging (leave q) j f = let z : _≡_ {A = ℕ} 0 1 = cc in absurd (omega arith)
+
+pub second-walk-judges : (text vars member-counts heap : List ℕ) → length text ≤ 8192 → length vars ≡ 16384 → length member-counts ≡ 16384 → length heap ≡ 16384
+    → (xs : Sexps)
+    → sexps (items (tokens text)) ≡ ok xs
+    → {n : ℕ} {areas : Areas}
+    → declarations text (walked text member-counts .area) vars (cleared 1024 heap) ≡ (outcomes.refused n leaving areas)
+    → (7 ≤ n) × (n ≡ 10 → ⊥)
+second-walk-judges text vars member-counts heap short long-vars long-counts long xs e f =
+    walk-cases text member-counts short (omega arith)
+    (λ r g a. not-ok (sym g ∙ e))
+    (λ ys g whole a found.
+    refuses-judging (second-walk text short vars (walked text member-counts .area) heap ys long-vars long g whole found) (judges-declarations emptyTheory ys) f)

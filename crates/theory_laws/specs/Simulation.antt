@@ -2,7 +2,7 @@
 use Prim.Native.Nat.{ℕ}
 use mathlib.Core.Path.{_≡_, refl, sym}
 use mathlib.Core.Bool.{Bool, true, false, _&&_, true≢false}
-use mathlib.Core.Option.{Option, none, some}
+use mathlib.Core.Option.{Option}
 use Rattle.horn.specs.Refusals.{Refusal, number, Result, ok, refused, _>>=_, need, found}
 use Rattle.names.specs.Tables.{Agree, both-none, both-some}
 use Rattle.patterns.specs.Outcomes as outcomes
