@@ -115,8 +115,8 @@ begun (inAtom bytes) = length bytes
 pub weight-before : (ts : List Token) (s : Stream Token) → weight (before ts s) ≡ weight (before ts end) + weight s
 unfolding weight before
 weight-before [] s = omega arith
-weight-before (opening ∷ ts) s = weight-before ts s
-weight-before (closing ∷ ts) s = weight-before ts s
+weight-before (opening ∷ ts) s = let h = weight-before ts s in omega arith
+weight-before (closing ∷ ts) s = let h = weight-before ts s in omega arith
 weight-before (atom bytes ∷ ts) s = let h = weight-before ts s in omega arith
 
 -- One character: what it ends, and what is begun behind it.
