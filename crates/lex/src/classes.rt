@@ -1,6 +1,6 @@
 // The table of byte classes.
 ghost use mathlib.Core.Path.{_≡_};
-ghost use Rattle.lex.specs.Classes.{classOf, lowOf, highOf};
+ghost use Rattle.lex.specs.Classes.{classOf, lowOf, highOf, table};
 
 // 0 ordinary, 1 white, 2 `(`, 3 `)`, 4 `;`, 5 never a first byte, 6 to 12 first bytes of longer characters.
 const CLASSES: [u8; 256] = [
@@ -262,11 +262,19 @@ const CLASSES: [u8; 256] = [
     5,
 ];
 
+// The table, to be lent: a constant's value is made anew wherever it is read.
+pub fn classes() -> [u8; 256]
+    ensures { λ r. ⌜ r ≡ table ⌝ }
+{
+    CLASSES
+}
+
 // The class of a byte.
-pub fn class(b: u8) -> u8
+pub fn class(classes: &[u8; 256], b: u8) -> u8
+    requires { ⌜ now classes ≡ table ⌝ }
     ensures { λ r. ⌜ r ≡ classOf b ⌝ }
 {
-    CLASSES[b as usize]
+    classes[b as usize]
 }
 
 // The least second byte after a first byte of a class.

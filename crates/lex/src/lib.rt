@@ -2,11 +2,12 @@
 ghost use mathlib.Core.Path.{_≡_};
 ghost use Prim.Native.Nat.{suc, _≤_, _<_};
 ghost use lib.ListN.{length};
+ghost use Rattle.lex.specs.Classes.{table};
 ghost use Rattle.lex.specs.Scan.{blanks, atomEnd, lineEnd};
 ghost use Rattle.lex.specs.Answers.{answer, tokenAt, scanned, peeked, taken, start};
 
-pub mod classes;
-pub mod utf8;
+mod classes;
+mod utf8;
 
 // "A token is an opening, a closing or an atom with its bounds."
 pub enum Token {
@@ -42,12 +43,13 @@ pub enum Line {
 }
 
 // Past white space and comments in a line that ends at `end`.
-pub fn skip_blanks(text: &[u8], end: usize, p: usize) -> usize
+fn skip_blanks(classes: &[u8; 256], text: &[u8], end: usize, p: usize) -> usize
+    requires { ⌜ now classes ≡ table ⌝ }
     ensures { λ r. ⌜ r ≡ blanks (suc (length (now (text .entry)))) (now (text .entry)) end p ⌝ }
 {
     let mut q = p;
     while q < end {
-        let seen = utf8::look(text, q);
+        let seen = utf8::look(classes, text, q);
         let kind = seen.kind;
         if kind == 4 {
             return end;
@@ -61,12 +63,13 @@ pub fn skip_blanks(text: &[u8], end: usize, p: usize) -> usize
 }
 
 // Past the characters of an atom.
-pub fn atom_end(text: &[u8], end: usize, p: usize) -> usize
+fn atom_end(classes: &[u8; 256], text: &[u8], end: usize, p: usize) -> usize
+    requires { ⌜ now classes ≡ table ⌝ }
     ensures { λ r. ⌜ r ≡ atomEnd (suc (length (now (text .entry)))) (now (text .entry)) end p ⌝ }
 {
     let mut q = p;
     while q < end {
-        let seen = utf8::look(text, q);
+        let seen = utf8::look(classes, text, q);
         let kind = seen.kind;
         if kind != 0 {
             return q;
@@ -77,7 +80,8 @@ pub fn atom_end(text: &[u8], end: usize, p: usize) -> usize
 }
 
 // The end of the line that starts at `p`, if it is UTF-8.
-pub fn line_end(text: &[u8], p: usize) -> Line
+fn line_end(classes: &[u8; 256], text: &[u8], p: usize) -> Line
+    requires { ⌜ now classes ≡ table ⌝ }
     ensures { λ r. ⌜ r ≡ lineEnd (suc (length (now (text .entry)))) (now (text .entry)) p ⌝ }
 {
     let mut q = p;
@@ -85,7 +89,7 @@ pub fn line_end(text: &[u8], p: usize) -> Line
         if text[q] == 0x0A {
             return Line::Good(q + 1);
         }
-        let found = utf8::first_of(&text[q..]);
+        let found = utf8::first_of(classes, &text[q..]);
         let width = found.width;
         if width == 0 {
             return Line::Bad;
@@ -96,14 +100,15 @@ pub fn line_end(text: &[u8], p: usize) -> Line
 }
 
 // The token at a place where a character stands that is neither white nor `;`.
-pub fn token_at(text: &[u8], end: usize, p: usize) -> Read
+fn token_at(classes: &[u8; 256], text: &[u8], end: usize, p: usize) -> Read
+    requires { ⌜ now classes ≡ table ⌝ }
     ensures { λ r. ⌜ answer r ≡ tokenAt (now (text .entry)) end p ⌝ }
 {
-    let seen = utf8::look(text, p);
+    let seen = utf8::look(classes, text, p);
     let kind = seen.kind;
     let width = seen.width;
     if kind == 0 {
-        let q = atom_end(text, end, p);
+        let q = atom_end(classes, text, end, p);
         return Read::Got(
             Token::Atom(p, q),
             Reader {
@@ -137,23 +142,24 @@ pub fn token_at(text: &[u8], end: usize, p: usize) -> Read
 }
 
 // The next token; a line is tested when it is first needed.
-pub fn scan(text: &[u8], end: usize, p: usize) -> Read
+fn scan(text: &[u8], end: usize, p: usize) -> Read
     ensures { λ r. ⌜ answer r ≡ scanned (suc (length (now (text .entry)))) (now (text .entry)) end p ⌝ }
 {
+    let classes = classes::classes();
     let mut e = end;
-    let mut q = skip_blanks(text, e, p);
+    let mut q = skip_blanks(&classes, text, e, p);
     while e <= q {
         if text.len() <= q {
             return Read::End;
         }
-        let line = line_end(text, q);
+        let line = line_end(&classes, text, q);
         let Line::Good(next) = line else {
             return Read::Bad;
         };
         e = next;
-        q = skip_blanks(text, e, q);
+        q = skip_blanks(&classes, text, e, q);
     }
-    token_at(text, e, q)
+    token_at(&classes, text, e, q)
 }
 
 impl Reader {

@@ -10,16 +10,16 @@ use Rattle.lex.proofs.atom_end.Statement.{statement}
 use Rattle.lex.proofs.atom_end.Tie as tie
 
 abbrev Inv-loop : tie.InvT-loop
-Inv-loop text end p q₀ q = (f : ℕ) × ((length text - q ≤ f) × (atomEnd (suc (length text)) text end p ≡ atomEnd (suc f) text end q))
+Inv-loop classes text end p q₀ q = (f : ℕ) × ((length text - q ≤ f) × (atomEnd (suc (length text)) text end p ≡ atomEnd (suc f) text end q))
 
 abbrev μ-loop : tie.MeasureT-loop
-μ-loop text end p q₀ q = length text - q
+μ-loop classes text end p q₀ q = length text - q
 
 loop-holds : tie.Need-loop-holds Inv-loop μ-loop
 loop-holds c = (length (c .before .args .text .now), (omega arith, refl))
 
 look-requires : tie.Need-look-requires Inv-loop μ-loop
-look-requires c κs = search needs
+look-requires c κs = c .before .before .before .pre
 
 returns : tie.Need-returns Inv-loop μ-loop
 returns c = sym (c .before .before .before .loop .inv .1 .1 ∙ atom-stop (c .before .before .before .before .before .args .text .now) (c .before .before .before .before .before .args .end) (c .before .before .before .loop .q) (c .before .look .result .kind) (c .before .look .ensures .0) (c .before .before .loop-test .taken) (c .before .before .before .loop .inv .0) (c .if1 .taken))

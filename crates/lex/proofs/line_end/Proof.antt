@@ -10,10 +10,10 @@ use Rattle.lex.proofs.line_end.Statement.{statement}
 use Rattle.lex.proofs.line_end.Tie as tie
 
 abbrev Inv-loop : tie.InvT-loop
-Inv-loop text p q₀ q = (f : ℕ) × ((length text - q ≤ f) × (lineEnd (suc (length text)) text p ≡ lineEnd (suc f) text q))
+Inv-loop classes text p q₀ q = (f : ℕ) × ((length text - q ≤ f) × (lineEnd (suc (length text)) text p ≡ lineEnd (suc f) text q))
 
 abbrev μ-loop : tie.MeasureT-loop
-μ-loop text p q₀ q = length text - q
+μ-loop classes text p q₀ q = length text - q
 
 loop-holds : tie.Need-loop-holds Inv-loop μ-loop
 loop-holds c = (length (c .before .args .text .now), (omega arith, refl))
@@ -21,8 +21,8 @@ loop-holds c = (length (c .before .args .text .now), (omega arith, refl))
 shared-slice-read-if1 : tie.Need-shared-slice-read-if1 Inv-loop μ-loop
 shared-slice-read-if1 c = search needs
 
-add-t10 : tie.Need-add-t10 Inv-loop μ-loop
-add-t10 c = search needs
+add-t11 : tie.Need-add-t11 Inv-loop μ-loop
+add-t11 c = search needs
 
 returns : tie.Need-returns Inv-loop μ-loop
 returns c = sym (c .before .before .before .loop .inv .1 .1 ∙ line-stop (c .before .before .before .before .before .args .text .now) (c .before .before .before .loop .q) (c .before .before .loop-test .taken) (c .before .before .before .loop .inv .0) (c .if1 .taken))
@@ -37,7 +37,7 @@ part-first-of-end : tie.Need-part-first-of-end Inv-loop μ-loop
 part-first-of-end c = search needs
 
 first-of-requires : tie.Need-first-of-requires Inv-loop μ-loop
-first-of-requires c κs = search needs
+first-of-requires c κs = c .before .before .before .before .before .before .pre
 
 returns-2 : tie.Need-returns-2 Inv-loop μ-loop
 returns-2 c = sym (c .before .before .before .before .before .before .loop .inv .1 .1 ∙ line-bad (c .before .before .before .before .before .before .before .before .args .text .now) (c .before .before .before .before .before .before .loop .q) (c .before .before .before .before .before .loop-test .taken) (c .before .before .before .if1 .left) (c .before .first-of .result .width) (rw (rest-of (c .before .before .before .before .before .before .before .before .args .text .now) (c .before .before .before .before .before .before .loop .q)) at (c .before .first-of .ensures .0)) (c .before .before .before .before .before .before .loop .inv .0) (c .if2 .taken))
@@ -62,7 +62,7 @@ line-end-spec =
     μ-loop
     loop-holds
     shared-slice-read-if1
-    add-t10
+    add-t11
     returns
     sub-first-of
     part-first-of-start

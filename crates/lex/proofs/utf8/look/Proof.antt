@@ -11,7 +11,7 @@ shared-slice-read-class : tie.Need-shared-slice-read-class
 shared-slice-read-class c = search needs
 
 class-requires : tie.Need-class-requires
-class-requires c κs = search needs
+class-requires c κs = c .before .before .before .pre
 
 returns-2 : tie.Need-returns-2
 returns-2 c = look-one (c .before .before .before .before .before .args .text .now) (c .before .before .before .before .before .args .p) (c .before .before .before .if1 .left) (c .before .before .shared-slice-known2 .given (c .before .before .before .before .before .args .p) .fits) (c .before .class .result) (c .before .class .ensures) (c .if2 .taken)
@@ -26,7 +26,7 @@ part-first-of-end : tie.Need-part-first-of-end
 part-first-of-end c = search needs
 
 first-of-requires : tie.Need-first-of-requires
-first-of-requires c κs = search needs
+first-of-requires c κs = c .before .before .before .before .before .before .pre
 
 returns-3 : tie.Need-returns-3
 returns-3 c = look-none (c .before .before .before .before .before .before .before .before .before .args .text .now) (c .before .before .before .before .before .before .before .before .before .args .p) (c .before .before .first-of .result .width) (rw (rest-of (c .before .before .before .before .before .before .before .before .before .args .text .now) (c .before .before .before .before .before .before .before .before .before .args .p)) at (c .before .before .first-of .ensures .0)) (c .if3 .taken)
