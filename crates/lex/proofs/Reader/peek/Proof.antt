@@ -1,0 +1,55 @@
+-- `lex::Reader::peek` meets its contract. Assumes nothing.
+use Rattle.lex.specs.Answers.{answer, peeked, peekedBy, taken, takenBy, holding}
+use mathlib.Core.Path.{_≡_, _∙_, ap, sym, refl}
+use borrow.Author.Needs.{needs}
+use Rattle.lex.proofs.Reader.peek.Statement.{statement}
+use Rattle.lex.proofs.Reader.peek.Tie as tie
+
+enum-known-ahead : tie.Need-enum-known-ahead
+enum-known-ahead c = search needs
+
+returns : tie.Need-returns
+unfolding answer peeked peekedBy
+returns c = rw (c .before .ahead .given .1)
+
+enum-told : tie.Need-enum-told
+enum-told c = search needs
+
+scan-requires : tie.Need-scan-requires
+scan-requires c κs = search needs
+
+enum-known-read : tie.Need-enum-known-read
+enum-known-read c = search needs
+
+enum-told-2 : tie.Need-enum-told-2
+enum-told-2 c = search needs
+
+enum-told-3 : tie.Need-enum-told-3
+enum-told-3 c = search needs
+
+returns-2 : tie.Need-returns-2
+unfolding answer peeked peekedBy holding
+returns-2 c = rw (c .before .before .before .before .enum-told .given .1, ← c .before .before .before .scan .ensures, c .before .read .given .1)
+
+returns-3 : tie.Need-returns-3
+unfolding answer peeked peekedBy holding
+returns-3 c = rw (c .before .before .before .enum-told .given .1, ← c .before .before .scan .ensures, c .enum-told2 .given .1)
+
+returns-4 : tie.Need-returns-4
+unfolding answer peeked peekedBy holding
+returns-4 c = rw (c .before .before .before .enum-told .given .1, ← c .before .before .scan .ensures, c .enum-told3 .given .1)
+
+pub peek-spec : {M : Type 1} → statement M
+peek-spec =
+    tie.close
+    (tie.spec
+    enum-known-ahead
+    returns
+    enum-told
+    scan-requires
+    enum-known-read
+    enum-told-2
+    enum-told-3
+    returns-2
+    returns-3
+    returns-4)

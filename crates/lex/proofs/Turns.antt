@@ -1,0 +1,193 @@
+-- One turn of each loop, and what a step over a character keeps. Assumes nothing.
+use mathlib.Core.Path.{_≡_, _∙_, refl, ap, sym}
+use mathlib.Core.Bool.{Bool, true, false}
+use mathlib.Core.List.{List, [], _∷_}
+use mathlib.Core.Option.{Option, none, some}
+use Prim.Native.Nat.{ℕ, zero, suc, _+_, _*_, _-_, _≤_, _<_}
+use native.Mathlib.Nat.{add-zero}
+use native.Mathlib.Omega.{arith}
+use borrow.Author.Tests.{lt-ltb, le-ltb, eq-eqb, ne-eqb}
+use lib.Dec.{eqb, ltb}
+use lib.ListN.{length, getD, take, drop, length-drop, drop-of-length-le}
+use lib.Seq.{take-all, getD-drop}
+use Rattle.horn.specs.Utf8.{Range, range, within, Sequence, sequence, sequences, startedBy}
+use Rattle.horn.specs.Tokens.{Kind, blank, opens, closes, comments, ordinary, kind}
+use Rattle.lex.specs.Classes.{kindNumber, classOf}
+use Rattle.lex.specs.Characters.{First, broken, found, oneMore, rest, first, width, value, kindAt}
+use Rattle.lex.specs.Scan.{blanks, atomEnd, lineEnd}
+use Rattle.lex.specs.declared.Line.{Line}
+use Rattle.lex.specs.declared.Line.the-variants.{Good, Bad}
+use Rattle.lex.proofs.Grammar.{case, first-one, kind-one}
+
+-- A character has at least one byte, and no more than there are.
+unfoldable pub Sound : First → ℕ → Type 0
+Sound broken m = Unit {0}
+Sound (found n v) m = (0 < n) × (n ≤ m)
+
+-- In the midst of a character there may be none left.
+Inner : First → ℕ → Type 0
+Inner broken m = Unit {0}
+Inner (found n v) m = n ≤ m
+
+more-inner : (f : First) (m : ℕ) → Inner f m → Inner (oneMore f) (suc m)
+unfolding oneMore Inner
+more-inner broken m h = tt
+more-inner (found n v) m h = omega arith
+
+inner : (v : ℕ) (rs : List Range) (bs : List ℕ) → Inner (rest v rs bs) (length bs)
+unfolding rest Inner
+inner v [] bs = omega arith
+inner v (r ∷ rs) [] = tt
+inner v (r ∷ rs) (b ∷ bs) =
+    case (within r b)
+    (λ t. rw (t, rest) (more-inner (rest (v * 0x40 + (b - 0x80)) rs bs) (length bs) (inner (v * 0x40 + (b - 0x80)) rs bs)))
+    (λ f. rw (f, rest) tt)
+
+more-sound : (f : First) (m : ℕ) → Inner f m → Sound (oneMore f) (suc m)
+unfolding oneMore Inner Sound
+more-sound broken m h = tt
+more-sound (found n v) m h = (omega arith, omega arith)
+
+pub sound : (bs : List ℕ) → Sound (first bs) (length bs)
+unfolding first Sound
+sound [] = tt
+sound (b ∷ bs) = by (startedBy b sequences) where
+  by : (o : Option Sequence)
+      → Sound (elim o [ none ↦ broken | some (sequence r mark rs) ↦ oneMore (rest (b - mark) rs bs) ]) (suc (length bs))
+  by none = tt
+  by (some (sequence r mark rs)) = more-sound (rest (b - mark) rs bs) (length bs) (inner (b - mark) rs bs)
+
+module _ (m : ℕ) where
+  kind-moves : (f : First) → Sound f m → (kindAt f ≡ 5 → ⊥) → (0 < width f) × (width f ≤ m)
+  unfolding Sound kindAt width
+  kind-moves broken s d = absurd (d refl)
+  kind-moves (found n v) s d = s
+
+  width-moves : (f : First) → Sound f m → (width f ≡ 0 → ⊥) → (0 < width f) × (width f ≤ m)
+  unfolding Sound width
+  width-moves broken s d = absurd (d refl)
+  width-moves (found n v) s d = s
+
+  width-zero : (f : First) → Sound f m → width f ≡ 0 → f ≡ broken
+  unfolding Sound width
+  width-zero broken s e = refl
+  width-zero (found n v) s e = absurd (omega arith)
+
+width-kind : (f : First) → (width f ≡ 0 → ⊥) → kindNumber (kind (value f)) ≡ kindAt f
+unfolding width value kindAt
+width-kind broken d = absurd (d refl)
+width-kind (found n v) d = refl
+
+pub rest-of : (text : List ℕ) (p : ℕ) → take (length text - p) (drop p text) ≡ drop p text
+rest-of text p = take-all (length text - p) (drop p text) (simp length-drop (omega arith))
+
+at-drop : (text : List ℕ) (p : ℕ) → getD (drop p text) 0 0 ≡ getD text p 0
+at-drop text p = getD-drop p text 0 0 ∙ ap (λ (n : ℕ). getD text n 0) (add-zero p)
+
+-- What `look` answers: past the end, at a character of one byte, and at others.
+module _ (text : List ℕ) (p : ℕ) where
+  pub look-past : length text ≤ p → (5 ≡ kindAt (first (drop p text))) × (0 ≡ width (first (drop p text)))
+  unfolding first kindAt width
+  look-past h = (rw (drop-of-length-le text h), rw (drop-of-length-le text h))
+
+  pub look-one : p < length text → getD text p 0 < 256 → (c : ℕ) → c ≡ classOf (getD text p 0) → c < 5
+      → (c ≡ kindAt (first (drop p text))) × (1 ≡ width (first (drop p text)))
+  unfolding kindAt width
+  look-one h u c e l =
+      let a : getD (drop p text) 0 0 ≡ getD text p 0 = at-drop text p in
+      let f = first-one (drop p text) (simp length-drop (omega arith)) (rw a u) (rw (a, ← e) l) in
+      (rw (f, a) (e ∙ kind-one (getD text p 0) u (rw (← e) l)), rw f)
+
+  pub look-none : (w : ℕ) → w ≡ width (first (drop p text)) → w ≡ 0
+      → (5 ≡ kindAt (first (drop p text))) × (0 ≡ width (first (drop p text)))
+  unfolding kindAt width
+  look-none w e z =
+      let f = width-zero (length (drop p text)) (first (drop p text)) (sound (drop p text)) (sym e ∙ z) in (rw f, rw f)
+
+  pub look-longer : (w v k : ℕ) → w ≡ width (first (drop p text)) → v ≡ value (first (drop p text)) → (w ≡ 0 → ⊥)
+      → k ≡ kindNumber (kind v) → k ≡ kindAt (first (drop p text))
+  look-longer w v k e g d h = h ∙ rw g (width-kind (first (drop p text)) (λ z. d (e ∙ z)))
+
+-- A step over a character stays in the text and goes on.
+module _ (text : List ℕ) (q n : ℕ) (en : n ≡ width (first (drop q text))) where
+  pub kind-steps : (k : ℕ) → k ≡ kindAt (first (drop q text)) → (k ≡ 5 → ⊥) → (q + n ≤ length text) × (q < q + n)
+  kind-steps k ek d =
+      let m = kind-moves (length (drop q text)) (first (drop q text)) (sound (drop q text)) (λ z. d (ek ∙ z)) in
+      (omega (arith, length-drop q text), omega arith)
+
+  pub width-steps : (n ≡ 0 → ⊥) → (q + n ≤ length text) × (q < q + n)
+  width-steps d =
+      let m = width-moves (length (drop q text)) (first (drop q text)) (sound (drop q text)) (λ z. d (en ∙ z)) in
+      (omega (arith, length-drop q text), omega arith)
+
+-- The scans of white space and of an atom: a stop, and a turn over one character.
+module _ (text : List ℕ) (end q k : ℕ) (ek : k ≡ kindAt (first (drop q text))) (h : q < end) where
+  pub atom-stop : (f : ℕ) → (k ≡ 0 → ⊥) → atomEnd (suc f) text end q ≡ q
+  unfolding atomEnd
+  atom-stop f d = rw (lt-ltb q end h, ← ek, ne-eqb k 0 d, atomEnd)
+
+  pub blank-stop : (f : ℕ) → (k ≡ 4 → ⊥) → (k ≡ 1 → ⊥) → blanks (suc f) text end q ≡ q
+  unfolding blanks
+  blank-stop f d e = rw (lt-ltb q end h, ← ek, ne-eqb k 1 e, ← ek, ne-eqb k 4 d, blanks)
+
+  pub comment-stop : (f : ℕ) → k ≡ 4 → blanks (suc f) text end q ≡ end
+  unfolding blanks
+  comment-stop f e = rw (lt-ltb q end h, ← ek, ne-eqb k 1 (λ z. omega arith), ← ek, eq-eqb k 4 e, blanks)
+
+  module _ (n : ℕ) (en : n ≡ width (first (drop q text))) where
+    atom-step : (f : ℕ) → k ≡ 0 → atomEnd (suc f) text end q ≡ atomEnd f text end (q + n)
+    unfolding atomEnd
+    atom-step f e = rw (en, lt-ltb q end h, ← ek, e, atomEnd)
+
+    pub atom-on : (f : ℕ) → length text - q ≤ f → k ≡ 0
+        → (g : ℕ) × ((length text - (q + n) ≤ g) × (atomEnd (suc f) text end q ≡ atomEnd (suc g) text end (q + n)))
+    atom-on zero l e = let s = kind-steps text q n en k ek (λ z. omega arith) in absurd (omega arith)
+    atom-on (suc g) l e =
+        let s = kind-steps text q n en k ek (λ z. omega arith) in
+        (g, (omega arith, atom-step (suc g) e))
+
+    blank-step : (f : ℕ) → k ≡ 1 → blanks (suc f) text end q ≡ blanks f text end (q + n)
+    unfolding blanks
+    blank-step f e = rw (en, lt-ltb q end h, ← ek, e, blanks)
+
+    pub blank-on : (f : ℕ) → length text - q ≤ f → k ≡ 1
+        → (g : ℕ) × ((length text - (q + n) ≤ g) × (blanks (suc f) text end q ≡ blanks (suc g) text end (q + n)))
+    blank-on zero l e = let s = kind-steps text q n en k ek (λ z. omega arith) in absurd (omega arith)
+    blank-on (suc g) l e =
+        let s = kind-steps text q n en k ek (λ z. omega arith) in
+        (g, (omega arith, blank-step (suc g) e))
+
+pub atom-over : (text : List ℕ) (end q f : ℕ) → end ≤ q → atomEnd (suc f) text end q ≡ q
+unfolding atomEnd
+atom-over text end q f h = rw (le-ltb q end h, atomEnd)
+
+pub blank-over : (text : List ℕ) (end q f : ℕ) → end ≤ q → blanks (suc f) text end q ≡ q
+unfolding blanks
+blank-over text end q f h = rw (le-ltb q end h, blanks)
+
+-- The scan of a line.
+module _ (text : List ℕ) (q : ℕ) (h : q < length text) where
+  pub line-stop : (f : ℕ) → getD text q 0 ≡ 0x0A → lineEnd (suc f) text q ≡ Good (q + 1)
+  unfolding lineEnd
+  line-stop f e = rw (lt-ltb q (length text) h, eq-eqb (getD text q 0) 0x0A e, lineEnd)
+
+  module _ (d : getD text q 0 ≡ 0x0A → ⊥) (n : ℕ) (en : n ≡ width (first (drop q text))) where
+    pub line-bad : (f : ℕ) → n ≡ 0 → lineEnd (suc f) text q ≡ Bad
+    unfolding lineEnd
+    line-bad f e = rw (lt-ltb q (length text) h, ne-eqb (getD text q 0) 0x0A d, ← en, e, lineEnd)
+
+    pub line-step : (f : ℕ) → (n ≡ 0 → ⊥) → lineEnd (suc f) text q ≡ lineEnd f text (q + n)
+    unfolding lineEnd
+    line-step f e =
+        rw (en, lt-ltb q (length text) h, ne-eqb (getD text q 0) 0x0A d, ne-eqb (width (first (drop q text))) 0 (λ z. e (en ∙ z)), lineEnd)
+
+    pub line-on : (f : ℕ) → length text - q ≤ f → (n ≡ 0 → ⊥)
+        → (g : ℕ) × ((length text - (q + n) ≤ g) × (lineEnd (suc f) text q ≡ lineEnd (suc g) text (q + n)))
+    line-on zero l e = let s = width-steps text q n en e in absurd (omega arith)
+    line-on (suc g) l e =
+        let s = width-steps text q n en e in
+        (g, (omega arith, line-step (suc g) e))
+
+pub line-over : (text : List ℕ) (q f : ℕ) → length text ≤ q → lineEnd (suc f) text q ≡ Good q
+unfolding lineEnd
+line-over text q f h = rw (le-ltb q (length text) h, lineEnd)

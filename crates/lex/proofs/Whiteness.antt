@@ -1,0 +1,37 @@
+-- No character above 3000 is white space. Assumes nothing.
+use mathlib.Core.Path.{_≡_, refl}
+use mathlib.Core.Bool.{Bool, true, false, _&&_, _||_}
+use Prim.Native.Nat.{ℕ, _≤_, _<_}
+use native.Mathlib.Omega.{arith}
+use borrow.Author.Tests.{lt-leb}
+use lib.Dec.{leb}
+use Rattle.horn.specs.Utf8.{range, within}
+use Rattle.horn.specs.Tokens.{white, whiteRanges, inSome}
+
+pub or-false : (b : Bool) → (b || false) ≡ b
+or-false true = refl
+or-false false = refl
+
+and-false : (b : Bool) → (b && false) ≡ false
+and-false true = refl
+and-false false = refl
+
+above : (low high v : ℕ) → high < v → within (range low high) v ≡ false
+unfolding within
+above low high v h = rw (lt-leb v high h, and-false, within)
+
+pub white-above : (v : ℕ) → 0x3000 < v → white v ≡ false
+unfolding white whiteRanges inSome
+white-above v h =
+    rw (
+      above 0x9 0xD v (omega arith),
+      above 0x20 0x20 v (omega arith),
+      above 0x85 0x85 v (omega arith),
+      above 0xA0 0xA0 v (omega arith),
+      above 0x1680 0x1680 v (omega arith),
+      above 0x2000 0x200A v (omega arith),
+      above 0x2028 0x2029 v (omega arith),
+      above 0x202F 0x202F v (omega arith),
+      above 0x205F 0x205F v (omega arith),
+      above 0x3000 0x3000 v h,
+    )

@@ -1,0 +1,75 @@
+-- `lex::line_end` meets its contract. Assumes nothing.
+use Rattle.lex.proofs.Turns.{width-steps, rest-of, line-stop, line-bad, line-on, line-over}
+use Rattle.lex.specs.Scan.{lineEnd}
+use lib.ListN.{length}
+use native.Mathlib.Omega.{arith}
+use mathlib.Core.Path.{_≡_, _∙_, refl, sym}
+use Prim.Native.Nat.{ℕ, suc, _≤_, _-_}
+use borrow.Author.Needs.{needs}
+use Rattle.lex.proofs.line_end.Statement.{statement}
+use Rattle.lex.proofs.line_end.Tie as tie
+
+abbrev Inv-loop : tie.InvT-loop
+Inv-loop text p q₀ q = (f : ℕ) × ((length text - q ≤ f) × (lineEnd (suc (length text)) text p ≡ lineEnd (suc f) text q))
+
+abbrev μ-loop : tie.MeasureT-loop
+μ-loop text p q₀ q = length text - q
+
+loop-holds : tie.Need-loop-holds Inv-loop μ-loop
+loop-holds c = (length (c .before .args .text .now), (omega arith, refl))
+
+shared-slice-read-if1 : tie.Need-shared-slice-read-if1 Inv-loop μ-loop
+shared-slice-read-if1 c = search needs
+
+add-t10 : tie.Need-add-t10 Inv-loop μ-loop
+add-t10 c = search needs
+
+returns : tie.Need-returns Inv-loop μ-loop
+returns c = sym (c .before .before .before .loop .inv .1 .1 ∙ line-stop (c .before .before .before .before .before .args .text .now) (c .before .before .before .loop .q) (c .before .before .loop-test .taken) (c .before .before .before .loop .inv .0) (c .if1 .taken))
+
+sub-first-of : tie.Need-sub-first-of Inv-loop μ-loop
+sub-first-of c = search needs
+
+part-first-of-start : tie.Need-part-first-of-start Inv-loop μ-loop
+part-first-of-start c = search needs
+
+part-first-of-end : tie.Need-part-first-of-end Inv-loop μ-loop
+part-first-of-end c = search needs
+
+first-of-requires : tie.Need-first-of-requires Inv-loop μ-loop
+first-of-requires c κs = search needs
+
+returns-2 : tie.Need-returns-2 Inv-loop μ-loop
+returns-2 c = sym (c .before .before .before .before .before .before .loop .inv .1 .1 ∙ line-bad (c .before .before .before .before .before .before .before .before .args .text .now) (c .before .before .before .before .before .before .loop .q) (c .before .before .before .before .before .loop-test .taken) (c .before .before .before .if1 .left) (c .before .first-of .result .width) (rw (rest-of (c .before .before .before .before .before .before .before .before .args .text .now) (c .before .before .before .before .before .before .loop .q)) at (c .before .first-of .ensures .0)) (c .before .before .before .before .before .before .loop .inv .0) (c .if2 .taken))
+
+add-q : tie.Need-add-q Inv-loop μ-loop
+add-q c = let s = width-steps (c .before .before .before .before .before .before .before .before .args .text .now) (c .before .before .before .before .before .before .loop .q) (c .before .first-of .result .width) (rw (rest-of (c .before .before .before .before .before .before .before .before .args .text .now) (c .before .before .before .before .before .before .loop .q)) at (c .before .first-of .ensures .0)) (c .if2 .left) in record { fits = omega arith }
+
+loop-less : tie.Need-loop-less Inv-loop μ-loop
+loop-less c = let s = width-steps (c .before .before .before .before .before .before .before .before .args .text .now) (c .before .before .before .before .before .before .loop .q) (c .before .first-of .result .width) (rw (rest-of (c .before .before .before .before .before .before .before .before .args .text .now) (c .before .before .before .before .before .before .loop .q)) at (c .before .first-of .ensures .0)) (c .if2 .left) in omega arith
+
+loop-again : tie.Need-loop-again Inv-loop μ-loop
+loop-again c = let t = line-on (c .before .before .before .before .before .before .before .before .args .text .now) (c .before .before .before .before .before .before .loop .q) (c .before .before .before .before .before .loop-test .taken) (c .before .before .before .if1 .left) (c .before .first-of .result .width) (rw (rest-of (c .before .before .before .before .before .before .before .before .args .text .now) (c .before .before .before .before .before .before .loop .q)) at (c .before .first-of .ensures .0)) (c .before .before .before .before .before .before .loop .inv .0) (c .before .before .before .before .before .before .loop .inv .1 .0) (c .if2 .left) in (t .0, (t .1 .0, c .before .before .before .before .before .before .loop .inv .1 .1 ∙ t .1 .1))
+
+returns-3 : tie.Need-returns-3 Inv-loop μ-loop
+returns-3 c = sym (c .before .loop .inv .1 .1 ∙ line-over (c .before .before .before .args .text .now) (c .before .loop .q) (c .before .loop .inv .0) (search needs))
+
+pub line-end-spec : {M : Type 1} → statement M
+line-end-spec =
+    tie.close
+    (tie.spec
+    Inv-loop
+    μ-loop
+    loop-holds
+    shared-slice-read-if1
+    add-t10
+    returns
+    sub-first-of
+    part-first-of-start
+    part-first-of-end
+    first-of-requires
+    returns-2
+    add-q
+    loop-less
+    loop-again
+    returns-3)

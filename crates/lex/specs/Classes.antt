@@ -1,0 +1,50 @@
+-- "The first byte of a character is looked up in a table of 256 classes, one for each byte."
+use Prim.Native.Nat.{ℕ}
+use mathlib.Core.Bool.{Bool, true, false}
+use mathlib.Core.List.{List, [], _∷_}
+use mathlib.Core.Option.{Option, none, some}
+use lib.Dec.{eqb}
+use lib.ListN.{length}
+use Rattle.horn.specs.Utf8.{Range, range, Sequence, sequence, sequences, startedBy}
+use Rattle.horn.specs.Tokens.{Kind, blank, opens, closes, comments, ordinary, kind}
+
+-- The classes 0 to 4: characters of one byte, by their kind.
+unfoldable pub kindNumber : Kind → ℕ
+kindNumber ordinary = 0
+kindNumber blank = 1
+kindNumber opens = 2
+kindNumber closes = 3
+kindNumber comments = 4
+
+-- The class of bytes that begin no character.
+abbrev pub never : ℕ
+never = 5
+
+-- The classes 6 to 12: first bytes of longer characters, by the range of the second byte and the number of bytes after
+-- it. (C2 to DF; E0; E1 to EC, EE, EF; ED; F0; F1 to F3; F4.)
+unfoldable pub leadNumber : ℕ → ℕ → ℕ → ℕ
+leadNumber low high more =
+    elim (eqb more 0) [
+      | true ↦ 6
+      | false ↦ elim (eqb more 1) [
+        | true ↦ elim (eqb low 0xA0) [ true ↦ 7 | false ↦ elim (eqb high 0x9F) [ true ↦ 9 | false ↦ 8 ] ]
+        | false ↦ elim (eqb low 0x90) [ true ↦ 10 | false ↦ elim (eqb high 0x8F) [ true ↦ 12 | false ↦ 11 ] ]
+      ]
+    ]
+
+-- The class of a byte, by RFC 3629's grammar and 01's kinds of characters.
+unfoldable pub classOf : ℕ → ℕ
+classOf b =
+    elim (startedBy b sequences) [
+      | none ↦ never
+      | some (sequence first mark []) ↦ kindNumber (kind b)
+      | some (sequence first mark (range low high ∷ rest)) ↦ leadNumber low high (length rest)
+    ]
+
+-- What a class of longer characters says: the range of the second byte, how many bytes follow that, and the bits that
+-- mark the first byte.
+unfoldable pub lowOf : ℕ → ℕ
+lowOf c = elim (eqb c 7) [ true ↦ 0xA0 | false ↦ elim (eqb c 10) [ true ↦ 0x90 | false ↦ 0x80 ] ]
+
+unfoldable pub highOf : ℕ → ℕ
+highOf c = elim (eqb c 9) [ true ↦ 0x9F | false ↦ elim (eqb c 12) [ true ↦ 0x8F | false ↦ 0xBF ] ]

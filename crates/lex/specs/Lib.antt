@@ -1,0 +1,4 @@
+pub mod Classes
+pub mod Characters
+pub mod Scan
+pub mod Answers

@@ -1,0 +1,214 @@
+// A reader over a lent text: "On each read the reader moves on one token and is handed back."
+ghost use mathlib.Core.Path.{_≡_};
+ghost use Prim.Native.Nat.{suc, _≤_, _<_};
+ghost use lib.ListN.{length};
+ghost use Rattle.lex.specs.Scan.{blanks, atomEnd, lineEnd};
+ghost use Rattle.lex.specs.Answers.{answer, tokenAt, scanned, peeked, taken, start};
+
+pub mod classes;
+pub mod utf8;
+
+// "A token is an opening, a closing or an atom with its bounds."
+pub enum Token {
+    Opening,
+    Closing,
+    Atom(usize, usize),
+}
+
+// "One token may be looked at ahead."
+pub enum Ahead {
+    Nothing,
+    Held(Token),
+}
+
+// Where the reader stands, up to where the text is tested, and the token that it looked at.
+pub struct Reader {
+    pub at: usize,
+    pub end: usize,
+    pub ahead: Ahead,
+}
+
+// A token with the reader after it; the end of the text; a line that is not UTF-8.
+pub enum Read {
+    Got(Token, Reader),
+    End,
+    Bad,
+}
+
+// Where a line ends, if it is UTF-8.
+pub enum Line {
+    Good(usize),
+    Bad,
+}
+
+// Past white space and comments in a line that ends at `end`.
+pub fn skip_blanks(text: &[u8], end: usize, p: usize) -> usize
+    ensures { λ r. ⌜ r ≡ blanks (suc (length (now (text .entry)))) (now (text .entry)) end p ⌝ }
+{
+    let mut q = p;
+    while q < end {
+        let seen = utf8::look(text, q);
+        let kind = seen.kind;
+        if kind == 4 {
+            return end;
+        }
+        if kind != 1 {
+            return q;
+        }
+        q += seen.width;
+    }
+    q
+}
+
+// Past the characters of an atom.
+pub fn atom_end(text: &[u8], end: usize, p: usize) -> usize
+    ensures { λ r. ⌜ r ≡ atomEnd (suc (length (now (text .entry)))) (now (text .entry)) end p ⌝ }
+{
+    let mut q = p;
+    while q < end {
+        let seen = utf8::look(text, q);
+        let kind = seen.kind;
+        if kind != 0 {
+            return q;
+        }
+        q += seen.width;
+    }
+    q
+}
+
+// The end of the line that starts at `p`, if it is UTF-8.
+pub fn line_end(text: &[u8], p: usize) -> Line
+    ensures { λ r. ⌜ r ≡ lineEnd (suc (length (now (text .entry)))) (now (text .entry)) p ⌝ }
+{
+    let mut q = p;
+    while q < text.len() {
+        if text[q] == 0x0A {
+            return Line::Good(q + 1);
+        }
+        let found = utf8::first_of(&text[q..]);
+        let width = found.width;
+        if width == 0 {
+            return Line::Bad;
+        }
+        q += width;
+    }
+    Line::Good(q)
+}
+
+// The token at a place where a character stands that is neither white nor `;`.
+pub fn token_at(text: &[u8], end: usize, p: usize) -> Read
+    ensures { λ r. ⌜ answer r ≡ tokenAt (now (text .entry)) end p ⌝ }
+{
+    let seen = utf8::look(text, p);
+    let kind = seen.kind;
+    if kind == 0 {
+        let q = atom_end(text, end, p);
+        return Read::Got(
+            Token::Atom(p, q),
+            Reader {
+                at: q,
+                end,
+                ahead: Ahead::Nothing,
+            },
+        );
+    }
+    if kind == 2 {
+        return Read::Got(
+            Token::Opening,
+            Reader {
+                at: p + 1,
+                end,
+                ahead: Ahead::Nothing,
+            },
+        );
+    }
+    if kind == 3 {
+        return Read::Got(
+            Token::Closing,
+            Reader {
+                at: p + 1,
+                end,
+                ahead: Ahead::Nothing,
+            },
+        );
+    }
+    Read::Bad
+}
+
+// The next token; a line is tested when it is first needed.
+pub fn scan(text: &[u8], end: usize, p: usize) -> Read
+    ensures { λ r. ⌜ answer r ≡ scanned (suc (length (now (text .entry)))) (now (text .entry)) end p ⌝ }
+{
+    let mut e = end;
+    let mut q = skip_blanks(text, e, p);
+    while e <= q {
+        if text.len() <= q {
+            return Read::End;
+        }
+        let line = line_end(text, q);
+        let Line::Good(next) = line else {
+            return Read::Bad;
+        };
+        e = next;
+        q = skip_blanks(text, e, q);
+    }
+    token_at(text, e, q)
+}
+
+impl Reader {
+    // A reader before the first token of any text.
+    pub fn new() -> Self
+        ensures { λ r. ⌜ r ≡ start ⌝ }
+    {
+        Reader {
+            at: 0,
+            end: 0,
+            ahead: Ahead::Nothing,
+        }
+    }
+
+    // Looks at the next token: the reader that is handed back holds it.
+    pub fn peek(self, text: &[u8]) -> Read
+        ensures { λ r. ⌜ answer r ≡ peeked (now (text .entry)) self ⌝ }
+    {
+        let ahead = self.ahead;
+        if let Ahead::Held(t) = ahead {
+            return Read::Got(t, self);
+        }
+        let at = self.at;
+        let end = self.end;
+        let read = scan(text, end, at);
+        match read {
+            Read::Got(t, r) => Read::Got(
+                t,
+                Reader {
+                    at: r.at,
+                    end: r.end,
+                    ahead: Ahead::Held(t),
+                },
+            ),
+            Read::End => Read::End,
+            Read::Bad => Read::Bad,
+        }
+    }
+
+    // Takes the next token.
+    pub fn token(self, text: &[u8]) -> Read
+        ensures { λ r. ⌜ answer r ≡ taken (now (text .entry)) self ⌝ }
+    {
+        let ahead = self.ahead;
+        let at = self.at;
+        let end = self.end;
+        if let Ahead::Held(t) = ahead {
+            return Read::Got(
+                t,
+                Reader {
+                    at,
+                    end,
+                    ahead: Ahead::Nothing,
+                },
+            );
+        }
+        scan(text, end, at)
+    }
+}
