@@ -1,0 +1,77 @@
+-- One law for each way through a token's step and through the end of the text.
+use Prim.Native.Nat.{ℕ, _+_, _-_, _%_, _≤_, _<_}
+use mathlib.Core.Path.{_≡_, refl}
+use mathlib.Core.List.{List}
+use borrow.Author.Tests.{eq-eqb, ne-eqb, lt-ltb, le-ltb}
+use lib.ListN.{getD}
+use Rattle.horn.specs.Refusals.{number}
+use Rattle.lex.specs.declared.Token.the-variants.{Opening, Closing, Atom}
+use Rattle.sexp.specs.declared.Place.{Place}
+use Rattle.sexp.specs.declared.Step.the-variants.{On, Refused}
+use Rattle.sexp.specs.Walk.{whole, refused, place, counted, memberAdded, listOpened, stepped, areaStepped, endedAt}
+
+pub no-member : (d : ℕ) (area : List ℕ) → d ≡ 0 → memberAdded d area ≡ area
+unfolding memberAdded
+no-member d area e = rw (eq-eqb d 0 e, memberAdded)
+
+pub a-member : (d : ℕ) (area : List ℕ) → (d ≡ 0 → ⊥) → memberAdded d area ≡ counted area (getD area (8_191 + d) 0)
+unfolding memberAdded
+a-member d area e = rw (ne-eqb d 0 e, memberAdded)
+
+module _ (p : Place) where
+  pub end-top : p .depth ≡ 0 → endedAt p ≡ whole (p .openings)
+  unfolding endedAt
+  end-top e = rw (eq-eqb (p .depth) 0 e, endedAt)
+
+  pub end-open : (p .depth ≡ 0 → ⊥) → p .depth ≤ 256 → endedAt p ≡ refused 5
+  unfolding endedAt number
+  end-open e h = rw (ne-eqb (p .depth) 0 e, endedAt, le-ltb 256 (p .depth) h)
+
+  pub end-deep : (p .depth ≡ 0 → ⊥) → 256 < p .depth → endedAt p ≡ refused 4
+  unfolding endedAt number
+  end-deep e h = rw (ne-eqb (p .depth) 0 e, endedAt, lt-ltb 256 (p .depth) h)
+
+  pub closing-top : p .depth ≡ 0 → stepped Closing p ≡ Refused 6
+  unfolding stepped number
+  closing-top e = rw (eq-eqb (p .depth) 0 e, stepped)
+
+  pub closing-on : (p .depth ≡ 0 → ⊥) → stepped Closing p ≡ On (place (p .openings) (p .depth - 1))
+  unfolding stepped
+  closing-on e = rw (ne-eqb (p .depth) 0 e, stepped)
+
+  pub opening-on : p .depth ≤ 256 → stepped Opening p ≡ On (place ((p .openings + 1) % 4_294_967_296) (p .depth + 1))
+  unfolding stepped
+  opening-on h = rw (le-ltb 256 (p .depth) h, stepped)
+
+  pub opening-deep : 256 < p .depth → stepped Opening p ≡ Refused 4
+  unfolding stepped number
+  opening-deep h = rw (lt-ltb 256 (p .depth) h, stepped)
+
+  pub atom-on : (s e : ℕ) → p .depth ≤ 256 → stepped (Atom s e) p ≡ On p
+  unfolding stepped
+  atom-on s e h = rw (le-ltb 256 (p .depth) h, stepped)
+
+  pub atom-deep : (s e : ℕ) → 256 < p .depth → stepped (Atom s e) p ≡ Refused 4
+  unfolding stepped number
+  atom-deep s e h = rw (lt-ltb 256 (p .depth) h, stepped)
+
+  module _ (area : List ℕ) where
+    pub area-closing : areaStepped Closing p area ≡ area
+    unfolding areaStepped
+    area-closing = refl
+
+    pub area-opening-deep : 256 < p .depth → areaStepped Opening p area ≡ area
+    unfolding areaStepped
+    area-opening-deep h = rw (lt-ltb 256 (p .depth) h, areaStepped)
+
+    pub area-opening : p .depth ≤ 256 → areaStepped Opening p area ≡ listOpened (p .openings) (p .depth) area
+    unfolding areaStepped
+    area-opening h = rw (le-ltb 256 (p .depth) h, areaStepped)
+
+    pub area-atom-deep : (s e : ℕ) → 256 < p .depth → areaStepped (Atom s e) p area ≡ area
+    unfolding areaStepped
+    area-atom-deep s e h = rw (lt-ltb 256 (p .depth) h, areaStepped)
+
+    pub area-atom : (s e : ℕ) → p .depth ≤ 256 → areaStepped (Atom s e) p area ≡ memberAdded (p .depth) area
+    unfolding areaStepped
+    area-atom s e h = rw (le-ltb 256 (p .depth) h, areaStepped)
