@@ -1,0 +1,4 @@
+pub mod Outcomes
+pub mod Leaving
+pub mod Items
+pub mod Patterns
