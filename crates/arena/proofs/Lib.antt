@@ -1,0 +1,12 @@
+pub mod Cases
+pub mod Walks
+pub mod Equality
+pub mod Copies
+pub mod Nodes
+pub mod Holds
+pub mod Limits
+pub mod Interning
+pub mod Trees
+pub mod Turns
+pub mod Readings
+pub mod Settings
