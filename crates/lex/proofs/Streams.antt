@@ -116,7 +116,7 @@ ended-char taken v (b ∷ bs) = by (startedBy b sequences) where
         | some (sequence r mark rs) ↦ Option·map (λ cs. char taken v ∷ cs) (resumed (b ∷ []) (b - mark) rs bs)
       ]
       ≡ Option·map (λ cs. char taken v ∷ cs)
-        (elim o [ none ↦ none | some (sequence r mark rs) ↦ resumed (b ∷ []) (b - mark) rs bs ])
+      (elim o [ none ↦ none | some (sequence r mark rs) ↦ resumed (b ∷ []) (b - mark) rs bs ])
   by none = refl
   by (some (sequence r mark rs)) = refl
 
@@ -152,9 +152,9 @@ run v (range lo hi ∷ rs) (b ∷ bs) m w h e =
       top = top-on b bs d ∙ ap (λ (x : List ℕ). b ∷ x) (i .top);
       others = others-on b bs d ∙ i .others;
       reads = λ taken l.
-        rw (t, resumed)
-        (i .reads (taken ++ (b ∷ [])) l
-        ∙ ap (λ (x : List ℕ). Option·map (λ cs. char x w ∷ cs) (decoded l)) (append-assoc taken (b ∷ []) (take (f .0) bs)));
+          rw (t, resumed)
+          (i .reads (taken ++ (b ∷ [])) l
+          ∙ ap (λ (x : List ℕ). Option·map (λ cs. char x w ∷ cs) (decoded l)) (append-assoc taken (b ∷ []) (take (f .0) bs)));
       grows = omega (arith, i .grows);
     })
     (λ n.
@@ -235,20 +235,20 @@ head (b ∷ bs) n v h d e =
     let z : _≡_ {A = ℕ} 0 1 = cc in
     absurd (omega arith))
     (λ s o. by s o)
-    where
-  by : (s : Sequence) → startedBy b sequences ≡ some s → Head (b ∷ bs) n v
-  by (sequence r mark rs) o =
-      let t = fit-started b (sequence r mark rs) o in
-      let m = more-found (rest (b - mark) rs bs) n v (rw (o, first) at e) in
-      let i = run (b - mark) rs bs (m .0) v (fit-high r mark rs (t .0)) (m .1 .1) in
-      rw (m .1 .0)
-      record {
-        top =
-          ap decoded (top-on b bs d ∙ ap (λ (x : List ℕ). b ∷ x) (i .top))
-          ∙ rw (o, decoded) (i .reads (b ∷ []) (topLine (lines (drop (m .0) bs))));
-        others = others-on b bs d ∙ i .others;
-        inner = value-inner b r mark rs bs (m .0) v d (t .0) (t .1) (m .1 .1);
-      }
+  where
+    by : (s : Sequence) → startedBy b sequences ≡ some s → Head (b ∷ bs) n v
+    by (sequence r mark rs) o =
+        let t = fit-started b (sequence r mark rs) o in
+        let m = more-found (rest (b - mark) rs bs) n v (rw (o, first) at e) in
+        let i = run (b - mark) rs bs (m .0) v (fit-high r mark rs (t .0)) (m .1 .1) in
+        rw (m .1 .0)
+        record {
+          top =
+              ap decoded (top-on b bs d ∙ ap (λ (x : List ℕ). b ∷ x) (i .top))
+              ∙ rw (o, decoded) (i .reads (b ∷ []) (topLine (lines (drop (m .0) bs))));
+          others = others-on b bs d ∙ i .others;
+          inner = value-inner b r mark rs bs (m .0) v d (t .0) (t .1) (m .1 .1);
+        }
 
 pub first-newline : (bs : List ℕ) → first (0x0A ∷ bs) ≡ found 1 0x0A
 unfolding first startedBy sequences within rest oneMore
@@ -275,12 +275,12 @@ head-broken (b ∷ bs) h e =
     (λ y.
     let d : b ≡ 0x0A → ⊥ = eqb-false b 0x0A y in
     ap decoded (top-on b bs d) ∙ option (startedBy b sequences) (λ o. rw (o, decoded)) (λ s o. by s o))
-    where
-  by : (s : Sequence) → startedBy b sequences ≡ some s → decoded (b ∷ topLine (lines bs)) ≡ none
-  by (sequence r mark rs) o =
-      let t = fit-started b (sequence r mark rs) o in
-      rw (o, decoded)
-      (broken-rest (b - mark) rs bs (b ∷ []) (fit-high r mark rs (t .0)) (more-broken (rest (b - mark) rs bs) (rw (o, first) at e)))
+  where
+    by : (s : Sequence) → startedBy b sequences ≡ some s → decoded (b ∷ topLine (lines bs)) ≡ none
+    by (sequence r mark rs) o =
+        let t = fit-started b (sequence r mark rs) o in
+        rw (o, decoded)
+        (broken-rest (b - mark) rs bs (b ∷ []) (fit-high r mark rs (t .0)) (more-broken (rest (b - mark) rs bs) (rw (o, first) at e)))
 
 pub good-end : GoodLine []
 unfolding GoodLine topLine lines decoded
