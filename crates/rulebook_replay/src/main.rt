@@ -2,6 +2,8 @@
 //
 // In the file `rulebooks` (compare/replay-data writes it) a case is eleven bytes, then the text: the text's length, the
 // number, the counts of sorts, constructors, predicates and rules. The number is one byte, all else two, high byte first.
+ghost use mathlib.Core.Path.{_≡_};
+
 const FIRST: u32 = 3735928559;
 
 const STEP: u32 = 2654435761;
@@ -15,23 +17,23 @@ struct Answer {
     rules: u32,
 }
 
-fn wide(b: u8) -> u32 {
+fn wide(b: u8) -> u32
+    ensures { λ r. ⌜ r ≡ b ⌝ }
+{
     b as u32
 }
 
-// Two bytes of a case's head, high byte first.
-fn pair(head: &[u8], i: usize) -> u32 {
-    let high = wide(words::byte(head, i));
-    let low = wide(words::byte(head, i + 1));
-    std::num::wrapping_add_u32(high * 256, low)
+// Two bytes, high byte first.
+fn pair(high: u8, low: u8) -> u32 {
+    wide(high) * 256 + wide(low)
 }
 
 fn kept(head: &[u8]) -> Answer {
     let number = wide(words::byte(head, 2));
-    let sorts = pair(head, 3);
-    let constructors = pair(head, 5);
-    let predicates = pair(head, 7);
-    let rules = pair(head, 9);
+    let sorts = pair(words::byte(head, 3), words::byte(head, 4));
+    let constructors = pair(words::byte(head, 5), words::byte(head, 6));
+    let predicates = pair(words::byte(head, 7), words::byte(head, 8));
+    let rules = pair(words::byte(head, 9), words::byte(head, 10));
     Answer {
         number,
         sorts,
@@ -82,7 +84,7 @@ fn show_report(r: kernel::RulebookReport) {
 }
 
 // One text against what was kept of it: whether they agree. Where they do not, it says so.
-fn agrees(
+fn agrees_over(
     x: Answer,
     text: &[u8],
     a: &mut [u32],
@@ -104,38 +106,49 @@ fn agrees(
     true
 }
 
+fn agrees(x: Answer, text: &[u8]) -> bool {
+    let mut a = [0u32; 16384];
+    let mut b = [0u32; 20000];
+    let mut c = [0u32; 16385];
+    let mut d = [0u32; 16384];
+    agrees_over(x, text, &mut a, &mut b, &mut c, &mut d)
+}
+
 enum Case {
     End,
     Agrees,
     Differs,
 }
 
-// The next case of the file. A text that is cut short differs.
-fn next(
-    fd: i32,
-    buf: &mut [u8],
-    a: &mut [u32],
-    b: &mut [u32],
-    c: &mut [u32],
-    d: &mut [u32],
-) -> Case {
-    let mut head = [0u8; 11];
-    if io::read_full(fd, &mut head) < 11 {
-        return Case::End;
+// The text of a case, which is in the file behind its head.
+fn judge(fd: i32, x: Answer, text: &mut [u8]) -> Case {
+    if io::read_full(fd, text) < text.len() {
+        io::write_all(1, b"a text cut short\n");
+        return Case::Differs;
     }
-    let length = pair(&head, 0) as usize;
+    if agrees(x, text) {
+        return Case::Agrees;
+    }
+    Case::Differs
+}
+
+fn judge_first(fd: i32, x: Answer, buf: &mut [u8], length: usize) -> Case {
     if buf.len() < length {
         io::write_all(1, b"a text too long\n");
         return Case::Differs;
     }
-    if io::read_full(fd, &mut buf[..length]) < length {
-        io::write_all(1, b"a text cut short\n");
-        return Case::Differs;
+    judge(fd, x, &mut buf[..length])
+}
+
+// The next case of the file.
+fn next(fd: i32) -> Case {
+    let mut head = [0u8; 11];
+    if io::read_full(fd, &mut head) < 11 {
+        return Case::End;
     }
-    if agrees(kept(&head), &buf[..length], a, b, c, d) {
-        return Case::Agrees;
-    }
-    Case::Differs
+    let mut buf = [0u8; 8192];
+    let length = pair(words::byte(&head, 0), words::byte(&head, 1));
+    judge_first(fd, kept(&head), &mut buf, length as usize)
 }
 
 struct Tally {
@@ -161,7 +174,7 @@ impl Tally {
 }
 
 // A proved loop has to end, and nothing says that a file does: so many turns at most.
-fn replay(fd: i32, buf: &mut [u8], a: &mut [u32], b: &mut [u32], c: &mut [u32], d: &mut [u32]) {
+fn replay(fd: i32) {
     let mut t = Tally {
         cases: 0,
         agreements: 0,
@@ -169,7 +182,7 @@ fn replay(fd: i32, buf: &mut [u8], a: &mut [u32], b: &mut [u32], c: &mut [u32], 
     let mut turns: u32 = 1000000;
     while 0 < turns {
         turns -= 1;
-        match next(fd, buf, a, b, c, d) {
+        match next(fd) {
             Case::Agrees => {
                 t = t.and(1);
             }
@@ -185,16 +198,11 @@ fn replay(fd: i32, buf: &mut [u8], a: &mut [u32], b: &mut [u32], c: &mut [u32], 
 }
 
 fn main() {
-    let mut buf = [0u8; 8192];
-    let mut a = [0u32; 16384];
-    let mut b = [0u32; 20000];
-    let mut c = [0u32; 16385];
-    let mut d = [0u32; 16384];
     let fd = os::open_read(b"rulebooks");
     if fd < 0 {
         os::fail(b"rulebooks");
         return;
     }
-    replay(fd, &mut buf, &mut a, &mut b, &mut c, &mut d);
+    replay(fd);
     libc::close(fd);
 }
