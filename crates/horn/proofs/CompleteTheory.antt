@@ -4,7 +4,7 @@ use mathlib.Core.Path.{_≡_, sym, subst}
 use mathlib.Core.Bool.{Bool, true, false, true≢false}
 use mathlib.Core.List.{List, [], _∷_, _++_, List·Memᴰ}
 use mathlib.Core.Option.{some}
-use Rattle.horn.specs.Refusals.{Result, ok}
+use Rattle.horn.specs.Refusals.{ok}
 use Rattle.horn.specs.Names.{Name, questioned, first, some-of}
 use Rattle.horn.specs.NestedLists.{Sexp, leaf, list, Sexps, []ₛ, _∷ₛ_, items}
 use Rattle.horn.specs.Tokens.{tokens}

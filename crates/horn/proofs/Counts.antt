@@ -1,16 +1,15 @@
 -- A text has at most as many tokens, and so at most as many forms, as it has bytes.
 use Prim.Native.Nat.{ℕ, zero, suc, _+_, _-_, _≤_}
-use mathlib.Core.Path.{_≡_, refl, ap, sym, _∙_}
-use mathlib.Core.Bool.{Bool, true, false}
-use mathlib.Core.List.{List, [], _∷_, _++_}
+use mathlib.Core.Path.{_≡_, refl, ap, _∙_}
+use mathlib.Core.List.{List, [], _∷_}
 use mathlib.Core.Option.{Option, none, some, Option·map}
 use native.Mathlib.Omega.{arith}
 use lib.Dec.{eqb}
-use lib.ListN.{length, length-append}
+use lib.ListN.{length}
 use Rattle.horn.specs.Utf8.{Range, Sequence, sequence, sequences, Char, char, within, startedBy, resumed, decoded}
 use Rattle.horn.specs.Tokens.{Stream, end, bad, _▹_, before, onto, lines, characters, Kind, blank, opens, closes, comments, ordinary, kind}
 use Rattle.horn.specs.Tokens.{Token, opening, closing, atom, Place, between, inComment, inAtom, Move, begins, continues, move, unended, tokensFrom, tokens}
-use Rattle.horn.specs.NestedLists.{Item, word, group, Items, closed, ended, badLine, _then_, Around, all, _inside_, innermost, outer, add, around, items}
+use Rattle.horn.specs.NestedLists.{word, group, Items, closed, ended, badLine, _then_, Around, all, _inside_, innermost, outer, add, around, items}
 use Rattle.horn.proofs.Post.{either}
 
 -- Characters and bytes.

@@ -2,10 +2,10 @@
 -- 01's limits, by computation.
 use Prim.Native.Nat.{ℕ}
 use mathlib.Core.Path.{_≡_, refl}
-use mathlib.Core.List.{List, [], _∷_}
+use mathlib.Core.List.{List, []}
 use Rattle.horn.specs.Names.{codes}
 use Rattle.horn.specs.Setting.{document01}
-use Rattle.horn.specs.Calls.{Report, report, RulebookReport, rulebookReport, rulebookCall, releaseCall}
+use Rattle.horn.specs.Calls.{Report, report, rulebookReport, rulebookCall, releaseCall}
 use Rattle.horn.proofs.Run.{release, rulebook}
 
 -- The bench set.

@@ -1,8 +1,7 @@
 -- A property of the store that storing a term keeps is kept by all reading of goals and certificate.
-use Prim.Native.Nat.{ℕ, zero, suc, _+_, _≤_}
-use mathlib.Core.Bool.{Bool, true, false}
-use mathlib.Core.List.{List, [], _∷_, _++_}
-use mathlib.Core.Option.{Option, none, some}
+use Prim.Native.Nat.{ℕ, suc, _+_, _≤_}
+use mathlib.Core.List.{List, []}
+use mathlib.Core.Option.{none, some}
 use native.Mathlib.Omega.{arith}
 use lib.ListN.{length, length-append}
 use Rattle.horn.specs.Refusals.{Result, ok, refused}
@@ -11,14 +10,14 @@ use Rattle.horn.specs.Names.{Name, questioned}
 use Rattle.horn.specs.NestedLists.{Item, word, group, Items, closed, ended, badLine, _then_, items}
 use Rattle.horn.specs.Tokens.{tokens}
 use Rattle.horn.specs.Rulebook.{Symbol, Pattern, var, app, Patterns, []ₚ, _∷ₚ_, Rule, Theory}
-use Rattle.horn.specs.StoredTerms.{Term, node, Terms, Store}
-use Rattle.horn.specs.Checker.{Reading, give, lift, Def, Goal, stored, make, atomTerm, term, compound, arguments, askTerm}
+use Rattle.horn.specs.StoredTerms.{Term, Terms, Store}
+use Rattle.horn.specs.Checker.{lift, Def, Goal, stored, make, atomTerm, term, compound, arguments, askTerm}
 use Rattle.horn.specs.Checker.{headedJudgment, askJudgment, goalForm, goalForms, goalsOf}
 use Rattle.horn.specs.Matching.{Step, Bind, build, builds}
 use Rattle.horn.specs.Certificate.{Progress, Given, given, Keyword, stepWord, resultWord, defWord, otherWord, keyword}
 use Rattle.horn.specs.Certificate.{defForm, resultForm, bindingItem, conclusionItem, stepItem, stepItems, conclude, stepForm}
 use Rattle.horn.specs.Certificate.{headedForm, certificateForm, certificateForms, certificateOf}
-use Rattle.horn.proofs.Post.{Post, post-ok, post-refused, post-after, either, Keeps, keeps-bind, keeps-after, keeps-give, keeps-lift, keeps-weaken}
+use Rattle.horn.proofs.Post.{Post, post-ok, post-refused, either, Keeps, keeps-bind, keeps-after, keeps-give, keeps-lift, keeps-weaken}
 use Rattle.horn.proofs.Counts.{itemCount, few-items}
 
 -- A value of which nothing is said.

@@ -1,26 +1,23 @@
 -- 01's limits, its numbers, and its "numbers of terms, symbols and steps fit 16 bits".
-use Prim.Native.Nat.{ℕ, zero, suc, _+_, _≤_, _<_, _^_}
-use mathlib.Core.Path.{_≡_, refl, sym, _∙_}
-use mathlib.Core.Logic.{_≢_}
+use Prim.Native.Nat.{ℕ, _+_, _≤_, _<_, _^_}
+use mathlib.Core.Path.{_≡_, refl}
 use mathlib.Core.Bool.{Bool, true, false, and-eq-true-iff}
-use mathlib.Core.List.{List, [], _∷_, _++_}
-use mathlib.Core.Option.{Option, none, some}
+use mathlib.Core.List.{List, [], _∷_}
 use native.Mathlib.Nat.{le-trans}
 use native.Mathlib.Omega.{arith}
-use lib.Dec.{leb}
 use lib.ListN.{length, length-append}
 use borrow.Author.Tests.{leb-true}
 use Rattle.horn.specs.Refusals
 use Rattle.horn.specs.Refusals.{Refusal, number, Result, ok, refused, need, _>>=_}
 use Rattle.horn.specs.Setting.{Setting, document01}
-use Rattle.horn.specs.NestedLists.{Sexp, Sexps, []ₛ, _∷ₛ_, Items, closed, ended, badLine, _then_, items, sexps}
+use Rattle.horn.specs.NestedLists.{Sexps, []ₛ, _∷ₛ_, Items, closed, ended, badLine, _then_, items, sexps}
 use Rattle.horn.specs.Tokens.{tokens}
 use Rattle.horn.specs.Rulebook.{Symbol, symbol, sort, judgment, Theory, Keyword, sortWord, ctorWord, predWord, ruleWord, otherWord, keyword, count}
 use Rattle.horn.specs.Rulebook.{declareSort, withSymbol, declareConstructor, declarePredicate, declareRule}
 use Rattle.horn.specs.Rulebook.{declare, headed, declaration, declarations, emptyTheory, theory}
 use Rattle.horn.specs.StoredTerms.{Term, Store, withinLimits, intern, holds}
 use Rattle.horn.specs.Checker.{stored}
-use Rattle.horn.specs.Calls.{Report, RulebookReport, constructorCount, predicateCount, rulebookAnswer, releaseAnswer, rulebookJudged, releaseJudged, rulebookCall, releaseCall}
+use Rattle.horn.specs.Calls.{Report, constructorCount, predicateCount, rulebookAnswer, releaseAnswer, rulebookJudged, releaseJudged, rulebookCall, releaseCall}
 use Rattle.horn.proofs.Post.{Post, post-of, post-at, post-ok, post-refused, post-bind, post-after, post-weaken, either, Keeps}
 use Rattle.horn.proofs.Inversion.{afterOne, afterTwo, afterThree}
 use Rattle.horn.proofs.Counts.{itemCount, few-items}

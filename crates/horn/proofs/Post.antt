@@ -1,8 +1,7 @@
 -- What holds of a result if it is no refusal, carried through the ways in which the definition is put together.
 use mathlib.Core.Path.{_≡_, refl, subst}
 use mathlib.Core.Bool.{Bool, true, false}
-use mathlib.Core.Option.{Option, none, some}
-use Rattle.horn.specs.Refusals.{Refusal, Result, ok, refused, need, found, _>>=_}
+use Rattle.horn.specs.Refusals.{Refusal, Result, ok, refused, _>>=_}
 use Rattle.horn.specs.StoredTerms.{Store}
 use Rattle.horn.proofs.Inversion.{ok-equal, not-ok}
 use Rattle.horn.specs.Checker.{Reading, give, lift, _>>=_ as _>>=ₛ_}

@@ -62,7 +62,7 @@ unfolding Certificate.references Certificate.isBound Certificate.isStated Certif
 openCertificate = tt
 
 unfoldable pub openCalls : Unit {0}
-unfolding Calls.constructorCount Calls.predicateCount Calls.areasLong Calls.rulebookJudged Calls.releaseJudged Calls.rulebookAnswer Calls.releaseAnswer Calls.rulebookCall Calls.releaseCall Calls.areaAfter
+unfolding Calls.constructorCount Calls.predicateCount Calls.areasLong Calls.rulebookJudged Calls.releaseJudged Calls.rulebookAnswer Calls.releaseAnswer Calls.rulebookCall Calls.releaseCall Calls.areaAfter Calls.leaving Calls.rulebookLeft Calls.releaseLeft
 openCalls = tt
 
 -- 01's limits, but for those of the store.

@@ -1,5 +1,4 @@
 -- Soundness on the bench set, with its conclusion computed: the hypothesis of the two theorems can be met.
-use Prim.Native.Nat.{ℕ}
 use mathlib.Core.Path.{_≡_, refl, sym, ap, subst, _∙_}
 use mathlib.Core.List.{List, [], _∷_, List·Memᴰ, List·Memᴰ·head}
 use Rattle.horn.specs.Refusals.{ok}

@@ -2,7 +2,7 @@
 use mathlib.Core.Path.{_≡_, sym, subst}
 use mathlib.Core.List.{List, [], List·Memᴰ}
 use Prim.Native.Nat.{ℕ}
-use Rattle.horn.specs.Refusals.{Result, ok}
+use Rattle.horn.specs.Refusals.{ok}
 use Rattle.horn.specs.Names.{Name}
 use Rattle.horn.specs.NestedLists.{Sexp, Sexps, []ₛ, _∷ₛ_}
 use Rattle.horn.specs.Rulebook

@@ -1,10 +1,10 @@
 -- "The texts and the work areas" in document 01: the two calls.
 use Prim.Native.Nat.{ℕ, zero, suc}
-use mathlib.Core.Bool.{Bool, true, false, _&&_, _||_}
+use mathlib.Core.Bool.{true, false, _||_}
 use mathlib.Core.List.{List, [], _∷_, _++_}
 use lib.Dec.{eqb, leb}
 use lib.ListN.{length, drop, replicate}
-use Rattle.horn.specs.Refusals.{Refusal, number, Result, ok, refused, _>>=_, need, areaShort, textLong}
+use Rattle.horn.specs.Refusals.{number, Result, ok, refused, _>>=_, need, areaShort, textLong}
 use Rattle.horn.specs.Setting.{Setting}
 use Rattle.horn.specs.Rulebook.{Symbol, symbol, sort, judgment, Theory, theory}
 use Rattle.horn.specs.Checker.{goalsOf}
@@ -100,3 +100,34 @@ releaseCall limits a b c d rulebook goals certificate =
 unfoldable pub areaAfter : ℕ → ℕ → List ℕ → List ℕ
 areaAfter words answer area =
     elim (eqb answer 1 || eqb answer 2) [ true ↦ area | false ↦ replicate words 0 ++ drop words area ]
+
+-- A call whole: its report, and what the four areas hold afterwards.
+pub record Left (R : Type 0) : Type 0 where
+  pub answer : R
+  pub first : List ℕ
+  pub second : List ℕ
+  pub third : List ℕ
+  pub fourth : List ℕ
+
+-- The four areas after a call that answers a number.
+unfoldable pub leaving : {R : Type 0} → Setting → R → ℕ → List ℕ → List ℕ → List ℕ → List ℕ → Left R
+leaving limits r n a b c d =
+    record {
+      answer = r;
+      first = areaAfter (limits .areaWords) n a;
+      second = areaAfter (limits .areaWords) n b;
+      third = areaAfter (limits .areaWords) n c;
+      fourth = areaAfter (limits .lastAreaWords) n d;
+    }
+
+-- The call with the rulebook alone, from the areas and the text.
+unfoldable pub rulebookLeft : Setting → List ℕ → List ℕ → List ℕ → List ℕ → List ℕ → Left RulebookReport
+rulebookLeft limits a b c d rulebook =
+    let r = rulebookCall limits (length a) (length b) (length c) (length d) rulebook in
+    leaving limits r (r .number) a b c d
+
+-- The call with three texts, from the areas and the texts. Document 01's calls are these two at its limits, `document01`.
+unfoldable pub releaseLeft : Setting → List ℕ → List ℕ → List ℕ → List ℕ → List ℕ → List ℕ → List ℕ → Left Report
+releaseLeft limits a b c d rulebook goals certificate =
+    let r = releaseCall limits (length a) (length b) (length c) (length d) rulebook goals certificate in
+    leaving limits r (r .number) a b c d

@@ -1,5 +1,5 @@
 -- "Goals, steps, results" in document 01, its first part: what is read anywhere in goals and certificate, and the goals.
-use Prim.Native.Nat.{ℕ, zero, suc, _+_, _*_, _-_, _^_}
+use Prim.Native.Nat.{ℕ, suc, _+_, _*_, _-_, _^_}
 use mathlib.Core.Bool.{Bool, true, false, not, _&&_}
 use mathlib.Core.List.{List, [], _∷_, _++_}
 use mathlib.Core.Option.{Option, none, some}
@@ -11,7 +11,7 @@ use Rattle.horn.specs.Setting.{Setting}
 use Rattle.horn.specs.Utf8.{range, within}
 use Rattle.horn.specs.Tokens.{tokens}
 use Rattle.horn.specs.NestedLists.{Item, word, group, Items, closed, ended, badLine, _then_, items, askedAt, absent}
-use Rattle.horn.specs.Names.{Name, named, codes, questioned, bare, first, some-of}
+use Rattle.horn.specs.Names.{Name, named, codes, questioned, first, some-of}
 use Rattle.horn.specs.Rulebook.{Symbol, inputs, output, sameOutput, sort, Theory, constructor, predicate}
 use Rattle.horn.specs.StoredTerms.{Term, node, Terms, []ₜ, _∷ₜ_, Store, intern}
 
@@ -110,7 +110,7 @@ goalJudgment (goal name j) = j
 unfoldable pub isGoal : Name → Goal → Bool
 isGoal name (goal n j) = named name n
 
--- Whether a term has a sort, and whether terms have the sorts of some inputs, one for each.
+-- Whether a term has a sort.
 unfoldable pub hasSort : Name → Term → Bool
 hasSort s (node c ts) = sameOutput (output c) (sort s)
 

@@ -2,12 +2,12 @@
 -- building stands in what is said of terms and instances here.
 use Prim.Native.Nat.{ℕ, _≤_}
 use mathlib.Core.Path.{_≡_}
-use mathlib.Core.List.{List, [], _∷_, _++_, map, List·Memᴰ}
+use mathlib.Core.List.{List, [], _∷_, map, List·Memᴰ}
 use lib.ListN.{length}
 use Rattle.horn.specs.Refusals.{ok}
 use Rattle.horn.specs.Setting.{Setting}
 use Rattle.horn.specs.Names.{Name}
-use Rattle.horn.specs.Rulebook.{Symbol, symbol, sort, judgment, Variable, variable, Pattern, var, app, Patterns, []ₚ, _∷ₚ_}
+use Rattle.horn.specs.Rulebook.{symbol, sort, judgment, variable, Pattern, var, app, Patterns, []ₚ, _∷ₚ_}
 use Rattle.horn.specs.Rulebook.{Rule, Theory, variablesOf, premisesOf, conclusionOf}
 use Rattle.horn.specs.StoredTerms.{Term, node, Terms, []ₜ, _∷ₜ_, Store}
 use Rattle.horn.specs.Checker.{Goal, goalJudgment, goalsOf}
@@ -66,7 +66,7 @@ Each S [] = Unit
 Each S (j ∷ js) = S j × Each S js
 
 -- "A set, finite or not, is closed under the rules if it has the conclusion of every such instance whose premises it
--- has." Its members are well-sorted ground judgments.
+-- has." The sets of demand 3 are sets of well-sorted ground judgments.
 pub record IsClosed {ℓ} (th : Theory) (S : Term → Type ℓ) : Type ℓ where
   pub members : (j : Term) → S j → WellSorted th j
   pub closed : (i : Instance) → IsInstance th i → Each S (premises i) → S (conclusion i)
@@ -75,7 +75,8 @@ pub record IsClosed {ℓ} (th : Theory) (S : Term → Type ℓ) : Type ℓ where
 abbrev pub Forced {ℓ} : Theory → Term → Type (ℓ + 1)
 Forced th j = (S : Term → Type ℓ) → IsClosed th S → S j
 
--- The least closed set, as a type that a contract may name.
+-- The least closed set, as a type that a contract may name. For the theory of a rulebook it is proved to be closed, to lie in
+-- every closed set and to hold all that is forced (proofs/Soundness).
 mutual
   pub data Derivable (th : Theory) : Term → Type 0 where
     derive : {j : Term} (i : Instance) → IsInstance th i → Derivables th (premises i) → j ≡ conclusion i → Derivable th j

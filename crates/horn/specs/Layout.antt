@@ -1,7 +1,6 @@
 -- "Layout for the converse" in document 01: the certificate that is laid out for a list of instances.
 use Prim.Native.Nat.{ℕ, zero, suc, _+_, _≤_, max}
-use mathlib.Core.Path.{_≡_}
-use mathlib.Core.Bool.{Bool, true, false}
+use mathlib.Core.Bool.{true, false}
 use mathlib.Core.List.{List, [], _∷_, _++_, map, reverse, List·Memᴰ}
 use lib.Dec.{eqb}
 use lib.ListN.{length}

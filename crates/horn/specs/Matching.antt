@@ -1,6 +1,6 @@
 -- "Goals, steps, results" in document 01, its second part: matching a rule's patterns, and building its conclusion.
 use Prim.Native.Nat.{ℕ}
-use mathlib.Core.Bool.{Bool, true, false}
+use mathlib.Core.Bool.{true, false}
 use mathlib.Core.List.{List, [], _∷_, _++_}
 use mathlib.Core.Option.{Option, none, some}
 use lib.ListN.{getElem?}
@@ -12,7 +12,7 @@ use Rattle.horn.specs.Rulebook.{sameSymbol, Pattern, var, app, Patterns,
 use Rattle.horn.specs.StoredTerms.{Term, node, Terms, []ₜ, _∷ₜ_, sameTerm}
 use Rattle.horn.specs.Checker.{Reading, _>>=_, give, lift, stored}
 
--- A step: its judgment, and the rule that gave it.
+-- A step: its judgment, and the rule that gave it, which what is proved of a step speaks of.
 pub data Step : Type 0 where
   step : Term → Rule → Step
 
@@ -29,12 +29,13 @@ unfoldable pub lookup : Name → List Bind → Option Term
 lookup name [] = none
 lookup name (bind n t ∷ bs) = elim (named name n) [ true ↦ some t | false ↦ lookup name bs ]
 
--- "Matching goes one level of the pattern at a time: a variable binds first and must be equal later."
+-- "A variable binds first and must be equal later."
 unfoldable pub matchVar : Name → Term → List Bind → Option Term → Option (List Bind)
 matchVar name t binds none = some (binds ++ (bind name t ∷ []))
 matchVar name t binds (some u) = elim (sameTerm t u) [ true ↦ some binds | false ↦ none ]
 
--- A pattern against a term, under the bindings so far.
+-- "Matching goes one level of the pattern at a time": a pattern against a term, under the bindings so far. A pattern and a
+-- term of one head have as many arguments, so that the uneven cases are never met.
 unfoldable mutual
   pub match : Pattern → Term → List Bind → Option (List Bind)
   match (var name) t binds = matchVar name t binds (lookup name binds)

@@ -1,5 +1,5 @@
 -- Names, and tables in order of declaration. "Names are equal when their bytes are."
-use Prim.Native.Nat.{ℕ, zero, suc}
+use Prim.Native.Nat.{ℕ}
 use Prim.Native.Char.{code}
 use Prim.Native.String as Str
 use Prim.Native.String.{String}

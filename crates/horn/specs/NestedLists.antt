@@ -1,6 +1,6 @@
 -- "Nested lists" in document 01.
 use Prim.Native.Nat.{ℕ, suc}
-use mathlib.Core.List.{List, [], _∷_}
+use mathlib.Core.List.{List}
 use lib.Dec.{leb}
 use Rattle.horn.specs.Refusals.{Refusal, nesting, notUtf8, textEnds, strayClosing, Result, ok, refused, _>>=_, need}
 use Rattle.horn.specs.Tokens.{Stream, end, bad, _▹_, Token, opening, closing, atom}
@@ -18,7 +18,8 @@ mutual
 
 infixr 20 _then_
 -- What is left of the list that a reader stands in, then of the list around it, and so on without end: where the text
--- ends, all of them end alike.
+-- ends, all of them end alike. Before the `b` of `((a b) c)` that is: `b` up to the closing, then `c` up to the closing, then
+-- nothing up to the end of the text.
 pub data Around : Type 0 where
   all : Items → Around
   _inside_ : Items → Around → Around

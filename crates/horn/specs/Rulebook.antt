@@ -2,7 +2,7 @@
 use Prim.Native.Nat.{ℕ, zero, suc}
 use mathlib.Core.Bool.{Bool, true, false, not, _&&_}
 use mathlib.Core.List.{List, [], _∷_, _++_}
-use mathlib.Core.Option.{Option, none, some}
+use mathlib.Core.Option.{none, some}
 use lib.Dec.{eqb}
 use lib.ListN.{length}
 use Rattle.horn.specs.Refusals.{Result, ok, refused, _>>=_, need, found}
@@ -79,7 +79,8 @@ pub record Theory : Type 0 where
   pub symbols : List Symbol
   pub rules : List Rule
 
--- "Sorts, constructors, predicates and rules have separate names; names are equal when their bytes are."
+-- Whether a symbol is the constructor of a name. "Sorts, constructors, predicates and rules have separate names": each kind
+-- has a test of its own, and sorts a list of their own.
 unfoldable pub isConstructor : Name → Symbol → Bool
 isConstructor name (symbol n ins (sort s)) = named name n
 isConstructor name (symbol n ins judgment) = false
@@ -146,7 +147,7 @@ unfoldable pub count : Sexps → ℕ
 count []ₛ = zero
 count (x ∷ₛ xs) = suc (count xs)
 
--- "Then, atom or list, output sort and length, 15, before the arguments."
+-- "Output sort and length": whether a symbol gives what its place asks for and has as many inputs as there are arguments.
 unfoldable pub fits : Symbol → Output → ℕ → Bool
 fits (symbol name ins out) expected arguments = sameOutput out expected && eqb (length ins) arguments
 
@@ -163,14 +164,14 @@ schematic name s vs = do
     | some (variable n t) ↦ need (named s t) twoSorts >>= λ _. ok (var name, vs)
   ]
 
--- "An atom is a constructor (12)."
+-- "An atom is a constructor (12)." "Then, atom or list, output sort and length, 15".
 unfoldable pub constant : Theory → Name → Name → List Variable → Read Pattern
 constant th name s vs = do
   c ← constructor th name
   _ ← need (fits c (sort s) zero) sortArity
   ok (app c []ₚ, vs)
 
--- Whether it has none.
+-- Whether a list has no member.
 unfoldable pub isEmpty : Sexps → Bool
 isEmpty []ₛ = true
 isEmpty (x ∷ₛ xs) = false
@@ -181,7 +182,8 @@ unfoldable mutual
   pattern th (leaf name) s vs = elim (questioned name) [ true ↦ schematic name s vs | false ↦ constant th name s vs ]
   pattern th (list xs) s vs = compound th xs s vs
 
-  -- "A list: empty 8, head not an atom 7, length one 16, unknown 12."
+  -- "A list: empty 8, head not an atom 7, length one 16, unknown 12. Then, atom or list, output sort and length, 15, before
+  -- the arguments."
   pub compound : Theory → Sexps → Name → List Variable → Read Pattern
   compound th []ₛ s vs = refused emptyList
   compound th (x ∷ₛ xs) s vs = do

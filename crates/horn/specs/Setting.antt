@@ -1,7 +1,7 @@
 -- "The texts and the work areas" in document 01: the limits, as a parameter of everything below, and 01's own value.
 use Prim.Native.Nat.{ℕ}
 
--- What document 01 limits.
+-- The limits that another setting may change. Depth 256 and numbers below 2 to the 64 are the same in all.
 pub record Setting : Type 0 where
   -- words that each of the first three work areas must have, and that are cleared in it; the same of the fourth
   pub areaWords : ℕ
@@ -15,7 +15,7 @@ pub record Setting : Type 0 where
   pub nodeWords : ℕ
 
 -- "Rulebook and goals have at most 8,192 bytes each, the certificate 32,768. Four work areas of 32-bit words are lent,
--- each of at least 16,384 words." "At most 2,048 nodes and 8,192 words."
+-- each of at least 16,384 words." "At most 2,048 nodes and 8,192 words (1 plus arguments each)."
 unfoldable pub document01 : Setting
 document01 =
     record {

@@ -5,7 +5,7 @@ use mathlib.Core.Bool.{Bool, true, false, _&&_}
 use mathlib.Core.List.{List, [], _∷_, _++_}
 use lib.Dec.{leb}
 use lib.ListN.{length}
-use Rattle.horn.specs.Refusals.{Result, ok, refused, _>>=_, need, storeFull}
+use Rattle.horn.specs.Refusals.{Result, ok, _>>=_, need, storeFull}
 use Rattle.horn.specs.Setting.{Setting}
 use Rattle.horn.specs.Names.{some-of}
 use Rattle.horn.specs.Rulebook.{Symbol, sameSymbol}

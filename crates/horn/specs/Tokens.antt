@@ -2,7 +2,7 @@
 use Prim.Native.Nat.{ℕ}
 use mathlib.Core.Bool.{Bool, true, false, _||_}
 use mathlib.Core.List.{List, [], _∷_, _++_}
-use mathlib.Core.Option.{Option, none, some}
+use mathlib.Core.Option.{none, some}
 use lib.Dec.{eqb}
 use Rattle.horn.specs.Utf8.{Range, range, within, Char, char, decoded}
 
@@ -17,18 +17,18 @@ unfoldable pub before : {A : Type 0} → List A → Stream A → Stream A
 before [] s = s
 before (a ∷ as′) s = a ▹ before as′ s
 
--- "A text is read by lines, each up to and with byte 0A (hexadecimal) or to the end."
+-- A byte put before the first of some lines.
 unfoldable pub onto : ℕ → List (List ℕ) → List (List ℕ)
 onto b [] = (b ∷ []) ∷ []
 onto b (line ∷ rest) = (b ∷ line) ∷ rest
 
--- The lines of a text: byte 0A ends its line and is part of it.
+-- "A text is read by lines, each up to and with byte 0A (hexadecimal) or to the end."
 unfoldable pub lines : List ℕ → List (List ℕ)
 lines [] = []
 lines (b ∷ bs) = elim (eqb b 0x0A) [ true ↦ (b ∷ []) ∷ lines bs | false ↦ onto b (lines bs) ]
 
 -- "A line is tested as UTF-8 when it is first needed; a bad one is refusal 3, after anything refused earlier": the
--- characters of all lines before the first bad one.
+-- characters of all lines before the first bad one. Refusal 3 is given where what stands behind them is asked for.
 unfoldable pub characters : List (List ℕ) → Stream Char
 characters [] = end
 characters (line ∷ rest) = elim (decoded line) [ none ↦ bad | some cs ↦ before cs (characters rest) ]
@@ -57,11 +57,11 @@ inSome (r ∷ rs) value = within r value || inSome rs value
 unfoldable pub white : ℕ → Bool
 white value = inSome whiteRanges value
 
--- The kinds of characters: white space, `(`, `)`, `;` and all others. "FEFF and 0 are atom characters."
+-- The kinds of characters: white space, `(`, `)`, `;` and all others.
 pub data Kind : Type 0 where
   blank opens closes comments ordinary : Kind
 
--- The kind of a character, by its value.
+-- The kind of a character, by its value. "FEFF and 0 are atom characters."
 unfoldable pub kind : ℕ → Kind
 kind value =
     elim (white value) [
@@ -118,7 +118,8 @@ unended between = []
 unended inComment = []
 unended (inAtom atomBytes) = atom atomBytes ∷ []
 
--- The tokens of what is left of a text, from where the reader stands.
+-- The tokens of what is left of a text, from where the reader stands. A bad line never follows an atom directly, since only
+-- 0A, which is white space, ends a line before it.
 unfoldable pub tokensFrom : Place → Stream Char → Stream Token
 tokensFrom place end = before (unended place) end
 tokensFrom place bad = before (unended place) bad

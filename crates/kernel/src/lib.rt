@@ -3,10 +3,7 @@ ghost use mathlib.Core.Path.{_≡_};
 ghost use lib.ListN.{length};
 ghost use Rattle.horn.specs.Setting.{document01};
 ghost use Rattle.horn.specs.Calls.{rulebookCall, areaAfter};
-ghost use Rattle.patterns.specs.Leaving.{_leaving_};
-ghost use Rattle.theory.specs.Declarations.{judged};
-ghost use Rattle.kernel.specs.Rulebook.{parsed, countsAfter, reported, answered};
-use sexp::Walk;
+ghost use Rattle.kernel.specs.Rulebook.{reported, answered};
 use theory::Judged;
 
 // A number, and the counts of what the rulebook declares.
@@ -29,19 +26,6 @@ fn refused(number: u32) -> RulebookReport
         constructors: 0,
         predicates: 0,
         rules: 0,
-    }
-}
-
-// The rulebook read whole, then judged. Only the buckets of its names must be zero before.
-fn parse(text: &[u8], vars: &mut [u32], counts: &mut [u32], heap: &mut [u32]) -> Judged
-    ensures judged { λ r. ⌜ (judged r leaving (now (vars .exit), now (heap .exit))) ≡ parsed (now (text .entry)) (now (counts .entry)) (now (vars .entry)) (now (heap .entry)) ⌝ }
-    ensures counts { λ r. ⌜ now (counts .exit) ≡ countsAfter (now (text .entry)) (now (counts .entry)) ⌝ }
-{
-    words::clear(heap, 1024);
-    let walk = sexp::count_members(text, counts);
-    match walk {
-        Walk::Refused(number) => Judged::Refused(number),
-        Walk::Whole(_) => theory::declarations(text, vars, counts, heap),
     }
 }
 
@@ -89,7 +73,7 @@ pub fn rulebook(
     if 8192 < rulebook.len() {
         return refused(2);
     }
-    let judged = parse(rulebook, &mut b[..16384], &mut c[..16384], &mut d[..16384]);
+    let judged = theory::theory(rulebook, &mut b[..16384], &mut c[..16384], &mut d[..16384]);
     words::clear(a, 16384);
     words::clear(b, 16384);
     words::clear(c, 16384);

@@ -59,7 +59,7 @@ module _ (text : List ℕ) (e q : ℕ) where
   unfolding scannedOn
   scan-bad f h k b = rw (le-leb e q h, lt-leb (length text) q k, b, scannedOn)
 
-  scan-step : (f n : ℕ) → e ≤ q → q < length text → lineEnd (suc (length text)) text q ≡ lines.Good n
+  pub scan-step : (f n : ℕ) → e ≤ q → q < length text → lineEnd (suc (length text)) text q ≡ lines.Good n
       → scannedOn (suc f) text e q ≡ scannedOn f text n (blanks (suc (length text)) text n q)
   unfolding scannedOn
   scan-step f n h k b = rw (le-leb e q h, lt-leb (length text) q k, b, scannedOn)
@@ -78,13 +78,15 @@ module _ (text : List ℕ) (end p k : ℕ) (ek : k ≡ kindAt (first (drop p tex
   unfolding tokenAt
   at-atom q e h = rw (← ek, eq-eqb k 0 e, ← h, tokenAt)
 
-  pub at-opening : k ≡ 2 → token Opening (after (p + 1) end Nothing) ≡ tokenAt text end p
-  unfolding tokenAt
-  at-opening e = rw (← ek, ne-eqb k 0 (λ z. omega arith), ← ek, eq-eqb k 2 e, tokenAt)
+  module _ (n : ℕ) (en : n ≡ width (first (drop p text))) where
+    pub at-opening : k ≡ 2 → token Opening (after (p + n) end Nothing) ≡ tokenAt text end p
+    unfolding tokenAt
+    at-opening e = rw (en, ← ek, ne-eqb k 0 (λ z. omega arith), ← ek, eq-eqb k 2 e, tokenAt)
 
-  pub at-closing : k ≡ 3 → token Closing (after (p + 1) end Nothing) ≡ tokenAt text end p
-  unfolding tokenAt
-  at-closing e = rw (← ek, ne-eqb k 0 (λ z. omega arith), ← ek, ne-eqb k 2 (λ z. omega arith), ← ek, eq-eqb k 3 e, tokenAt)
+    pub at-closing : k ≡ 3 → token Closing (after (p + n) end Nothing) ≡ tokenAt text end p
+    unfolding tokenAt
+    at-closing e =
+        rw (en, ← ek, ne-eqb k 0 (λ z. omega arith), ← ek, ne-eqb k 2 (λ z. omega arith), ← ek, eq-eqb k 3 e, tokenAt)
 
   pub at-none : (k ≡ 0 → ⊥) → (k ≡ 2 → ⊥) → (k ≡ 3 → ⊥) → refused (number notUtf8) ≡ tokenAt text end p
   unfolding tokenAt

@@ -4,3 +4,7 @@ pub mod Whiteness
 pub mod Turns
 pub mod Answering
 pub mod Streams
+pub mod Lines
+pub mod Skipping
+pub mod Standing
+pub mod Positions

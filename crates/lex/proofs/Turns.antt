@@ -68,7 +68,7 @@ module _ (m : ℕ) where
   width-moves broken s d = absurd (d refl)
   width-moves (found n v) s d = s
 
-  width-zero : (f : First) → Sound f m → width f ≡ 0 → f ≡ broken
+  pub width-zero : (f : First) → Sound f m → width f ≡ 0 → f ≡ broken
   unfolding Sound width
   width-zero broken s e = refl
   width-zero (found n v) s e = absurd (omega arith)
@@ -81,7 +81,7 @@ width-kind (found n v) d = refl
 pub rest-of : (text : List ℕ) (p : ℕ) → take (length text - p) (drop p text) ≡ drop p text
 rest-of text p = take-all (length text - p) (drop p text) (simp length-drop (omega arith))
 
-at-drop : (text : List ℕ) (p : ℕ) → getD (drop p text) 0 0 ≡ getD text p 0
+pub at-drop : (text : List ℕ) (p : ℕ) → getD (drop p text) 0 0 ≡ getD text p 0
 at-drop text p = getD-drop p text 0 0 ∙ ap (λ (n : ℕ). getD text n 0) (add-zero p)
 
 -- What `look` answers: past the end, at a character of one byte, and at others.
@@ -135,7 +135,7 @@ module _ (text : List ℕ) (end q k : ℕ) (ek : k ≡ kindAt (first (drop q tex
   comment-stop f e = rw (lt-ltb q end h, ← ek, ne-eqb k 1 (λ z. omega arith), ← ek, eq-eqb k 4 e, blanks)
 
   module _ (n : ℕ) (en : n ≡ width (first (drop q text))) where
-    atom-step : (f : ℕ) → k ≡ 0 → atomEnd (suc f) text end q ≡ atomEnd f text end (q + n)
+    pub atom-step : (f : ℕ) → k ≡ 0 → atomEnd (suc f) text end q ≡ atomEnd f text end (q + n)
     unfolding atomEnd
     atom-step f e = rw (en, lt-ltb q end h, ← ek, e, atomEnd)
 
@@ -146,7 +146,7 @@ module _ (text : List ℕ) (end q k : ℕ) (ek : k ≡ kindAt (first (drop q tex
         let s = kind-steps text q n en k ek (λ z. omega arith) in
         (g, (omega arith, atom-step (suc g) e))
 
-    blank-step : (f : ℕ) → k ≡ 1 → blanks (suc f) text end q ≡ blanks f text end (q + n)
+    pub blank-step : (f : ℕ) → k ≡ 1 → blanks (suc f) text end q ≡ blanks f text end (q + n)
     unfolding blanks
     blank-step f e = rw (en, lt-ltb q end h, ← ek, e, blanks)
 

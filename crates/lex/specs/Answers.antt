@@ -5,7 +5,7 @@ use mathlib.Core.List.{List}
 use lib.Dec.{eqb, ltb, leb}
 use lib.ListN.{length, drop}
 use Rattle.horn.specs.Refusals.{number, notUtf8}
-use Rattle.lex.specs.Characters.{first, kindAt}
+use Rattle.lex.specs.Characters.{first, width, kindAt}
 use Rattle.lex.specs.Scan.{blanks, atomEnd, lineEnd}
 use Rattle.lex.specs.declared.Line.{Line}
 use Rattle.lex.specs.declared.Line.the-variants as lines
@@ -38,9 +38,9 @@ tokenAt text end p =
     elim (eqb (kindAt (first (drop p text))) 0) [
       | true ↦ token (Atom p (atomEnd (suc (length text)) text end p)) (after (atomEnd (suc (length text)) text end p) end Nothing)
       | false ↦ elim (eqb (kindAt (first (drop p text))) 2) [
-        | true ↦ token Opening (after (p + 1) end Nothing)
+        | true ↦ token Opening (after (p + width (first (drop p text))) end Nothing)
         | false ↦ elim (eqb (kindAt (first (drop p text))) 3) [
-          | true ↦ token Closing (after (p + 1) end Nothing)
+          | true ↦ token Closing (after (p + width (first (drop p text))) end Nothing)
           | false ↦ refused (number notUtf8)
         ]
       ]

@@ -101,6 +101,7 @@ pub fn token_at(text: &[u8], end: usize, p: usize) -> Read
 {
     let seen = utf8::look(text, p);
     let kind = seen.kind;
+    let width = seen.width;
     if kind == 0 {
         let q = atom_end(text, end, p);
         return Read::Got(
@@ -116,7 +117,7 @@ pub fn token_at(text: &[u8], end: usize, p: usize) -> Read
         return Read::Got(
             Token::Opening,
             Reader {
-                at: p + 1,
+                at: p + width,
                 end,
                 ahead: Ahead::Nothing,
             },
@@ -126,7 +127,7 @@ pub fn token_at(text: &[u8], end: usize, p: usize) -> Read
         return Read::Got(
             Token::Closing,
             Reader {
-                at: p + 1,
+                at: p + width,
                 end,
                 ahead: Ahead::Nothing,
             },

@@ -7,16 +7,17 @@ use native.Mathlib.Omega.{arith}
 use lib.ListN.{length, take}
 use Rattle.horn.specs.Refusals.{Refusal, number, Result, ok, _>>=_}
 use Rattle.horn.specs.Refusals as refusals
-use Rattle.horn.specs.Tokens.{Stream, Token, tokens}
+use Rattle.horn.specs.Tokens.{tokens}
 use Rattle.horn.specs.NestedLists.{items, sexps, Sexps}
 use Rattle.horn.proofs.Counts.{streamLength, few-tokens}
 use Rattle.lex.specs.Answers as lexed
-use Rattle.lex.specs.declared.Reader.{Reader}
+use Rattle.lex.proofs.Standing.{Stands, start-stands}
 use Rattle.sexp.specs.Flattening.{flattened, counts}
-use Rattle.sexp.specs.Walk.{whole, refused, place, Left, walk, walked}
+use Rattle.sexp.specs.Walk.{whole, refused, place, Left, walked}
 use Rattle.sexp.proofs.Counting.{counting-sexps}
 use Rattle.sexp.proofs.Held.{start-held}
-use Rattle.sexp.proofs.Simulation.{Agrees, agrees-refused, agrees-whole, Reads, simulates}
+use Rattle.sexp.proofs.Simulation.{Agrees, agrees-refused, agrees-whole, simulates}
+use Rattle.sexp.proofs.Reading.{reads}
 use Rattle.sexp.proofs.Whole.{whole-tokens}
 
 -- What a walk leaves where the definition reads so.
@@ -30,26 +31,26 @@ unfolding _>>=_
 meets-of (ok xs) (agrees-whole cs e f) = meets-whole xs e f
 meets-of (refusals.refused r) (agrees-refused s e) = meets-refused r e
 
-module _ (text : List ℕ) (Stands : Reader → Stream Token → Type 0) (reads : Reads text Stands) (starts : Stands lexed.start (tokens text)) where
-  pub meets-by : (area : List ℕ) → length text ≤ 8_192 → 16_384 ≤ length area → Meets (walked text area) (sexps (items (tokens text)))
-  unfolding walked
-  meets-by area short long =
-      let t = few-tokens text in
-      meets-of (sexps (items (tokens text)))
-      (subst
-      (λ (m : Result (List ℕ)). Agrees (walked text area) m)
-      (counting-sexps (tokens text))
-      (simulates text Stands reads _ (tokens text) lexed.start (place 0 0) area [] [] starts (omega arith)
-      (start-held (streamLength (tokens text)) area (omega arith) long)))
+-- The law.
+pub walk-meets : (text area : List ℕ) → length text ≤ 8_192 → 16_384 ≤ length area → Meets (walked text area) (sexps (items (tokens text)))
+unfolding walked
+walk-meets text area short long =
+    let t = few-tokens text in
+    meets-of (sexps (items (tokens text)))
+    (subst
+    (λ (m : Result (List ℕ)). Agrees (walked text area) m)
+    (counting-sexps (tokens text))
+    (simulates text (Stands text) (reads text) _ (tokens text) lexed.start (place 0 0) area [] [] (start-stands text) (omega arith)
+    (start-held (streamLength (tokens text)) area (omega arith) long)))
 
-  -- The two cases of a walk, each with what the definition says.
-  pub cases-by {ℓ} : {C : Type ℓ} (area : List ℕ) → length text ≤ 8_192 → 16_384 ≤ length area
-      → ((r : Refusal) → sexps (items (tokens text)) ≡ refusals.refused r → (walked text area) .answer ≡ refused (number r) → C)
-      → ((xs : Sexps) → sexps (items (tokens text)) ≡ ok xs → tokens text ≡ flattened xs → (walked text area) .answer ≡ whole (length (counts xs))
-      → take (length (counts xs)) ((walked text area) .area) ≡ counts xs → C)
-      → C
-  cases-by {C} area short long refuses reads-whole = by (sexps (items (tokens text))) refl (meets-by area short long)
-    where
-      by : (m : Result Sexps) → sexps (items (tokens text)) ≡ m → Meets (walked text area) m → C
-      by (refusals.refused r) e (meets-refused s f) = refuses r e f
-      by (ok xs) e (meets-whole ys f g) = reads-whole xs e (whole-tokens (tokens text) xs e) f g
+-- The two cases of a walk, each with what the definition says.
+pub walk-cases {ℓ} : {C : Type ℓ} (text area : List ℕ) → length text ≤ 8_192 → 16_384 ≤ length area
+    → ((r : Refusal) → sexps (items (tokens text)) ≡ refusals.refused r → (walked text area) .answer ≡ refused (number r) → C)
+    → ((xs : Sexps) → sexps (items (tokens text)) ≡ ok xs → tokens text ≡ flattened xs → (walked text area) .answer ≡ whole (length (counts xs))
+    → take (length (counts xs)) ((walked text area) .area) ≡ counts xs → C)
+    → C
+walk-cases {C} text area short long refuses reads-whole = by (sexps (items (tokens text))) refl (walk-meets text area short long)
+  where
+    by : (m : Result Sexps) → sexps (items (tokens text)) ≡ m → Meets (walked text area) m → C
+    by (refusals.refused r) e (meets-refused s f) = refuses r e f
+    by (ok xs) e (meets-whole ys f g) = reads-whole xs e (whole-tokens (tokens text) xs e) f g

@@ -1,3 +1,4 @@
 pub mod Symbols
 pub mod Rules
 pub mod Declarations
+pub mod Walks

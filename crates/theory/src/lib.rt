@@ -9,6 +9,7 @@ ghost use Rattle.theory.specs.Symbols.{symbolEntered, constructorDeclare
 ghost use Rattle.theory.specs.Rules.{kept, passed, skipped, nameKept, begun, bodyRead, variablesStored, ruleEntered, ruleDeclared};
 ghost use Rattle.theory.specs.Declarations.{declaredAs, next, judged, formOf, declaredBy, declaration, counted, moreDue};
 ghost use Rattle.theory.specs.Declarations.{startWalk, noCounts, declarations};
+ghost use Rattle.theory.specs.Walks.{theory};
 ghost use lib.ListN.{length};
 use lex::Read;
 use lex::Reader;
@@ -582,4 +583,18 @@ pub fn declarations(text: &[u8], vars: &mut [u32], counts: &[u32], heap: &mut [u
         fuel -= 1;
     }
     Judged::Refused(4)
+}
+
+// Both walks over a rulebook: the member counts are left in `counts`, the theory in `heap`, whose buckets are cleared first.
+pub fn theory(text: &[u8], vars: &mut [u32], counts: &mut [u32], heap: &mut [u32]) -> Judged
+    ensures { λ r. ⌜ (judged r leaving (now (vars .exit), now (counts .exit), now (heap .exit))) ≡ theory (now (text .entry)) (now (vars .entry)) (now (counts .entry)) (now (heap .entry)) ⌝ }
+{
+    let first = sexp::count_members(text, counts);
+    match first {
+        sexp::Walk::Refused(n) => Judged::Refused(n),
+        sexp::Walk::Whole(_) => {
+            words::clear(heap, 1024);
+            declarations(text, vars, counts, heap)
+        }
+    }
 }

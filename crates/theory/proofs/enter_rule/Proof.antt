@@ -1,0 +1,73 @@
+use Rattle.theory.specs.Rules.{ruleEntered}
+use borrow.Author.Needs.{needs}
+use Rattle.theory.proofs.enter_rule.Statement.{statement}
+use Rattle.theory.proofs.enter_rule.Tie as tie
+use Rattle.theory.proofs.enter_rule.Reads as reads
+use Rattle.theory.proofs.enter_rule.Lts as lts
+use Rattle.patterns.proofs.close.Reads as close-reads
+use Rattle.patterns.proofs.walked_refusal.Reads as walked-refusal-reads
+use Rattle.theory.proofs.describe.Reads as describe-reads
+use Rattle.theory.proofs.enter.Reads as enter-reads
+use Rattle.theory.proofs.store_variables.Reads as store-variables-reads
+
+-- src/lib.rt:390:9
+enter-requires : tie.Need-enter-requires
+enter-requires c κs = search needs
+
+-- src/lib.rt:391:20
+enum-known-m : tie.Need-enum-known-m
+enum-known-m c = search needs
+
+-- src/lib.rt:392:32
+enum-told : tie.Need-enum-told
+enum-told c = search needs
+
+-- src/lib.rt:392:32
+walked-refusal-requires : tie.Need-walked-refusal-requires
+walked-refusal-requires c κs = search needs
+
+-- src/lib.rt:392:9
+same-length : tie.Need-same-length
+same-length c = search needs
+
+-- src/lib.rt:392:9
+returns : tie.Need-returns
+unfolding ruleEntered
+returns c = rw (c .walked-refusal .ensures, ← c .before .before .before .before .before .enter .ensures, c .before .enum-told .given .1)
+
+-- src/lib.rt:394:5
+describe-requires : tie.Need-describe-requires
+describe-requires c κs = search needs
+
+-- src/lib.rt:395:9
+store-variables-requires : tie.Need-store-variables-requires
+store-variables-requires c κs = search needs
+
+-- src/lib.rt:396:5
+close-requires : tie.Need-close-requires
+close-requires c κs = search needs
+
+-- src/lib.rt:378:1
+same-length-2 : tie.Need-same-length-2
+same-length-2 c = search needs
+
+-- src/lib.rt:378:1
+returns-2 : tie.Need-returns-2
+unfolding ruleEntered
+returns-2 c = rw (← c .before .before .before .before .before .before .before .before .before .before .before .before .before .before .enter .ensures, c .before .before .before .before .before .before .before .before .before .before .m .given .1, ← c .before .before .before .before .before .before .before .describe .ensures, ← c .before .before .before .store-variables .ensures, ← c .close .ensures)
+
+pub enter-rule-spec : {M : Type 1} → statement M
+enter-rule-spec =
+    tie.close
+    (tie.spec
+    enter-requires
+    enum-known-m
+    enum-told
+    walked-refusal-requires
+    same-length
+    returns
+    describe-requires
+    store-variables-requires
+    close-requires
+    same-length-2
+    returns-2)
