@@ -1,13 +1,19 @@
 -- What the call with the rulebook alone answers, in the definition's words.
 use Rattle.horn.specs.Calls as calls
-use Rattle.theory.specs.declared.Judged.{Judged}
-use Rattle.theory.specs.declared.Judged.the-variants.{Accepted, Refused}
+use Rattle.patterns.specs.Outcomes.{Outcome, ok, refused}
+use Rattle.patterns.specs.Leaving.{Did, _leaving_}
+use Rattle.theory.specs.Walks.{AllAreas}
+use Rattle.theory.specs.declared.Counts.{Counts}
 use Rattle.kernel.specs.declared.RulebookReport.{RulebookReport}
 
 -- What each case of the walks' answer says: a refusal's number with zero counts, or 0 with the counts.
-abbrev pub reported : Judged → RulebookReport
-reported (Refused n) = record { number = n; sorts = 0; constructors = 0; predicates = 0; rules = 0 }
-reported (Accepted c) = record { number = 0; sorts = c .sorts; constructors = c .constructors; predicates = c .predicates; rules = c .rules }
+abbrev pub reported : Outcome Counts → RulebookReport
+reported (refused n) = record { number = n; sorts = 0; constructors = 0; predicates = 0; rules = 0 }
+reported (ok c) = record { number = 0; sorts = c .sorts; constructors = c .constructors; predicates = c .predicates; rules = c .rules }
+
+-- The same, whatever the walks leave.
+abbrev pub reportedBy : Did AllAreas Counts → RulebookReport
+reportedBy (o leaving areas) = reported o
 
 -- A report as the definition has it.
 abbrev pub answered : RulebookReport → calls.RulebookReport

@@ -1,9 +1,11 @@
 // The public calls: lengths, the walks, and the areas cleared behind them.
 ghost use mathlib.Core.Path.{_≡_};
-ghost use lib.ListN.{length};
+ghost use lib.ListN.{length, replicate};
 ghost use Rattle.horn.specs.Setting.{document01};
 ghost use Rattle.horn.specs.Calls.{rulebookCall, areaAfter};
-ghost use Rattle.kernel.specs.Rulebook.{reported, answered};
+ghost use Rattle.theory.specs.Declarations.{judged as outcome};
+ghost use Rattle.theory.specs.Walks.{theory};
+ghost use Rattle.kernel.specs.Rulebook.{reported, reportedBy, answered};
 use theory::Judged;
 
 // A number, and the counts of what the rulebook declares.
@@ -30,7 +32,7 @@ fn refused(number: u32) -> RulebookReport
 }
 
 fn report(judged: Judged) -> RulebookReport
-    ensures { λ r. ⌜ r ≡ reported judged ⌝ }
+    ensures { λ r. ⌜ r ≡ reported (outcome judged) ⌝ }
 {
     match judged {
         Judged::Refused(number) => refused(number),
@@ -42,6 +44,36 @@ fn report(judged: Judged) -> RulebookReport
             rules: c.rules,
         },
     }
+}
+
+// Sets all words to 0.
+fn clear(s: &mut [u32])
+    ensures { λ r. ⌜ now (s .exit) ≡ replicate (length (now (s .entry))) 0 ⌝ }
+{
+    let n = s.len();
+    words::clear(s, n);
+}
+
+// Both walks over a rulebook, then the areas cleared behind them.
+fn judge(
+    text: &[u8],
+    a: &mut [u32],
+    b: &mut [u32],
+    c: &mut [u32],
+    d: &mut [u32],
+) -> RulebookReport
+    ensures report { λ r. ⌜ r ≡ reportedBy (theory (now (text .entry)) (now (b .entry)) (now (c .entry)) (now (d .entry))) ⌝ }
+    ensures first { λ r. ⌜ now (a .exit) ≡ replicate (length (now (a .entry))) 0 ⌝ }
+    ensures second { λ r. ⌜ now (b .exit) ≡ replicate (length (now (b .entry))) 0 ⌝ }
+    ensures third { λ r. ⌜ now (c .exit) ≡ replicate (length (now (c .entry))) 0 ⌝ }
+    ensures fourth { λ r. ⌜ now (d .exit) ≡ replicate (length (now (d .entry))) 0 ⌝ }
+{
+    let judged = theory::theory(text, b, c, d);
+    clear(a);
+    clear(b);
+    clear(c);
+    clear(d);
+    report(judged)
 }
 
 // "One call takes the rulebook alone and answers a number and the counts of sorts, constructors, predicates and rules."
@@ -73,12 +105,13 @@ pub fn rulebook(
     if 8192 < rulebook.len() {
         return refused(2);
     }
-    let judged = theory::theory(rulebook, &mut b[..16384], &mut c[..16384], &mut d[..16384]);
-    words::clear(a, 16384);
-    words::clear(b, 16384);
-    words::clear(c, 16384);
-    words::clear(d, 16384);
-    report(judged)
+    judge(
+        rulebook,
+        &mut a[..16384],
+        &mut b[..16384],
+        &mut c[..16384],
+        &mut d[..16384],
+    )
 }
 
 // The same for C and Rust.

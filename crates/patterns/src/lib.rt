@@ -8,19 +8,17 @@
 // symbol's address, whose arguments follow, or 16,384 and a variable's number. While a rule is read its variables stand in an area of
 // their own, three words each.
 ghost use mathlib.Core.Path.{_≡_};
-ghost use Prim.Native.Nat.{_-_, _%_};
-ghost use lib.Dec.{eqb};
+ghost use Prim.Native.Nat.{_%_};
 ghost use Rattle.names.specs.Chains.{answered};
 ghost use Rattle.patterns.specs.Outcomes.{ok, refusal};
 ghost use Rattle.patterns.specs.Leaving.{_leaving_};
-ghost use Rattle.patterns.specs.Items.{met, named, numbered, walked, sum32, pushed, itemDue, atomDue, listDue, closingDue};
-ghost use Rattle.patterns.specs.Items.{question, declaredName, headDue};
+ghost use Rattle.patterns.specs.Items.{named, numbered, walked, sum32, pushed};
 ghost use Rattle.patterns.specs.Patterns.{position, introduced, metAgain, schematic, applied, constant, leaf, compoundHead};
 ghost use Rattle.patterns.specs.Patterns.{pattern, arguments, judgment, judgments};
-use lex::Read;
 use lex::Reader;
-use lex::Token;
 use names::Found;
+
+pub mod items;
 
 // Where the walk stands: the reader, how many lists were opened, the first free word of the theory, and how many variables the rule has.
 pub struct Walk {
@@ -110,126 +108,6 @@ pub fn push(heap: &mut [u32], word: u32, w: Walk) -> Walk
     }
 }
 
-// The next item. Its member count is the next that the first walk left.
-pub fn next_item(text: &[u8], counts: &[u32], w: Walk) -> Item
-    ensures { λ r. ⌜ met r ≡ itemDue (now (text .entry)) (now (counts .entry)) w ⌝ }
-{
-    let reader = w.reader;
-    let opened = w.opened;
-    let read = reader.token(text);
-    match read {
-        Read::End => Item::Refused(5),
-        Read::Bad => Item::Refused(3),
-        Read::Got(token, next) => match token {
-            Token::Closing => Item::Refused(6),
-            Token::Atom(s, t) => Item::Atom(
-                s,
-                t,
-                Walk {
-                    reader: next,
-                    opened,
-                    top: w.top,
-                    variables: w.variables,
-                },
-            ),
-            Token::Opening => {
-                let members = words::at(counts, opened as usize);
-                Item::List(
-                    members,
-                    Walk {
-                        reader: next,
-                        opened: plus(opened, 1),
-                        top: w.top,
-                        variables: w.variables,
-                    },
-                )
-            }
-        },
-    }
-}
-
-pub fn next_atom(text: &[u8], counts: &[u32], w: Walk) -> Named
-    ensures { λ r. ⌜ named r ≡ atomDue (now (text .entry)) (now (counts .entry)) w ⌝ }
-{
-    let i = next_item(text, counts, w);
-    match i {
-        Item::Atom(s, t, q) => Named::Atom(s, t, q),
-        Item::List(_, _) => Named::Refused(7),
-        Item::Refused(n) => Named::Refused(n),
-    }
-}
-
-pub fn next_list(text: &[u8], counts: &[u32], w: Walk) -> Numbered
-    ensures { λ r. ⌜ numbered r ≡ listDue (now (text .entry)) (now (counts .entry)) w ⌝ }
-{
-    let i = next_item(text, counts, w);
-    match i {
-        Item::Atom(_, _, _) => Numbered::Refused(7),
-        Item::List(n, q) => Numbered::Got(n, q),
-        Item::Refused(n) => Numbered::Refused(n),
-    }
-}
-
-pub fn close(text: &[u8], w: Walk) -> Walked
-    ensures { λ r. ⌜ walked r ≡ closingDue (now (text .entry)) w ⌝ }
-{
-    let reader = w.reader;
-    let read = reader.token(text);
-    match read {
-        Read::End => Walked::Refused(5),
-        Read::Bad => Walked::Refused(3),
-        Read::Got(token, next) => match token {
-            Token::Opening => Walked::Refused(10),
-            Token::Atom(_, _) => Walked::Refused(10),
-            Token::Closing => Walked::To(Walk {
-                reader: next,
-                opened: w.opened,
-                top: w.top,
-                variables: w.variables,
-            }),
-        },
-    }
-}
-
-// Whether an atom that starts here has a leading `?`.
-pub fn is_question(text: &[u8], s: usize) -> bool
-    ensures { λ r. ⌜ r ≡ question (now (text .entry)) s ⌝ }
-{
-    words::byte(text, s) == 0x3F
-}
-
-pub fn declared_name(text: &[u8], counts: &[u32], w: Walk) -> Named
-    ensures { λ r. ⌜ named r ≡ declaredName (now (text .entry)) (now (counts .entry)) w ⌝ }
-{
-    let a = next_atom(text, counts, w);
-    let Named::Atom(s, t, q) = a else {
-        return Named::Refused(named_refusal(a));
-    };
-    if is_question(text, s) {
-        return Named::Refused(11);
-    }
-    Named::Atom(s, t, q)
-}
-
-pub fn head(text: &[u8], counts: &[u32], members: u32, w: Walk) -> Named
-    ensures { λ r. ⌜ named r ≡ headDue (now (text .entry)) (now (counts .entry)) members w ⌝ }
-{
-    if members == 0 {
-        return Named::Refused(8);
-    }
-    next_atom(text, counts, w)
-}
-
-// Whether an atom has one byte.
-pub fn is_bare(s: usize, t: usize) -> bool
-    ensures { λ r. ⌜ r ≡ eqb (t - s) 1 ⌝ }
-{
-    if t <= s {
-        return false;
-    }
-    t - s == 1
-}
-
 // The variable of the rule that has this name, in order of their first places, as the Rust looks for it.
 pub fn find_variable(text: &[u8], vars: &[u32], variables: u32, s: usize, t: usize) -> Found
     ensures { λ r. ⌜ answered r ≡ position (now (text .entry)) (now (vars .entry)) variables s t ⌝ }
@@ -286,7 +164,7 @@ pub fn schematic(
 ) -> Walked
     ensures { λ r. ⌜ (walked r leaving (now (vars .exit), now (heap .exit))) ≡ schematic (now (text .entry)) s t sort w (now (vars .entry)) (now (heap .entry)) ⌝ }
 {
-    if is_bare(s, t) {
+    if items::is_bare(s, t) {
         return Walked::Refused(11);
     }
     let found = find_variable(text, vars, w.variables, s, t);
@@ -346,7 +224,7 @@ pub fn leaf(
 ) -> Walked
     ensures { λ r. ⌜ (walked r leaving (now (vars .exit), now (heap .exit))) ≡ leaf (now (text .entry)) s t sort w (now (vars .entry)) (now (heap .entry)) ⌝ }
 {
-    if is_question(text, s) {
+    if items::is_question(text, s) {
         return schematic(text, vars, heap, s, t, sort, w);
     }
     constant(text, heap, s, t, sort, w)
@@ -363,7 +241,7 @@ pub fn compound_head(
 ) -> Numbered
     ensures { λ r. ⌜ (numbered r leaving now (heap .exit)) ≡ compoundHead (now (text .entry)) (now (counts .entry)) sort members w (now (heap .entry)) ⌝ }
 {
-    let h = head(text, counts, members, w);
+    let h = items::head(text, counts, members, w);
     let Named::Atom(s, t, q) = h else {
         return Numbered::Refused(named_refusal(h));
     };
@@ -388,7 +266,7 @@ pub fn pattern(
     if left == 0 {
         return Walked::Refused(4);
     }
-    let i = next_item(text, counts, w);
+    let i = items::next_item(text, counts, w);
     match i {
         Item::Refused(n) => Walked::Refused(n),
         Item::Atom(s, t, q) => leaf(text, vars, heap, s, t, sort, q),
@@ -426,17 +304,17 @@ pub fn arguments(
         v = q;
         k += 1;
     }
-    close(text, v)
+    items::close(text, v)
 }
 
 pub fn judgment(text: &[u8], counts: &[u32], vars: &mut [u32], heap: &mut [u32], w: Walk) -> Walked
     ensures { λ r. ⌜ (walked r leaving (now (vars .exit), now (heap .exit))) ≡ judgment (now (text .entry)) (now (counts .entry)) w (now (vars .entry)) (now (heap .entry)) ⌝ }
 {
-    let l = next_list(text, counts, w);
+    let l = items::next_list(text, counts, w);
     let Numbered::Got(members, q) = l else {
         return Walked::Refused(numbered_refusal(l));
     };
-    let h = head(text, counts, members, q);
+    let h = items::head(text, counts, members, q);
     let Named::Atom(s, t, p) = h else {
         return Walked::Refused(named_refusal(h));
     };
@@ -468,5 +346,5 @@ pub fn judgments(
         v = q;
         left -= 1;
     }
-    close(text, v)
+    items::close(text, v)
 }

@@ -5,23 +5,23 @@ use Rattle.kernel.proofs.report.Reads as reads
 use Rattle.kernel.proofs.report.Lts as lts
 use Rattle.kernel.proofs.refused.Reads as refused-reads
 
--- src/lib.rt:36:25
+-- src/lib.rt:38:25
 enum-known-judged : tie.Need-enum-known-judged
 enum-known-judged c = search needs
 
--- src/lib.rt:36:36
+-- src/lib.rt:38:36
 refused-requires : tie.Need-refused-requires
 refused-requires c κs = search needs
 
--- src/lib.rt:37:26
+-- src/lib.rt:39:26
 enum-known-judged-2 : tie.Need-enum-known-judged-2
 enum-known-judged-2 c = search needs
 
--- src/lib.rt:32:1
+-- src/lib.rt:34:1
 returns : tie.Need-returns
 returns c = search needs
 
--- src/lib.rt:32:1
+-- src/lib.rt:34:1
 returns-2 : tie.Need-returns-2
 returns-2 c = search needs
 

@@ -1,25 +1,26 @@
+-- `patterns::arguments` and `patterns::pattern`, which call each other, meet their contracts. Assumes nothing.
 use native.Mathlib.Omega.{arith}
 use borrow.Author.Needs.{needs}
 use Prim.Native.Nat.{ℕ, _<_, _≤_, _-_, _+_, _*_}
 use lib.ListN.{length}
-use mathlib.Core.Path.{_≡_, refl, sym, _∙_, ap}
-use Rattle.patterns.specs.Patterns as models
-use Rattle.patterns.specs.Patterns.{argumentsFrom}
-use Rattle.patterns.proofs.Turns.{arguments-first, arguments-on, argument-refused, arguments-end, pattern-within}
+use mathlib.Core.Path.{_≡_, sym, _∙_}
 use borrow.Fn.Kinds.{In}
 use borrow.Fn.PlainCycle.{Measures, is, falls, and}
+use Rattle.patterns.specs.Patterns as models
+use Rattle.patterns.specs.Patterns.{argumentsFrom}
+use Rattle.words.proofs.at.Reads as at-reads
+use Rattle.patterns.proofs.Turns.{arguments-first, arguments-on, argument-refused, arguments-end, pattern-within}
 use Rattle.patterns.proofs.arguments.Reads as arguments
 use Rattle.patterns.proofs.arguments.Kinds as arguments-kinds
 use Rattle.patterns.proofs.+arguments+pattern.Lts-arguments as arguments-lts
 use Rattle.patterns.proofs.pattern.Reads as pattern
 use Rattle.patterns.proofs.pattern.Kinds as pattern-kinds
 use Rattle.patterns.proofs.+arguments+pattern.Lts-pattern as pattern-lts
-use Rattle.patterns.proofs.close.Reads as close-reads
+use Rattle.patterns.proofs.items.close.Reads as close-reads
 use Rattle.patterns.proofs.compound_head.Reads as compound-head-reads
 use Rattle.patterns.proofs.leaf.Reads as leaf-reads
-use Rattle.patterns.proofs.next_item.Reads as next-item-reads
+use Rattle.patterns.proofs.items.next_item.Reads as next-item-reads
 use Rattle.patterns.proofs.walked_refusal.Reads as walked-refusal-reads
-use Rattle.words.proofs.at.Reads as at-reads
 use Rattle.patterns.proofs.+arguments+pattern.{statement}
 use Rattle.patterns.proofs.+arguments+pattern.Tie.{close}
 
@@ -56,170 +57,129 @@ arguments-Inv-loop text counts vars₀ heap₀ c left inputs v₀ k₀ vars heap
 abbrev arguments-μ-loop : arguments-lts.MeasureT-loop
 arguments-μ-loop text counts vars₀ heap₀ c left inputs v₀ k₀ vars heap v k = inputs - k
 
--- src/lib.rt:409:34
 arguments-add-at : (t : ℕ) → arguments-lts.Need-add-at (arguments-calls t) (arguments-at t) arguments.Post arguments-Inv-loop arguments-μ-loop
 arguments-add-at t c = search needs
 
--- src/lib.rt:409:9
 arguments-at-requires : (t : ℕ) → arguments-lts.Need-at-requires (arguments-calls t) (arguments-at t) arguments.Post arguments-Inv-loop arguments-μ-loop
 arguments-at-requires t c κs = search needs
 
--- src/lib.rt:412:5
 arguments-loop-holds : (t : ℕ) → arguments-lts.Need-loop-holds (arguments-calls t) (arguments-at t) arguments.Post arguments-Inv-loop arguments-μ-loop
 arguments-loop-holds t c = (search needs, arguments-first _ _ _ _ _ _ _, search needs, search needs)
 
--- src/lib.rt:413:36
 arguments-add-at-2 : (t : ℕ) → arguments-lts.Need-add-at-2 (arguments-calls t) (arguments-at t) arguments.Post arguments-Inv-loop arguments-μ-loop
 arguments-add-at-2 t c = search needs
 
--- src/lib.rt:413:53
 arguments-cast-at : (t : ℕ) → arguments-lts.Need-cast-at (arguments-calls t) (arguments-at t) arguments.Post arguments-Inv-loop arguments-μ-loop
 arguments-cast-at t c = search needs
 
--- src/lib.rt:413:36
 arguments-add-at-3 : (t : ℕ) → arguments-lts.Need-add-at-3 (arguments-calls t) (arguments-at t) arguments.Post arguments-Inv-loop arguments-μ-loop
 arguments-add-at-3 t c = search needs
 
--- src/lib.rt:413:13
 arguments-at-requires-2 : (t : ℕ) → arguments-lts.Need-at-requires-2 (arguments-calls t) (arguments-at t) arguments.Post arguments-Inv-loop arguments-μ-loop
 arguments-at-requires-2 t c κs = search needs
 
--- src/lib.rt:414:13
 arguments-pattern-requires : (t : ℕ) → arguments-lts.Need-pattern-requires (arguments-calls t) (arguments-at t) arguments.Post arguments-Inv-loop arguments-μ-loop
 arguments-pattern-requires t c κs = search needs
 
--- src/lib.rt:415:24
 arguments-enum-known-p : (t : ℕ) → arguments-lts.Need-enum-known-p (arguments-calls t) (arguments-at t) arguments.Post arguments-Inv-loop arguments-μ-loop
 arguments-enum-known-p t c = search needs
 
--- src/lib.rt:416:36
 arguments-enum-told : (t : ℕ) → arguments-lts.Need-enum-told (arguments-calls t) (arguments-at t) arguments.Post arguments-Inv-loop arguments-μ-loop
 arguments-enum-told t c = search needs
 
--- src/lib.rt:416:36
 arguments-walked-refusal-requires : (t : ℕ) → arguments-lts.Need-walked-refusal-requires (arguments-calls t) (arguments-at t) arguments.Post arguments-Inv-loop arguments-μ-loop
 arguments-walked-refusal-requires t c κs = search needs
 
--- src/lib.rt:416:13
 arguments-same-length : (t : ℕ) → arguments-lts.Need-same-length (arguments-calls t) (arguments-at t) arguments.Post arguments-Inv-loop arguments-μ-loop
 arguments-same-length t c = search needs
 
--- src/lib.rt:416:13
 arguments-same-length-2 : (t : ℕ) → arguments-lts.Need-same-length-2 (arguments-calls t) (arguments-at t) arguments.Post arguments-Inv-loop arguments-μ-loop
 arguments-same-length-2 t c = search needs
 
--- src/lib.rt:416:13
 arguments-returns : (t : ℕ) → arguments-lts.Need-returns (arguments-calls t) (arguments-at t) arguments.Post arguments-Inv-loop arguments-μ-loop
 unfolding models.arguments
 arguments-returns t c = rw (← c .before .before .before .before .before .before .before .before .before .before .before .before .before .before .at .ensures) (sym (c .before .before .before .before .before .before .before .before .before .before .before .before .before .loop .inv .1 ∙ argument-refused _ _ _ _ _ _ _ _ (c .before .before .before .before .before .before .before .before .before .before .before .before .loop-test .taken) (rw (c .walked-refusal .ensures, ← c .before .before .before .before .before .before .before .before .before .before .at2 .ensures, ← c .before .before .before .before .before .before .before .pattern .ensures, c .before .enum-told .given .1))))
 
--- src/lib.rt:419:9
 arguments-add-k : (t : ℕ) → arguments-lts.Need-add-k (arguments-calls t) (arguments-at t) arguments.Post arguments-Inv-loop arguments-μ-loop
 arguments-add-k t c = search needs
 
--- src/lib.rt:412:5
 arguments-loop-less : (t : ℕ) → arguments-lts.Need-loop-less (arguments-calls t) (arguments-at t) arguments.Post arguments-Inv-loop arguments-μ-loop
 arguments-loop-less t c = search needs
 
--- src/lib.rt:412:5
 arguments-loop-again : (t : ℕ) → arguments-lts.Need-loop-again (arguments-calls t) (arguments-at t) arguments.Post arguments-Inv-loop arguments-μ-loop
 arguments-loop-again t c = (search needs, c .before .before .before .before .before .before .before .before .before .before .before .before .before .loop .inv .1 ∙ arguments-on _ _ _ _ _ _ _ _ (c .before .before .before .before .before .before .before .before .before .before .before .before .loop-test .taken) (rw (← c .before .before .before .before .before .before .before .before .before .before .at2 .ensures, ← c .before .before .before .before .before .before .before .pattern .ensures, c .before .p .given .1)), search needs, search needs)
 
--- src/lib.rt:421:5
 arguments-close-requires : (t : ℕ) → arguments-lts.Need-close-requires (arguments-calls t) (arguments-at t) arguments.Post arguments-Inv-loop arguments-μ-loop
 arguments-close-requires t c κs = search needs
 
--- src/lib.rt:398:1
 arguments-same-length-3 : (t : ℕ) → arguments-lts.Need-same-length-3 (arguments-calls t) (arguments-at t) arguments.Post arguments-Inv-loop arguments-μ-loop
 arguments-same-length-3 t c = search needs
 
--- src/lib.rt:398:1
 arguments-same-length-4 : (t : ℕ) → arguments-lts.Need-same-length-4 (arguments-calls t) (arguments-at t) arguments.Post arguments-Inv-loop arguments-μ-loop
 arguments-same-length-4 t c = search needs
 
--- src/lib.rt:398:1
 arguments-returns-2 : (t : ℕ) → arguments-lts.Need-returns-2 (arguments-calls t) (arguments-at t) arguments.Post arguments-Inv-loop arguments-μ-loop
 unfolding models.arguments
 arguments-returns-2 t c = rw (← c .before .before .before .at .ensures) (sym (c .before .before .loop .inv .1 ∙ arguments-end _ _ _ _ _ _ _ _ (c .before .loop-test .left) ∙ rw (← c .close .ensures)))
 
--- src/lib.rt:381:9
 pattern-returns : (t : ℕ) → pattern-lts.Need-returns (pattern-calls t) (pattern-at t) pattern.Post
 unfolding models.pattern
 pattern-returns t c = rw (c .if1 .taken)
 
--- src/lib.rt:383:9
 pattern-next-item-requires : (t : ℕ) → pattern-lts.Need-next-item-requires (pattern-calls t) (pattern-at t) pattern.Post
 pattern-next-item-requires t c κs = search needs
 
--- src/lib.rt:385:23
 pattern-enum-known-i : (t : ℕ) → pattern-lts.Need-enum-known-i (pattern-calls t) (pattern-at t) pattern.Post
 pattern-enum-known-i t c = search needs
 
--- src/lib.rt:386:20
 pattern-enum-known-i-2 : (t : ℕ) → pattern-lts.Need-enum-known-i-2 (pattern-calls t) (pattern-at t) pattern.Post
 pattern-enum-known-i-2 t c = search needs
 
--- src/lib.rt:386:32
 pattern-leaf-requires : (t : ℕ) → pattern-lts.Need-leaf-requires (pattern-calls t) (pattern-at t) pattern.Post
 pattern-leaf-requires t c κs = search needs
 
--- src/lib.rt:387:20
 pattern-enum-known-i-3 : (t : ℕ) → pattern-lts.Need-enum-known-i-3 (pattern-calls t) (pattern-at t) pattern.Post
 pattern-enum-known-i-3 t c = search needs
 
--- src/lib.rt:388:17
 pattern-compound-head-requires : (t : ℕ) → pattern-lts.Need-compound-head-requires (pattern-calls t) (pattern-at t) pattern.Post
 pattern-compound-head-requires t c κs = search needs
 
--- src/lib.rt:390:35
 pattern-enum-known-h : (t : ℕ) → pattern-lts.Need-enum-known-h (pattern-calls t) (pattern-at t) pattern.Post
 pattern-enum-known-h t c = search needs
 
--- src/lib.rt:391:31
 pattern-enum-known-h-2 : (t : ℕ) → pattern-lts.Need-enum-known-h-2 (pattern-calls t) (pattern-at t) pattern.Post
 pattern-enum-known-h-2 t c = search needs
 
--- src/lib.rt:391:79
 pattern-sub-arguments : (t : ℕ) → pattern-lts.Need-sub-arguments (pattern-calls t) (pattern-at t) pattern.Post
 pattern-sub-arguments t c = search needs
 
--- src/lib.rt:391:40
 pattern-arguments-requires : (t : ℕ) → pattern-lts.Need-arguments-requires (pattern-calls t) (pattern-at t) pattern.Post
 pattern-arguments-requires t c κs = (omega (arith, c .before .before .before .before .before .before .before .before .before .before .before .before .before .if1 .left, c .before .before .before .before .before .before .before .before .before .before .before .before .before .before .before .before .before .before .pre .0), tt)
 
--- src/lib.rt:369:1
 pattern-returns-2 : (t : ℕ) → pattern-lts.Need-returns-2 (pattern-calls t) (pattern-at t) pattern.Post
 pattern-returns-2 t c = rw (pattern-within _ _ _ _ _ _ _ (c .before .before .before .before .if1 .left), ← c .before .before .before .next-item .ensures, c .before .i .given .1)
 
--- src/lib.rt:369:1
 pattern-same-length : (t : ℕ) → pattern-lts.Need-same-length (pattern-calls t) (pattern-at t) pattern.Post
 pattern-same-length t c = search needs
 
--- src/lib.rt:369:1
 pattern-same-length-2 : (t : ℕ) → pattern-lts.Need-same-length-2 (pattern-calls t) (pattern-at t) pattern.Post
 pattern-same-length-2 t c = search needs
 
--- src/lib.rt:369:1
 pattern-returns-3 : (t : ℕ) → pattern-lts.Need-returns-3 (pattern-calls t) (pattern-at t) pattern.Post
 pattern-returns-3 t c = rw (pattern-within _ _ _ _ _ _ _ (c .before .before .before .before .before .before .before .before .before .before .before .if1 .left), ← c .before .before .before .before .before .before .before .before .before .before .next-item .ensures, c .before .before .before .before .before .before .before .before .i2 .given .1, ← c .before .before .before .before .leaf .ensures)
 
--- src/lib.rt:369:1
 pattern-same-length-3 : (t : ℕ) → pattern-lts.Need-same-length-3 (pattern-calls t) (pattern-at t) pattern.Post
 pattern-same-length-3 t c = search needs
 
--- src/lib.rt:369:1
 pattern-returns-4 : (t : ℕ) → pattern-lts.Need-returns-4 (pattern-calls t) (pattern-at t) pattern.Post
 pattern-returns-4 t c = rw (pattern-within _ _ _ _ _ _ _ (c .before .before .before .before .before .before .before .before .before .before .before .if1 .left), ← c .before .before .before .before .before .before .before .before .before .before .next-item .ensures, c .before .before .before .before .before .before .before .before .i3 .given .1, ← c .before .before .before .before .before .compound-head .ensures, c .before .h .given .1)
 
--- src/lib.rt:369:1
 pattern-same-length-4 : (t : ℕ) → pattern-lts.Need-same-length-4 (pattern-calls t) (pattern-at t) pattern.Post
 pattern-same-length-4 t c = search needs
 
--- src/lib.rt:369:1
 pattern-same-length-5 : (t : ℕ) → pattern-lts.Need-same-length-5 (pattern-calls t) (pattern-at t) pattern.Post
 pattern-same-length-5 t c = search needs
 
--- src/lib.rt:369:1
 pattern-returns-5 : (t : ℕ) → pattern-lts.Need-returns-5 (pattern-calls t) (pattern-at t) pattern.Post
 unfolding models.arguments
 pattern-returns-5 t c = rw (pattern-within _ _ _ _ _ _ _ (c .before .before .before .before .before .before .before .before .before .before .before .before .before .before .before .before .before .before .if1 .left), ← c .before .before .before .before .before .before .before .before .before .before .before .before .before .before .before .before .before .next-item .ensures, c .before .before .before .before .before .before .before .before .before .before .before .before .before .before .before .i3 .given .1, ← c .before .before .before .before .before .before .before .before .before .before .before .before .compound-head .ensures, c .before .before .before .before .before .before .before .before .h2 .given .1) (c .before .before .before .before .arguments .ensures)

@@ -1,15 +1,12 @@
-use Rattle.patterns.proofs.Turns.{variable-first, variable-here, variable-on, variable-nowhere}
-use Rattle.patterns.specs.Patterns.{position, positionFrom, variableName}
-use Rattle.words.specs.Parts.{part}
-use mathlib.Core.Path.{_≡_, refl, sym, _∙_, ap}
+-- `patterns::find_variable` meets its contract. Assumes nothing.
+use mathlib.Core.Path.{_≡_, sym, _∙_}
 use Prim.Native.Nat.{_≤_, _-_}
 use borrow.Author.Needs.{needs}
+use Rattle.patterns.specs.Patterns.{position, positionFrom, variableName}
+use Rattle.words.specs.Parts.{part}
+use Rattle.patterns.proofs.Turns.{variable-first, variable-here, variable-on, variable-nowhere}
 use Rattle.patterns.proofs.find_variable.Statement.{statement}
 use Rattle.patterns.proofs.find_variable.Tie as tie
-use Rattle.patterns.proofs.find_variable.Reads as reads
-use Rattle.patterns.proofs.find_variable.Lts as lts
-use Rattle.words.proofs.at.Reads as at-reads
-use Rattle.words.proofs.same_bytes.Reads as same-bytes-reads
 
 abbrev Inv-loop : tie.InvT-loop
 Inv-loop text vars variables s t i₀ i = (i ≤ variables) × (position text vars variables s t ≡ positionFrom (variables - i) text vars (part s t text) i)
@@ -17,61 +14,47 @@ Inv-loop text vars variables s t i₀ i = (i ≤ variables) × (position text va
 abbrev μ-loop : tie.MeasureT-loop
 μ-loop text vars variables s t i₀ i = variables - i
 
--- src/lib.rt:228:5
 loop-holds : tie.Need-loop-holds Inv-loop μ-loop
 loop-holds c = (search needs, variable-first _ _ _ _ _)
 
--- src/lib.rt:229:21
 cast-v : tie.Need-cast-v Inv-loop μ-loop
 cast-v c = search needs
 
--- src/lib.rt:229:17
 mul-v : tie.Need-mul-v Inv-loop μ-loop
 mul-v c = search needs
 
--- src/lib.rt:230:13
 at-requires : tie.Need-at-requires Inv-loop μ-loop
 at-requires c κs = search needs
 
--- src/lib.rt:231:35
 add-at : tie.Need-add-at Inv-loop μ-loop
 add-at c = search needs
 
--- src/lib.rt:231:13
 at-requires-2 : tie.Need-at-requires-2 Inv-loop μ-loop
 at-requires-2 c κs = search needs
 
--- src/lib.rt:232:36
 cast-same-bytes : tie.Need-cast-same-bytes Inv-loop μ-loop
 cast-same-bytes c = search needs
 
--- src/lib.rt:232:52
 cast-same-bytes-2 : tie.Need-cast-same-bytes-2 Inv-loop μ-loop
 cast-same-bytes-2 c = search needs
 
--- src/lib.rt:232:12
 same-bytes-requires : tie.Need-same-bytes-requires Inv-loop μ-loop
 same-bytes-requires c κs = search needs
 
--- src/lib.rt:233:13
 returns : tie.Need-returns Inv-loop μ-loop
 unfolding variableName
 returns c = sym (c .before .before .before .before .before .loop .inv .1 ∙ variable-here _ _ _ _ _ (c .before .before .before .before .loop-test .taken) (rw (← c .before .before .before .at .ensures, ← c .before .before .at2 .ensures, ← c .before .same-bytes .ensures) (c .if1 .taken)))
 
--- src/lib.rt:235:9
 add-i : tie.Need-add-i Inv-loop μ-loop
 add-i c = search needs
 
--- src/lib.rt:228:5
 loop-less : tie.Need-loop-less Inv-loop μ-loop
 loop-less c = search needs
 
--- src/lib.rt:228:5
 loop-again : tie.Need-loop-again Inv-loop μ-loop
 unfolding variableName
 loop-again c = (search needs, c .before .before .before .before .before .loop .inv .1 ∙ variable-on _ _ _ _ _ (c .before .before .before .before .loop-test .taken) (rw (← c .before .before .before .at .ensures, ← c .before .before .at2 .ensures, ← c .before .same-bytes .ensures) (c .if1 .left)))
 
--- src/lib.rt:224:1
 returns-2 : tie.Need-returns-2 Inv-loop μ-loop
 returns-2 c = sym (c .before .loop .inv .1 ∙ variable-nowhere _ _ _ _ _ (c .loop-test .left))
 

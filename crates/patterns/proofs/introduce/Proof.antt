@@ -1,71 +1,51 @@
-use Rattle.patterns.specs.Patterns.{introduced, withVariable, variableWord}
+-- `patterns::introduce` meets its contract. Assumes nothing.
 use borrow.Author.Needs.{needs}
+use Rattle.patterns.specs.Patterns.{introduced, withVariable, variableWord}
 use Rattle.patterns.proofs.introduce.Statement.{statement}
 use Rattle.patterns.proofs.introduce.Tie as tie
-use Rattle.patterns.proofs.introduce.Reads as reads
-use Rattle.patterns.proofs.introduce.Lts as lts
-use Rattle.patterns.proofs.low.Reads as low-reads
-use Rattle.patterns.proofs.plus.Reads as plus-reads
-use Rattle.patterns.proofs.push.Reads as push-reads
-use Rattle.words.proofs.put.Reads as put-reads
 
--- src/lib.rt:244:21
 cast-place : tie.Need-cast-place
 cast-place c = search needs
 
--- src/lib.rt:244:17
 mul-place : tie.Need-mul-place
 mul-place c = search needs
 
--- src/lib.rt:245:29
 low-requires : tie.Need-low-requires
 low-requires c κs = search needs
 
--- src/lib.rt:245:5
 put-requires : tie.Need-put-requires
 put-requires c κs = search needs
 
--- src/lib.rt:246:22
 add-put : tie.Need-add-put
 add-put c = search needs
 
--- src/lib.rt:246:33
 low-requires-2 : tie.Need-low-requires-2
 low-requires-2 c κs = search needs
 
--- src/lib.rt:246:5
 put-requires-2 : tie.Need-put-requires-2
 put-requires-2 c κs = search needs
 
--- src/lib.rt:247:22
 add-put-2 : tie.Need-add-put-2
 add-put-2 c = search needs
 
--- src/lib.rt:247:5
 put-requires-3 : tie.Need-put-requires-3
 put-requires-3 c κs = search needs
 
--- src/lib.rt:253:20
 plus-requires : tie.Need-plus-requires
 plus-requires c κs = search needs
 
--- src/lib.rt:255:16
 plus-requires-2 : tie.Need-plus-requires-2
 plus-requires-2 c κs = search needs
 
--- src/lib.rt:255:5
 push-requires : tie.Need-push-requires
 push-requires c κs = search needs
 
--- src/lib.rt:240:1
 same-length : tie.Need-same-length
 same-length c = search needs
 
--- src/lib.rt:240:1
 same-length-2 : tie.Need-same-length-2
 same-length-2 c = search needs
 
--- src/lib.rt:240:1
 returns : tie.Need-returns
 unfolding introduced withVariable variableWord
 returns c = rw (← c .before .before .before .plus2 .ensures, ← c .before .before .before .before .before .plus .ensures, ← c .before .before .push .ensures, c .before .before .before .before .before .before .before .before .before .put3 .ensures, c .before .before .before .before .before .before .before .before .before .before .before .before .before .put2 .ensures, c .before .before .before .before .before .before .before .before .before .before .before .before .before .before .before .before .before .before .put .ensures, c .before .before .before .before .before .before .before .before .before .before .before .before .before .before .low2 .ensures, c .before .before .before .before .before .before .before .before .before .before .before .before .before .before .before .before .before .before .before .low .ensures)

@@ -1,96 +1,69 @@
-use Rattle.patterns.specs.Patterns.{judgment}
+-- `patterns::judgment` meets its contract. Assumes nothing.
 use borrow.Author.Needs.{needs}
+use Rattle.patterns.specs.Patterns.{judgment}
 use Rattle.patterns.proofs.judgment.Statement.{statement}
 use Rattle.patterns.proofs.judgment.Tie as tie
-use Rattle.patterns.proofs.judgment.Reads as reads
-use Rattle.patterns.proofs.judgment.Lts as lts
-use Rattle.patterns.proofs.apply.Reads as apply-reads
-use Rattle.patterns.proofs.arguments.Reads as arguments-reads
-use Rattle.patterns.proofs.head.Reads as head-reads
-use Rattle.patterns.proofs.named_refusal.Reads as named-refusal-reads
-use Rattle.patterns.proofs.next_list.Reads as next-list-reads
-use Rattle.patterns.proofs.numbered_refusal.Reads as numbered-refusal-reads
 
--- src/lib.rt:435:9
 next-list-requires : tie.Need-next-list-requires
 next-list-requires c κs = search needs
 
--- src/lib.rt:436:23
 enum-known-l : tie.Need-enum-known-l
 enum-known-l c = search needs
 
--- src/lib.rt:437:32
 enum-told : tie.Need-enum-told
 enum-told c = search needs
 
--- src/lib.rt:437:32
 numbered-refusal-requires : tie.Need-numbered-refusal-requires
 numbered-refusal-requires c κs = search needs
 
--- src/lib.rt:437:9
 returns : tie.Need-returns
 unfolding judgment
 returns c = rw (c .numbered-refusal .ensures, ← c .before .before .before .next-list .ensures, c .before .enum-told .given .1)
 
--- src/lib.rt:439:9
 head-requires : tie.Need-head-requires
 head-requires c κs = search needs
 
--- src/lib.rt:440:21
 enum-known-h : tie.Need-enum-known-h
 enum-known-h c = search needs
 
--- src/lib.rt:441:32
 enum-told-2 : tie.Need-enum-told-2
 enum-told-2 c = search needs
 
--- src/lib.rt:441:32
 named-refusal-requires : tie.Need-named-refusal-requires
 named-refusal-requires c κs = search needs
 
--- src/lib.rt:441:9
 returns-2 : tie.Need-returns-2
 unfolding judgment
 returns-2 c = rw (← c .before .before .before .before .before .before .before .next-list .ensures, c .before .before .before .before .before .l .given .1, c .named-refusal .ensures, ← c .before .before .before .head .ensures, c .before .enum-told2 .given .1)
 
--- src/lib.rt:443:9
 apply-requires : tie.Need-apply-requires
 apply-requires c κs = search needs
 
--- src/lib.rt:444:23
 enum-known-a : tie.Need-enum-known-a
 enum-known-a c = search needs
 
--- src/lib.rt:445:32
 enum-told-3 : tie.Need-enum-told-3
 enum-told-3 c = search needs
 
--- src/lib.rt:445:32
 numbered-refusal-requires-2 : tie.Need-numbered-refusal-requires-2
 numbered-refusal-requires-2 c κs = search needs
 
--- src/lib.rt:445:9
 same-length : tie.Need-same-length
 same-length c = search needs
 
--- src/lib.rt:445:9
 returns-3 : tie.Need-returns-3
 unfolding judgment
 returns-3 c = rw (← c .before .before .before .before .before .before .before .before .before .before .before .before .before .before .next-list .ensures, c .before .before .before .before .before .before .before .before .before .before .before .before .l .given .1, ← c .before .before .before .before .before .before .before .before .before .before .head .ensures, c .before .before .before .before .before .before .before .before .h .given .1, c .numbered-refusal2 .ensures, ← c .before .before .before .before .before .apply .ensures, c .before .enum-told3 .given .1)
 
--- src/lib.rt:447:5
 arguments-requires : tie.Need-arguments-requires
 arguments-requires c κs = search needs
 
--- src/lib.rt:432:1
 same-length-2 : tie.Need-same-length-2
 same-length-2 c = search needs
 
--- src/lib.rt:432:1
 same-length-3 : tie.Need-same-length-3
 same-length-3 c = search needs
 
--- src/lib.rt:432:1
 returns-4 : tie.Need-returns-4
 unfolding judgment
 returns-4 c = rw (← c .before .before .before .before .before .before .before .before .before .before .before .before .before .before .before .before .before .before .before .before .before .next-list .ensures, c .before .before .before .before .before .before .before .before .before .before .before .before .before .before .before .before .before .before .before .l .given .1, ← c .before .before .before .before .before .before .before .before .before .before .before .before .before .before .before .before .before .head .ensures, c .before .before .before .before .before .before .before .before .before .before .before .before .before .before .before .h .given .1, ← c .before .before .before .before .before .before .before .before .before .before .before .before .apply .ensures, c .before .before .before .before .before .before .before .before .a .given .1, ← c .before .before .before .before .arguments .ensures)

@@ -1,15 +1,11 @@
+-- `patterns::judgments` meets its contract. Assumes nothing.
 use lib.ListN.{length}
-use mathlib.Core.Path.{_≡_, refl, sym, _∙_, ap}
+use mathlib.Core.Path.{_≡_, refl, sym, _∙_}
+use borrow.Author.Needs.{needs}
 use Rattle.patterns.specs.Patterns.{judgments}
 use Rattle.patterns.proofs.Turns.{judgments-on, judgment-refused, judgments-end}
-use borrow.Author.Needs.{needs}
 use Rattle.patterns.proofs.judgments.Statement.{statement}
 use Rattle.patterns.proofs.judgments.Tie as tie
-use Rattle.patterns.proofs.judgments.Reads as reads
-use Rattle.patterns.proofs.judgments.Lts as lts
-use Rattle.patterns.proofs.close.Reads as close-reads
-use Rattle.patterns.proofs.judgment.Reads as judgment-reads
-use Rattle.patterns.proofs.walked_refusal.Reads as walked-refusal-reads
 
 abbrev Inv-loop : tie.InvT-loop
 Inv-loop text counts vars₀ heap₀ n v₀ left₀ vars heap v left = (judgments n text counts v₀ vars₀ heap₀ ≡ judgments left text counts v vars heap) × (length vars ≡ length vars₀) × (length heap ≡ length heap₀)
@@ -17,63 +13,48 @@ Inv-loop text counts vars₀ heap₀ n v₀ left₀ vars heap v left = (judgment
 abbrev μ-loop : tie.MeasureT-loop
 μ-loop text counts vars₀ heap₀ n v₀ left₀ vars heap v left = left
 
--- src/lib.rt:463:5
 loop-holds : tie.Need-loop-holds Inv-loop μ-loop
 loop-holds c = (refl, search needs, search needs)
 
--- src/lib.rt:464:13
 judgment-requires : tie.Need-judgment-requires Inv-loop μ-loop
 judgment-requires c κs = search needs
 
--- src/lib.rt:465:24
 enum-known-j : tie.Need-enum-known-j Inv-loop μ-loop
 enum-known-j c = search needs
 
--- src/lib.rt:466:36
 enum-told : tie.Need-enum-told Inv-loop μ-loop
 enum-told c = search needs
 
--- src/lib.rt:466:36
 walked-refusal-requires : tie.Need-walked-refusal-requires Inv-loop μ-loop
 walked-refusal-requires c κs = search needs
 
--- src/lib.rt:466:13
 same-length : tie.Need-same-length Inv-loop μ-loop
 same-length c = search needs
 
--- src/lib.rt:466:13
 same-length-2 : tie.Need-same-length-2 Inv-loop μ-loop
 same-length-2 c = search needs
 
--- src/lib.rt:466:13
 returns : tie.Need-returns Inv-loop μ-loop
 returns c = sym (c .before .before .before .before .before .before .before .before .before .before .before .loop .inv .0 ∙ judgment-refused _ _ _ _ _ _ (c .before .before .before .before .before .before .before .before .before .before .loop-test .taken) (rw (c .walked-refusal .ensures, ← c .before .before .before .before .before .before .before .judgment .ensures, c .before .enum-told .given .1)))
 
--- src/lib.rt:469:9
 sub-left : tie.Need-sub-left Inv-loop μ-loop
 sub-left c = search needs
 
--- src/lib.rt:463:5
 loop-less : tie.Need-loop-less Inv-loop μ-loop
 loop-less c = search needs
 
--- src/lib.rt:463:5
 loop-again : tie.Need-loop-again Inv-loop μ-loop
 loop-again c = (c .before .before .before .before .before .before .before .before .before .before .before .loop .inv .0 ∙ judgments-on _ _ _ _ _ _ (c .before .before .before .before .before .before .before .before .before .before .loop-test .taken) (rw (← c .before .before .before .before .before .before .before .judgment .ensures, c .before .j .given .1)), search needs, search needs)
 
--- src/lib.rt:471:5
 close-requires : tie.Need-close-requires Inv-loop μ-loop
 close-requires c κs = search needs
 
--- src/lib.rt:451:1
 same-length-3 : tie.Need-same-length-3 Inv-loop μ-loop
 same-length-3 c = search needs
 
--- src/lib.rt:451:1
 same-length-4 : tie.Need-same-length-4 Inv-loop μ-loop
 same-length-4 c = search needs
 
--- src/lib.rt:451:1
 returns-2 : tie.Need-returns-2 Inv-loop μ-loop
 returns-2 c = sym (c .before .before .loop .inv .0 ∙ judgments-end _ _ _ _ _ _ (c .before .loop-test .left) ∙ rw (← c .close .ensures))
 

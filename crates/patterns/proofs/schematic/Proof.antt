@@ -1,65 +1,47 @@
-use Rattle.patterns.specs.Patterns.{schematic}
+-- `patterns::schematic` meets its contract. Assumes nothing.
 use borrow.Author.Needs.{needs}
+use Rattle.patterns.specs.Patterns.{schematic}
 use Rattle.patterns.proofs.schematic.Statement.{statement}
 use Rattle.patterns.proofs.schematic.Tie as tie
-use Rattle.patterns.proofs.schematic.Reads as reads
-use Rattle.patterns.proofs.schematic.Lts as lts
-use Rattle.patterns.proofs.find_variable.Reads as find-variable-reads
-use Rattle.patterns.proofs.introduce.Reads as introduce-reads
-use Rattle.patterns.proofs.is_bare.Reads as is-bare-reads
-use Rattle.patterns.proofs.meet_again.Reads as meet-again-reads
 
--- src/lib.rt:289:8
 is-bare-requires : tie.Need-is-bare-requires
 is-bare-requires c κs = search needs
 
--- src/lib.rt:290:9
 returns : tie.Need-returns
 unfolding schematic
 returns c = rw (← c .before .is-bare .ensures, c .if1 .taken)
 
--- src/lib.rt:292:9
 find-variable-requires : tie.Need-find-variable-requires
 find-variable-requires c κs = search needs
 
--- src/lib.rt:294:19
 enum-known-found : tie.Need-enum-known-found
 enum-known-found c = search needs
 
--- src/lib.rt:294:25
 meet-again-requires : tie.Need-meet-again-requires
 meet-again-requires c κs = search needs
 
--- src/lib.rt:295:48
 enum-told : tie.Need-enum-told
 enum-told c = search needs
 
--- src/lib.rt:295:38
 introduce-requires : tie.Need-introduce-requires
 introduce-requires c κs = search needs
 
--- src/lib.rt:278:1
 same-length : tie.Need-same-length
 same-length c = search needs
 
--- src/lib.rt:278:1
 same-length-2 : tie.Need-same-length-2
 same-length-2 c = search needs
 
--- src/lib.rt:278:1
 returns-2 : tie.Need-returns-2
 unfolding schematic
 returns-2 c = rw (← c .before .before .before .before .before .before .before .before .before .before .before .is-bare .ensures, c .before .before .before .before .before .before .before .before .before .before .if1 .left, ← c .before .before .before .before .before .before .before .before .find-variable .ensures, c .before .before .before .before .before .before .found .given .1, ← c .before .before .meet-again .ensures)
 
--- src/lib.rt:278:1
 same-length-3 : tie.Need-same-length-3
 same-length-3 c = search needs
 
--- src/lib.rt:278:1
 same-length-4 : tie.Need-same-length-4
 same-length-4 c = search needs
 
--- src/lib.rt:278:1
 returns-3 : tie.Need-returns-3
 unfolding schematic
 returns-3 c = rw (← c .before .before .before .before .before .before .before .before .before .before .before .before .is-bare .ensures, c .before .before .before .before .before .before .before .before .before .before .before .if1 .left, ← c .before .before .before .before .before .before .before .before .before .find-variable .ensures, c .before .before .before .before .before .before .before .enum-told .given .1, ← c .before .before .before .before .introduce .ensures)

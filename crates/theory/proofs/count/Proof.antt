@@ -1,63 +1,47 @@
+-- `theory::count` meets its contract. Assumes nothing.
 use borrow.Author.Needs.{needs}
 use Rattle.theory.proofs.count.Statement.{statement}
 use Rattle.theory.proofs.count.Tie as tie
-use Rattle.theory.proofs.count.Reads as reads
-use Rattle.theory.proofs.count.Lts as lts
-use Rattle.patterns.proofs.plus.Reads as plus-reads
 
--- src/lib.rt:493:20
 enum-told : tie.Need-enum-told
 enum-told c = search needs
 
--- src/lib.rt:493:20
 plus-requires : tie.Need-plus-requires
 plus-requires c κs = search needs
 
--- src/lib.rt:500:27
 enum-told-2 : tie.Need-enum-told-2
 enum-told-2 c = search needs
 
--- src/lib.rt:500:27
 plus-requires-2 : tie.Need-plus-requires-2
 plus-requires-2 c κs = search needs
 
--- src/lib.rt:507:25
 enum-told-3 : tie.Need-enum-told-3
 enum-told-3 c = search needs
 
--- src/lib.rt:507:25
 plus-requires-3 : tie.Need-plus-requires-3
 plus-requires-3 c κs = search needs
 
--- src/lib.rt:514:20
 enum-told-4 : tie.Need-enum-told-4
 enum-told-4 c = search needs
 
--- src/lib.rt:514:20
 plus-requires-4 : tie.Need-plus-requires-4
 plus-requires-4 c κs = search needs
 
--- src/lib.rt:516:24
 enum-told-5 : tie.Need-enum-told-5
 enum-told-5 c = search needs
 
--- src/lib.rt:488:1
 returns : tie.Need-returns
 returns c = rw (c .plus .ensures, c .before .enum-told .given .1)
 
--- src/lib.rt:488:1
 returns-2 : tie.Need-returns-2
 returns-2 c = rw (c .plus2 .ensures, c .before .enum-told2 .given .1)
 
--- src/lib.rt:488:1
 returns-3 : tie.Need-returns-3
 returns-3 c = rw (c .plus3 .ensures, c .before .enum-told3 .given .1)
 
--- src/lib.rt:488:1
 returns-4 : tie.Need-returns-4
 returns-4 c = rw (c .plus4 .ensures, c .before .enum-told4 .given .1)
 
--- src/lib.rt:488:1
 returns-5 : tie.Need-returns-5
 returns-5 c = rw (c .enum-told5 .given .1)
 

@@ -1,18 +1,11 @@
+-- `theory::declarations` meets its contract. Assumes nothing.
 use lib.ListN.{length}
-use mathlib.Core.Path.{_≡_, refl, sym, _∙_, ap}
+use mathlib.Core.Path.{_≡_, refl, sym, _∙_}
+use borrow.Author.Needs.{needs}
 use Rattle.theory.specs.Declarations.{declarations, declarationsFrom}
 use Rattle.theory.proofs.Turns.{declarations-short, look-refused, declarations-end, declaration-refused, declarations-on}
-use borrow.Author.Needs.{needs}
 use Rattle.theory.proofs.declarations.Statement.{statement}
 use Rattle.theory.proofs.declarations.Tie as tie
-use Rattle.theory.proofs.declarations.Reads as reads
-use Rattle.theory.proofs.declarations.Lts as lts
-use Rattle.theory.proofs.begin_walk.Reads as begin-walk-reads
-use Rattle.theory.proofs.count.Reads as count-reads
-use Rattle.theory.proofs.declared_refusal.Reads as declared-refusal-reads
-use Rattle.theory.proofs.judge.Reads as judge-reads
-use Rattle.theory.proofs.look.Reads as look-reads
-use Rattle.theory.proofs.no_counts.Reads as no-counts-reads
 
 abbrev Inv-loop : tie.InvT-loop
 Inv-loop text vars₀ counts heap₀ w₀ c₀ fuel₀ vars heap w c fuel = (declarationsFrom fuel₀ text counts c₀ w₀ vars₀ heap₀ ≡ declarationsFrom fuel text counts c w vars heap) × (length vars ≡ length vars₀) × (length heap ≡ length heap₀)
@@ -20,118 +13,90 @@ Inv-loop text vars₀ counts heap₀ w₀ c₀ fuel₀ vars heap w c fuel = (dec
 abbrev μ-loop : tie.MeasureT-loop
 μ-loop text vars₀ counts heap₀ w₀ c₀ fuel₀ vars heap w c fuel = fuel
 
--- src/lib.rt:565:9
 begin-walk-requires : tie.Need-begin-walk-requires Inv-loop μ-loop
 begin-walk-requires c κs = search needs
 
--- src/lib.rt:566:9
 no-counts-requires : tie.Need-no-counts-requires Inv-loop μ-loop
 no-counts-requires c κs = search needs
 
--- src/lib.rt:567:20
 add-fuel : tie.Need-add-fuel Inv-loop μ-loop
 add-fuel c = search needs
 
--- src/lib.rt:568:5
 loop-holds : tie.Need-loop-holds Inv-loop μ-loop
 loop-holds c = (refl, search needs, search needs)
 
--- src/lib.rt:569:13
 look-requires : tie.Need-look-requires Inv-loop μ-loop
 look-requires c κs = search needs
 
--- src/lib.rt:571:27
 enum-known-m : tie.Need-enum-known-m Inv-loop μ-loop
 enum-known-m c = search needs
 
--- src/lib.rt:571:33
 same-length : tie.Need-same-length Inv-loop μ-loop
 same-length c = search needs
 
--- src/lib.rt:571:33
 same-length-2 : tie.Need-same-length-2 Inv-loop μ-loop
 same-length-2 c = search needs
 
--- src/lib.rt:571:33
 returns : tie.Need-returns Inv-loop μ-loop
 unfolding declarations
 returns c = rw (← c .before .before .before .before .before .before .no-counts .ensures, ← c .before .before .before .before .before .before .before .begin-walk .ensures) (sym (c .before .before .before .before .before .loop .inv .0 ∙ look-refused _ _ _ _ _ _ _ (c .before .before .before .before .loop-test .taken) (rw (← c .before .before .before .look .ensures, c .before .m .given .1))))
 
--- src/lib.rt:572:30
 enum-told : tie.Need-enum-told Inv-loop μ-loop
 enum-told c = search needs
 
--- src/lib.rt:572:30
 same-length-3 : tie.Need-same-length-3 Inv-loop μ-loop
 same-length-3 c = search needs
 
--- src/lib.rt:572:30
 same-length-4 : tie.Need-same-length-4 Inv-loop μ-loop
 same-length-4 c = search needs
 
--- src/lib.rt:572:30
 returns-2 : tie.Need-returns-2 Inv-loop μ-loop
 unfolding declarations
 returns-2 c = rw (← c .before .before .before .before .before .no-counts .ensures, ← c .before .before .before .before .before .before .begin-walk .ensures) (sym (c .before .before .before .before .loop .inv .0 ∙ declarations-end _ _ _ _ _ _ _ (c .before .before .before .loop-test .taken) (rw (← c .before .before .look .ensures, c .enum-told .given .1))))
 
--- src/lib.rt:573:27
 enum-known-m-2 : tie.Need-enum-known-m-2 Inv-loop μ-loop
 enum-known-m-2 c = search needs
 
--- src/lib.rt:574:21
 judge-requires : tie.Need-judge-requires Inv-loop μ-loop
 judge-requires c κs = search needs
 
--- src/lib.rt:575:34
 enum-known-d : tie.Need-enum-known-d Inv-loop μ-loop
 enum-known-d c = search needs
 
--- src/lib.rt:576:44
 enum-told-2 : tie.Need-enum-told-2 Inv-loop μ-loop
 enum-told-2 c = search needs
 
--- src/lib.rt:576:44
 declared-refusal-requires : tie.Need-declared-refusal-requires Inv-loop μ-loop
 declared-refusal-requires c κs = search needs
 
--- src/lib.rt:576:21
 same-length-5 : tie.Need-same-length-5 Inv-loop μ-loop
 same-length-5 c = search needs
 
--- src/lib.rt:576:21
 same-length-6 : tie.Need-same-length-6 Inv-loop μ-loop
 same-length-6 c = search needs
 
--- src/lib.rt:576:21
 returns-3 : tie.Need-returns-3 Inv-loop μ-loop
 unfolding declarations
 returns-3 c = rw (← c .before .before .before .before .before .before .before .before .before .before .before .before .before .before .before .before .no-counts .ensures, ← c .before .before .before .before .before .before .before .before .before .before .before .before .before .before .before .before .before .begin-walk .ensures) (sym (c .before .before .before .before .before .before .before .before .before .before .before .before .before .before .before .loop .inv .0 ∙ declaration-refused _ _ _ _ _ _ _ {v = c .before .before .before .before .before .before .before .before .before .before .before .m2 .given .0 .0} (c .before .before .before .before .before .before .before .before .before .before .before .before .before .before .loop-test .taken) (rw (← c .before .before .before .before .before .before .before .before .before .before .before .before .before .look .ensures, c .before .before .before .before .before .before .before .before .before .before .before .m2 .given .1)) (rw (c .declared-refusal .ensures, ← c .before .before .before .before .before .before .before .judge .ensures, c .before .enum-told2 .given .1))))
 
--- src/lib.rt:579:17
 count-requires : tie.Need-count-requires Inv-loop μ-loop
 count-requires c κs = search needs
 
--- src/lib.rt:582:9
 sub-fuel : tie.Need-sub-fuel Inv-loop μ-loop
 sub-fuel c = search needs
 
--- src/lib.rt:568:5
 loop-less : tie.Need-loop-less Inv-loop μ-loop
 loop-less c = search needs
 
--- src/lib.rt:568:5
 loop-again : tie.Need-loop-again Inv-loop μ-loop
 loop-again c = (rw (c .count .ensures) (c .before .before .before .before .before .before .before .before .before .before .before .before .before .before .before .before .loop .inv .0 ∙ declarations-on _ _ _ _ _ _ _ {v = c .before .before .before .before .before .before .before .before .before .before .before .before .m2 .given .0 .0} {form = c .before .before .d .given .0 .0} (c .before .before .before .before .before .before .before .before .before .before .before .before .before .before .before .loop-test .taken) (rw (← c .before .before .before .before .before .before .before .before .before .before .before .before .before .before .look .ensures, c .before .before .before .before .before .before .before .before .before .before .before .before .m2 .given .1)) (rw (← c .before .before .before .before .before .before .before .before .judge .ensures, c .before .before .d .given .1))), search (c .before .before .before .before .before .before .slice-known3 .given, c .before .before .before .before .before .before .before .vars .given, c .before .before .before .before .before .before .before .before .before .before .before .before .before .before .before .before .loop .inv .1, needs), search (c .before .before .before .before .slice-known4 .given, c .before .before .before .before .before .heap .given, c .before .before .before .before .before .before .before .before .before .before .before .before .before .before .before .before .loop .inv .2, needs))
 
--- src/lib.rt:562:1
 same-length-7 : tie.Need-same-length-7 Inv-loop μ-loop
 same-length-7 c = search needs
 
--- src/lib.rt:562:1
 same-length-8 : tie.Need-same-length-8 Inv-loop μ-loop
 same-length-8 c = search needs
 
--- src/lib.rt:562:1
 returns-4 : tie.Need-returns-4 Inv-loop μ-loop
 unfolding declarations
 returns-4 c = rw (← c .before .before .no-counts .ensures, ← c .before .before .before .begin-walk .ensures) (sym (c .before .loop .inv .0 ∙ declarations-short _ _ _ _ _ _ _ (c .loop-test .left)))

@@ -1,86 +1,62 @@
+-- `theory::declare` meets its contract. Assumes nothing.
 use borrow.Author.Needs.{needs}
 use Rattle.theory.proofs.declare.Statement.{statement}
 use Rattle.theory.proofs.declare.Tie as tie
-use Rattle.theory.proofs.declare.Reads as reads
-use Rattle.theory.proofs.declare.Lts as lts
-use Rattle.theory.proofs.declare_constructor.Reads as declare-constructor-reads
-use Rattle.theory.proofs.declare_predicate.Reads as declare-predicate-reads
-use Rattle.theory.proofs.declare_rule.Reads as declare-rule-reads
-use Rattle.theory.proofs.declare_sort.Reads as declare-sort-reads
 
--- src/lib.rt:461:50
 enum-told : tie.Need-enum-told
 enum-told c = search needs
 
--- src/lib.rt:461:23
 declare-sort-requires : tie.Need-declare-sort-requires
 declare-sort-requires c κs = search needs
 
--- src/lib.rt:462:64
 enum-told-2 : tie.Need-enum-told-2
 enum-told-2 c = search needs
 
--- src/lib.rt:462:30
 declare-constructor-requires : tie.Need-declare-constructor-requires
 declare-constructor-requires c κs = search needs
 
--- src/lib.rt:463:60
 enum-told-3 : tie.Need-enum-told-3
 enum-told-3 c = search needs
 
--- src/lib.rt:463:28
 declare-predicate-requires : tie.Need-declare-predicate-requires
 declare-predicate-requires c κs = search needs
 
--- src/lib.rt:464:50
 enum-told-4 : tie.Need-enum-told-4
 enum-told-4 c = search needs
 
--- src/lib.rt:464:23
 declare-rule-requires : tie.Need-declare-rule-requires
 declare-rule-requires c κs = search needs
 
--- src/lib.rt:465:24
 enum-told-5 : tie.Need-enum-told-5
 enum-told-5 c = search needs
 
--- src/lib.rt:450:1
 same-length : tie.Need-same-length
 same-length c = search needs
 
--- src/lib.rt:450:1
 returns : tie.Need-returns
 returns c = rw (c .before .before .before .before .enum-told .given .1, ← c .before .before .declare-sort .ensures)
 
--- src/lib.rt:450:1
 same-length-2 : tie.Need-same-length-2
 same-length-2 c = search needs
 
--- src/lib.rt:450:1
 returns-2 : tie.Need-returns-2
 returns-2 c = rw (c .before .before .before .before .enum-told2 .given .1, ← c .before .before .declare-constructor .ensures)
 
--- src/lib.rt:450:1
 same-length-3 : tie.Need-same-length-3
 same-length-3 c = search needs
 
--- src/lib.rt:450:1
 returns-3 : tie.Need-returns-3
 returns-3 c = rw (c .before .before .before .before .enum-told3 .given .1, ← c .before .before .declare-predicate .ensures)
 
--- src/lib.rt:450:1
 same-length-4 : tie.Need-same-length-4
 same-length-4 c = search needs
 
--- src/lib.rt:450:1
 same-length-5 : tie.Need-same-length-5
 same-length-5 c = search needs
 
--- src/lib.rt:450:1
 returns-4 : tie.Need-returns-4
 returns-4 c = rw (c .before .before .before .before .before .before .before .enum-told4 .given .1, ← c .before .before .before .before .declare-rule .ensures)
 
--- src/lib.rt:450:1
 returns-5 : tie.Need-returns-5
 returns-5 c = rw (c .enum-told5 .given .1)
 

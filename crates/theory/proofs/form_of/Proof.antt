@@ -1,86 +1,67 @@
-use Rattle.theory.specs.Declarations.{formOf, formNamed}
-use Rattle.words.specs.Parts.{part}
+-- `theory::form_of` meets its contract. Assumes nothing.
 use borrow.Author.Tests.{eq-eqb, ne-eqb}
 use borrow.Author.Needs.{needs}
+use Rattle.theory.specs.Declarations.{formOf, formNamed}
+use Rattle.words.specs.Parts.{part}
 use Rattle.theory.proofs.form_of.Statement.{statement}
 use Rattle.theory.proofs.form_of.Tie as tie
-use Rattle.theory.proofs.form_of.Reads as reads
-use Rattle.theory.proofs.form_of.Lts as lts
-use Rattle.words.proofs.same_bytes.Reads as same-bytes-reads
 
--- src/lib.rt:424:38
 slice-aggregate-same-bytes : tie.Need-slice-aggregate-same-bytes
 slice-aggregate-same-bytes c = search needs
 
--- src/lib.rt:424:8
 same-bytes-requires : tie.Need-same-bytes-requires
 same-bytes-requires c κs = search needs
 
--- src/lib.rt:426:13
 returns : tie.Need-returns
 unfolding formOf formNamed part
 returns c = rw (← c .before .before .same-bytes .ensures, c .before .if1 .taken, eq-eqb _ _ (c .if2 .taken))
 
--- src/lib.rt:428:9
 returns-2 : tie.Need-returns-2
 unfolding formOf formNamed part
 returns-2 c = rw (← c .before .before .same-bytes .ensures, c .before .if1 .taken, ne-eqb _ _ (c .if2 .left))
 
--- src/lib.rt:430:38
 slice-aggregate-same-bytes-2 : tie.Need-slice-aggregate-same-bytes-2
 slice-aggregate-same-bytes-2 c = search needs
 
--- src/lib.rt:430:8
 same-bytes-requires-2 : tie.Need-same-bytes-requires-2
 same-bytes-requires-2 c κs = search needs
 
--- src/lib.rt:432:13
 returns-3 : tie.Need-returns-3
 unfolding formOf formNamed part
 returns-3 c = rw (← c .before .before .before .before .before .same-bytes .ensures, c .before .before .before .before .if1 .left, ← c .before .before .same-bytes2 .ensures, c .before .if3 .taken, eq-eqb _ _ (c .if4 .taken))
 
--- src/lib.rt:434:9
 returns-4 : tie.Need-returns-4
 unfolding formOf formNamed part
 returns-4 c = rw (← c .before .before .before .before .before .same-bytes .ensures, c .before .before .before .before .if1 .left, ← c .before .before .same-bytes2 .ensures, c .before .if3 .taken, ne-eqb _ _ (c .if4 .left))
 
--- src/lib.rt:436:38
 slice-aggregate-same-bytes-3 : tie.Need-slice-aggregate-same-bytes-3
 slice-aggregate-same-bytes-3 c = search needs
 
--- src/lib.rt:436:8
 same-bytes-requires-3 : tie.Need-same-bytes-requires-3
 same-bytes-requires-3 c κs = search needs
 
--- src/lib.rt:438:13
 returns-5 : tie.Need-returns-5
 unfolding formOf formNamed part
 returns-5 c = rw (← c .before .before .before .before .before .before .before .before .same-bytes .ensures, c .before .before .before .before .before .before .before .if1 .left, ← c .before .before .before .before .before .same-bytes2 .ensures, c .before .before .before .before .if3 .left, ← c .before .before .same-bytes3 .ensures, c .before .if5 .taken, eq-eqb _ _ (c .if6 .taken))
 
--- src/lib.rt:440:9
 returns-6 : tie.Need-returns-6
 unfolding formOf formNamed part
 returns-6 c = rw (← c .before .before .before .before .before .before .before .before .same-bytes .ensures, c .before .before .before .before .before .before .before .if1 .left, ← c .before .before .before .before .before .same-bytes2 .ensures, c .before .before .before .before .if3 .left, ← c .before .before .same-bytes3 .ensures, c .before .if5 .taken, ne-eqb _ _ (c .if6 .left))
 
--- src/lib.rt:442:38
 slice-aggregate-same-bytes-4 : tie.Need-slice-aggregate-same-bytes-4
 slice-aggregate-same-bytes-4 c = search needs
 
--- src/lib.rt:442:8
 same-bytes-requires-4 : tie.Need-same-bytes-requires-4
 same-bytes-requires-4 c κs = search needs
 
--- src/lib.rt:444:13
 returns-7 : tie.Need-returns-7
 unfolding formOf formNamed part
 returns-7 c = rw (← c .before .before .before .before .before .before .before .before .before .before .before .same-bytes .ensures, c .before .before .before .before .before .before .before .before .before .before .if1 .left, ← c .before .before .before .before .before .before .before .before .same-bytes2 .ensures, c .before .before .before .before .before .before .before .if3 .left, ← c .before .before .before .before .before .same-bytes3 .ensures, c .before .before .before .before .if5 .left, ← c .before .before .same-bytes4 .ensures, c .before .if7 .taken, eq-eqb _ _ (c .if8 .taken))
 
--- src/lib.rt:421:1
 returns-8 : tie.Need-returns-8
 unfolding formOf formNamed part
 returns-8 c = rw (← c .before .before .before .before .before .before .before .before .before .before .before .same-bytes .ensures, c .before .before .before .before .before .before .before .before .before .before .if1 .left, ← c .before .before .before .before .before .before .before .before .same-bytes2 .ensures, c .before .before .before .before .before .before .before .if3 .left, ← c .before .before .before .before .before .same-bytes3 .ensures, c .before .before .before .before .if5 .left, ← c .before .before .same-bytes4 .ensures, c .before .if7 .taken, ne-eqb _ _ (c .if8 .left))
 
--- src/lib.rt:421:1
 returns-9 : tie.Need-returns-9
 unfolding formOf formNamed part
 returns-9 c = rw (← c .before .before .before .before .before .before .before .before .before .before .same-bytes .ensures, c .before .before .before .before .before .before .before .before .before .if1 .left, ← c .before .before .before .before .before .before .before .same-bytes2 .ensures, c .before .before .before .before .before .before .if3 .left, ← c .before .before .before .before .same-bytes3 .ensures, c .before .before .before .if5 .left, ← c .before .same-bytes4 .ensures, c .if7 .left)

@@ -1,101 +1,72 @@
-use Rattle.theory.specs.Declarations.{declaration}
+-- `theory::judge` meets its contract. Assumes nothing.
 use borrow.Author.Needs.{needs}
+use Rattle.theory.specs.Declarations.{declaration}
 use Rattle.theory.proofs.judge.Statement.{statement}
 use Rattle.theory.proofs.judge.Tie as tie
-use Rattle.theory.proofs.judge.Reads as reads
-use Rattle.theory.proofs.judge.Lts as lts
-use Rattle.patterns.proofs.head.Reads as head-reads
-use Rattle.patterns.proofs.named_refusal.Reads as named-refusal-reads
-use Rattle.patterns.proofs.next_list.Reads as next-list-reads
-use Rattle.patterns.proofs.numbered_refusal.Reads as numbered-refusal-reads
-use Rattle.patterns.proofs.walked_refusal.Reads as walked-refusal-reads
-use Rattle.theory.proofs.declare.Reads as declare-reads
-use Rattle.theory.proofs.form_of.Reads as form-of-reads
 
--- src/lib.rt:472:9
 next-list-requires : tie.Need-next-list-requires
 next-list-requires c κs = search needs
 
--- src/lib.rt:473:23
 enum-known-l : tie.Need-enum-known-l
 enum-known-l c = search needs
 
--- src/lib.rt:474:34
 enum-told : tie.Need-enum-told
 enum-told c = search needs
 
--- src/lib.rt:474:34
 numbered-refusal-requires : tie.Need-numbered-refusal-requires
 numbered-refusal-requires c κs = search needs
 
--- src/lib.rt:474:9
 returns : tie.Need-returns
 unfolding declaration
 returns c = rw (c .numbered-refusal .ensures, ← c .before .before .before .next-list .ensures, c .before .enum-told .given .1)
 
--- src/lib.rt:476:9
 head-requires : tie.Need-head-requires
 head-requires c κs = search needs
 
--- src/lib.rt:477:21
 enum-known-h : tie.Need-enum-known-h
 enum-known-h c = search needs
 
--- src/lib.rt:478:34
 enum-told-2 : tie.Need-enum-told-2
 enum-told-2 c = search needs
 
--- src/lib.rt:478:34
 named-refusal-requires : tie.Need-named-refusal-requires
 named-refusal-requires c κs = search needs
 
--- src/lib.rt:478:9
 returns-2 : tie.Need-returns-2
 unfolding declaration
 returns-2 c = rw (c .named-refusal .ensures, ← c .before .before .before .before .before .before .before .next-list .ensures, c .before .before .before .before .before .l .given .1, ← c .before .before .before .head .ensures, c .before .enum-told2 .given .1)
 
--- src/lib.rt:480:9
 form-of-requires : tie.Need-form-of-requires
 form-of-requires c κs = search needs
 
--- src/lib.rt:481:9
 declare-requires : tie.Need-declare-requires
 declare-requires c κs = search needs
 
--- src/lib.rt:482:20
 enum-known-d : tie.Need-enum-known-d
 enum-known-d c = search needs
 
--- src/lib.rt:483:34
 enum-told-3 : tie.Need-enum-told-3
 enum-told-3 c = search needs
 
--- src/lib.rt:483:34
 walked-refusal-requires : tie.Need-walked-refusal-requires
 walked-refusal-requires c κs = search needs
 
--- src/lib.rt:483:9
 same-length : tie.Need-same-length
 same-length c = search needs
 
--- src/lib.rt:483:9
 same-length-2 : tie.Need-same-length-2
 same-length-2 c = search needs
 
--- src/lib.rt:483:9
 returns-3 : tie.Need-returns-3
 unfolding declaration
 returns-3 c = rw (c .walked-refusal .ensures, ← c .before .before .before .before .before .before .before .before .before .before .before .before .before .before .before .before .before .before .next-list .ensures, c .before .before .before .before .before .before .before .before .before .before .before .before .before .before .before .before .l .given .1, ← c .before .before .before .before .before .before .before .before .before .before .before .before .before .before .head .ensures, c .before .before .before .before .before .before .before .before .before .before .before .before .h .given .1, ← c .before .before .before .before .before .before .before .before .before .before .form-of .ensures, ← c .before .before .before .before .before .before .before .declare .ensures, c .before .enum-told3 .given .1)
 
--- src/lib.rt:469:1
 same-length-3 : tie.Need-same-length-3
 same-length-3 c = search needs
 
--- src/lib.rt:469:1
 same-length-4 : tie.Need-same-length-4
 same-length-4 c = search needs
 
--- src/lib.rt:469:1
 returns-4 : tie.Need-returns-4
 unfolding declaration
 returns-4 c = rw (← c .before .before .before .before .before .before .before .before .before .before .before .before .before .before .before .before .before .before .next-list .ensures, c .before .before .before .before .before .before .before .before .before .before .before .before .before .before .before .before .l .given .1, ← c .before .before .before .before .before .before .before .before .before .before .before .before .before .before .head .ensures, c .before .before .before .before .before .before .before .before .before .before .before .before .h .given .1, ← c .before .before .before .before .before .before .before .before .before .before .form-of .ensures, ← c .before .before .before .before .before .before .before .declare .ensures, c .before .d .given .1)

@@ -1,40 +1,31 @@
+-- `theory::look` meets its contract. Assumes nothing.
+use borrow.Author.Needs.{needs}
 use Rattle.theory.specs.Declarations.{moreDue}
 use Rattle.lex.specs.Answers.{answer}
 use Rattle.horn.specs.Refusals.{number}
-use borrow.Author.Needs.{needs}
 use Rattle.theory.proofs.look.Statement.{statement}
 use Rattle.theory.proofs.look.Tie as tie
-use Rattle.theory.proofs.look.Reads as reads
-use Rattle.theory.proofs.look.Lts as lts
-use Rattle.lex.proofs.Reader.peek.Reads as peek-reads
 
--- src/lib.rt:525:9
 peek-requires : tie.Need-peek-requires
 peek-requires c κs = search needs
 
--- src/lib.rt:527:22
 enum-told : tie.Need-enum-told
 enum-told c = search needs
 
--- src/lib.rt:528:22
 enum-told-2 : tie.Need-enum-told-2
 enum-told-2 c = search needs
 
--- src/lib.rt:529:22
 enum-known-read : tie.Need-enum-known-read
 enum-known-read c = search needs
 
--- src/lib.rt:521:1
 returns : tie.Need-returns
 unfolding moreDue answer
 returns c = rw (← c .before .before .peek .ensures, c .enum-told .given .1)
 
--- src/lib.rt:521:1
 returns-2 : tie.Need-returns-2
 unfolding moreDue answer number
 returns-2 c = rw (← c .before .before .peek .ensures, c .enum-told2 .given .1)
 
--- src/lib.rt:521:1
 returns-3 : tie.Need-returns-3
 unfolding moreDue answer
 returns-3 c = rw (← c .before .before .before .peek .ensures, c .before .read .given .1)

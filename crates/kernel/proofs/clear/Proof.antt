@@ -1,0 +1,21 @@
+use borrow.Author.Needs.{needs}
+use Rattle.kernel.proofs.clear.Statement.{statement}
+use Rattle.kernel.proofs.clear.Tie as tie
+use Rattle.kernel.proofs.clear.Reads as reads
+use Rattle.kernel.proofs.clear.Lts as lts
+use Rattle.words.proofs.clear.Reads as clear-reads
+
+-- src/lib.rt:54:5
+clear-requires : tie.Need-clear-requires
+clear-requires c κs = search needs
+
+-- src/lib.rt:50:1
+same-length : tie.Need-same-length
+same-length c = search needs
+
+-- src/lib.rt:50:1
+returns : tie.Need-returns
+returns c = search needs
+
+pub clear-spec : {M : Type 1} → statement M
+clear-spec = tie.close (tie.spec clear-requires same-length returns)

@@ -1,0 +1,15 @@
+-- `patterns::items::is_question` meets its contract. Assumes nothing.
+use borrow.Author.Needs.{needs}
+use Rattle.patterns.specs.Items.{question}
+use Rattle.patterns.proofs.items.is_question.Statement.{statement}
+use Rattle.patterns.proofs.items.is_question.Tie as tie
+
+byte-requires : tie.Need-byte-requires
+byte-requires c κs = search needs
+
+returns : tie.Need-returns
+unfolding question
+returns c = rw (← c .byte .ensures)
+
+pub is-question-spec : {M : Type 1} → statement M
+is-question-spec = tie.close (tie.spec byte-requires returns)

@@ -1,0 +1,34 @@
+-- `patterns::items::next_list` meets its contract. Assumes nothing.
+use borrow.Author.Needs.{needs}
+use Rattle.patterns.specs.Items.{listDue}
+use Rattle.patterns.proofs.items.next_list.Statement.{statement}
+use Rattle.patterns.proofs.items.next_list.Tie as tie
+
+next-item-requires : tie.Need-next-item-requires
+next-item-requires c κs = search needs
+
+enum-told : tie.Need-enum-told
+enum-told c = search needs
+
+enum-known-i : tie.Need-enum-known-i
+enum-known-i c = search needs
+
+enum-known-i-2 : tie.Need-enum-known-i-2
+enum-known-i-2 c = search needs
+
+returns : tie.Need-returns
+unfolding listDue
+returns c = rw (← c .before .before .next-item .ensures, c .enum-told .given .1)
+
+returns-2 : tie.Need-returns-2
+unfolding listDue
+returns-2 c = rw (← c .before .before .before .next-item .ensures, c .before .i .given .1)
+
+returns-3 : tie.Need-returns-3
+unfolding listDue
+returns-3 c = rw (← c .before .before .before .next-item .ensures, c .before .i2 .given .1)
+
+pub next-list-spec : {M : Type 1} → statement M
+next-list-spec =
+    tie.close
+    (tie.spec next-item-requires enum-told enum-known-i enum-known-i-2 returns returns-2 returns-3)

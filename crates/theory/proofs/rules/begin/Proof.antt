@@ -1,0 +1,15 @@
+-- `theory::rules::begin` meets its contract. Assumes nothing.
+use borrow.Author.Needs.{needs}
+use Rattle.theory.specs.Rules.{begun}
+use Rattle.theory.proofs.rules.begin.Statement.{statement}
+use Rattle.theory.proofs.rules.begin.Tie as tie
+
+plus-requires : tie.Need-plus-requires
+plus-requires c κs = search needs
+
+returns : tie.Need-returns
+unfolding begun
+returns c = rw (c .plus .ensures)
+
+pub begin-spec : {M : Type 1} → statement M
+begin-spec = tie.close (tie.spec plus-requires returns)

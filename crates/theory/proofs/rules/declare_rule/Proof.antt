@@ -1,0 +1,119 @@
+-- `theory::rules::declare_rule` meets its contract. Assumes nothing.
+use borrow.Author.Needs.{needs}
+use Rattle.theory.specs.Rules.{ruleDeclared}
+use Rattle.theory.proofs.rules.declare_rule.Statement.{statement}
+use Rattle.theory.proofs.rules.declare_rule.Tie as tie
+
+keep-name-requires : tie.Need-keep-name-requires
+keep-name-requires c κs = search needs
+
+enum-known-k : tie.Need-enum-known-k
+enum-known-k c = search needs
+
+enum-told : tie.Need-enum-told
+enum-told c = search needs
+
+kept-refusal-requires : tie.Need-kept-refusal-requires
+kept-refusal-requires c κs = search needs
+
+returns : tie.Need-returns
+unfolding ruleDeclared
+returns c = rw (c .kept-refusal .ensures, ← c .before .before .before .keep-name .ensures, c .before .enum-told .given .1)
+
+begin-requires : tie.Need-begin-requires
+begin-requires c κs = search needs
+
+read-body-requires : tie.Need-read-body-requires
+read-body-requires c κs = search needs
+
+enum-known-b : tie.Need-enum-known-b
+enum-known-b c = search needs
+
+enum-told-2 : tie.Need-enum-told-2
+enum-told-2 c = search needs
+
+numbered-refusal-requires : tie.Need-numbered-refusal-requires
+numbered-refusal-requires c κs = search needs
+
+same-length : tie.Need-same-length
+same-length c = search needs
+
+same-length-2 : tie.Need-same-length-2
+same-length-2 c = search needs
+
+returns-2 : tie.Need-returns-2
+unfolding ruleDeclared
+returns-2 c = rw (c .numbered-refusal .ensures, ← c .before .before .before .before .before .before .before .before .before .before .before .before .before .before .keep-name .ensures, c .before .before .before .before .before .before .before .before .before .before .before .before .k .given .1, ← c .before .before .before .before .before .before .before .before .begin .ensures, ← c .before .before .before .before .before .before .before .read-body .ensures, c .before .enum-told2 .given .1)
+
+enum-known-name : tie.Need-enum-known-name
+enum-known-name c = search needs
+
+enum-told-3 : tie.Need-enum-told-3
+enum-told-3 c = search needs
+
+same-length-3 : tie.Need-same-length-3
+same-length-3 c = search needs
+
+same-length-4 : tie.Need-same-length-4
+same-length-4 c = search needs
+
+returns-3 : tie.Need-returns-3
+unfolding ruleDeclared
+returns-3 c = rw (← c .before .before .before .before .before .before .before .before .before .before .before .before .before .before .before .before .keep-name .ensures, c .before .before .before .before .before .before .before .before .before .before .before .before .before .before .k .given .1, ← c .before .before .before .before .before .before .before .before .before .before .begin .ensures, ← c .before .before .before .before .before .before .before .before .before .read-body .ensures, c .before .before .before .b .given .1, c .enum-told3 .given .1)
+
+is-question-requires : tie.Need-is-question-requires
+is-question-requires c κs = search needs
+
+same-length-5 : tie.Need-same-length-5
+same-length-5 c = search needs
+
+same-length-6 : tie.Need-same-length-6
+same-length-6 c = search needs
+
+returns-4 : tie.Need-returns-4
+unfolding ruleDeclared
+returns-4 c = rw (← c .before .before .before .before .before .before .before .before .before .before .before .before .before .before .before .before .before .before .before .keep-name .ensures, c .before .before .before .before .before .before .before .before .before .before .before .before .before .before .before .before .before .k .given .1, ← c .before .before .before .before .before .before .before .before .before .before .before .before .before .begin .ensures, ← c .before .before .before .before .before .before .before .before .before .before .before .before .read-body .ensures, c .before .before .before .before .before .before .b .given .1, c .before .before .before .name .given .1, ← c .before .is-question .ensures, c .if1 .taken)
+
+enter-rule-requires : tie.Need-enter-rule-requires
+enter-rule-requires c κs = search needs
+
+same-length-7 : tie.Need-same-length-7
+same-length-7 c = search needs
+
+same-length-8 : tie.Need-same-length-8
+same-length-8 c = search needs
+
+returns-5 : tie.Need-returns-5
+unfolding ruleDeclared
+returns-5 c = rw (← c .before .before .before .before .before .before .before .before .before .before .before .before .before .before .before .before .before .before .before .before .before .before .before .before .keep-name .ensures, c .before .before .before .before .before .before .before .before .before .before .before .before .before .before .before .before .before .before .before .before .before .before .k .given .1, ← c .before .before .before .before .before .before .before .before .before .before .before .before .before .before .before .before .before .before .begin .ensures, ← c .before .before .before .before .before .before .before .before .before .before .before .before .before .before .before .before .before .read-body .ensures, c .before .before .before .before .before .before .before .before .before .before .before .b .given .1, c .before .before .before .before .before .before .before .before .name .given .1, ← c .before .before .before .before .before .before .is-question .ensures, c .before .before .before .before .before .if1 .left, ← c .before .before .enter-rule .ensures)
+
+pub declare-rule-spec : {M : Type 1} → statement M
+declare-rule-spec =
+    tie.close
+    (tie.spec
+    keep-name-requires
+    enum-known-k
+    enum-told
+    kept-refusal-requires
+    returns
+    begin-requires
+    read-body-requires
+    enum-known-b
+    enum-told-2
+    numbered-refusal-requires
+    same-length
+    same-length-2
+    returns-2
+    enum-known-name
+    enum-told-3
+    same-length-3
+    same-length-4
+    returns-3
+    is-question-requires
+    same-length-5
+    same-length-6
+    returns-4
+    enter-rule-requires
+    same-length-7
+    same-length-8
+    returns-5)

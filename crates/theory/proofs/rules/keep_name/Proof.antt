@@ -1,0 +1,58 @@
+-- `theory::rules::keep_name` meets its contract. Assumes nothing.
+use borrow.Author.Needs.{needs}
+use Rattle.theory.specs.Rules.{nameKept}
+use Rattle.theory.proofs.rules.keep_name.Statement.{statement}
+use Rattle.theory.proofs.rules.keep_name.Tie as tie
+
+next-item-requires : tie.Need-next-item-requires
+next-item-requires c κs = search needs
+
+enum-known-i : tie.Need-enum-known-i
+enum-known-i c = search needs
+
+enum-known-i-2 : tie.Need-enum-known-i-2
+enum-known-i-2 c = search needs
+
+enum-known-i-3 : tie.Need-enum-known-i-3
+enum-known-i-3 c = search needs
+
+skip-requires : tie.Need-skip-requires
+skip-requires c κs = search needs
+
+enum-known-p : tie.Need-enum-known-p
+enum-known-p c = search needs
+
+enum-known-p-2 : tie.Need-enum-known-p-2
+enum-known-p-2 c = search needs
+
+returns : tie.Need-returns
+unfolding nameKept
+returns c = rw (← c .before .before .before .next-item .ensures, c .before .i .given .1)
+
+returns-2 : tie.Need-returns-2
+unfolding nameKept
+returns-2 c = rw (← c .before .before .before .next-item .ensures, c .before .i2 .given .1)
+
+returns-3 : tie.Need-returns-3
+unfolding nameKept
+returns-3 c = rw (← c .before .before .before .before .before .before .before .next-item .ensures, c .before .before .before .before .before .i3 .given .1, ← c .before .before .before .skip .ensures, c .before .p .given .1)
+
+returns-4 : tie.Need-returns-4
+unfolding nameKept
+returns-4 c = rw (← c .before .before .before .before .before .before .before .next-item .ensures, c .before .before .before .before .before .i3 .given .1, ← c .before .before .before .skip .ensures, c .before .p2 .given .1)
+
+pub keep-name-spec : {M : Type 1} → statement M
+keep-name-spec =
+    tie.close
+    (tie.spec
+    next-item-requires
+    enum-known-i
+    enum-known-i-2
+    enum-known-i-3
+    skip-requires
+    enum-known-p
+    enum-known-p-2
+    returns
+    returns-2
+    returns-3
+    returns-4)

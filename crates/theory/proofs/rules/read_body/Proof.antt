@@ -1,0 +1,102 @@
+-- `theory::rules::read_body` meets its contract. Assumes nothing.
+use borrow.Author.Needs.{needs}
+use Rattle.theory.specs.Rules.{bodyRead}
+use Rattle.theory.proofs.rules.read_body.Statement.{statement}
+use Rattle.theory.proofs.rules.read_body.Tie as tie
+
+next-list-requires : tie.Need-next-list-requires
+next-list-requires c κs = search needs
+
+enum-known-l : tie.Need-enum-known-l
+enum-known-l c = search needs
+
+enum-told : tie.Need-enum-told
+enum-told c = search needs
+
+numbered-refusal-requires : tie.Need-numbered-refusal-requires
+numbered-refusal-requires c κs = search needs
+
+returns : tie.Need-returns
+unfolding bodyRead
+returns c = rw (c .numbered-refusal .ensures, ← c .before .before .before .next-list .ensures, c .before .enum-told .given .1)
+
+judgments-requires : tie.Need-judgments-requires
+judgments-requires c κs = search needs
+
+enum-known-j : tie.Need-enum-known-j
+enum-known-j c = search needs
+
+enum-told-2 : tie.Need-enum-told-2
+enum-told-2 c = search needs
+
+walked-refusal-requires : tie.Need-walked-refusal-requires
+walked-refusal-requires c κs = search needs
+
+same-length : tie.Need-same-length
+same-length c = search needs
+
+same-length-2 : tie.Need-same-length-2
+same-length-2 c = search needs
+
+returns-2 : tie.Need-returns-2
+unfolding bodyRead
+returns-2 c = rw (c .walked-refusal .ensures, ← c .before .before .before .before .before .before .before .before .before .before .before .before .before .next-list .ensures, c .before .before .before .before .before .before .before .before .before .before .before .l .given .1, ← c .before .before .before .before .before .before .before .judgments .ensures, c .before .enum-told2 .given .1)
+
+judgment-requires : tie.Need-judgment-requires
+judgment-requires c κs = search needs
+
+enum-known-k : tie.Need-enum-known-k
+enum-known-k c = search needs
+
+enum-told-3 : tie.Need-enum-told-3
+enum-told-3 c = search needs
+
+walked-refusal-requires-2 : tie.Need-walked-refusal-requires-2
+walked-refusal-requires-2 c κs = search needs
+
+same-length-3 : tie.Need-same-length-3
+same-length-3 c = search needs
+
+same-length-4 : tie.Need-same-length-4
+same-length-4 c = search needs
+
+returns-3 : tie.Need-returns-3
+unfolding bodyRead
+returns-3 c = rw (c .walked-refusal2 .ensures, ← c .before .before .before .before .before .before .before .before .before .before .before .before .before .before .before .before .before .before .before .before .before .before .before .next-list .ensures, c .before .before .before .before .before .before .before .before .before .before .before .before .before .before .before .before .before .before .before .before .before .l .given .1, ← c .before .before .before .before .before .before .before .before .before .before .before .before .before .before .before .before .before .judgments .ensures, c .before .before .before .before .before .before .before .before .before .before .before .j .given .1, ← c .before .before .before .before .before .before .before .judgment .ensures, c .before .enum-told3 .given .1)
+
+same-length-5 : tie.Need-same-length-5
+same-length-5 c = search needs
+
+same-length-6 : tie.Need-same-length-6
+same-length-6 c = search needs
+
+returns-4 : tie.Need-returns-4
+unfolding bodyRead
+returns-4 c = rw (← c .before .before .before .before .before .before .before .before .before .before .before .before .before .before .before .before .before .before .before .before .before .before .before .next-list .ensures, c .before .before .before .before .before .before .before .before .before .before .before .before .before .before .before .before .before .before .before .before .before .l .given .1, ← c .before .before .before .before .before .before .before .before .before .before .before .before .before .before .before .before .before .judgments .ensures, c .before .before .before .before .before .before .before .before .before .before .before .j .given .1, ← c .before .before .before .before .before .before .before .judgment .ensures, c .before .k .given .1)
+
+pub read-body-spec : {M : Type 1} → statement M
+read-body-spec =
+    tie.close
+    (tie.spec
+    next-list-requires
+    enum-known-l
+    enum-told
+    numbered-refusal-requires
+    returns
+    judgments-requires
+    enum-known-j
+    enum-told-2
+    walked-refusal-requires
+    same-length
+    same-length-2
+    returns-2
+    judgment-requires
+    enum-known-k
+    enum-told-3
+    walked-refusal-requires-2
+    same-length-3
+    same-length-4
+    returns-3
+    same-length-5
+    same-length-6
+    returns-4)

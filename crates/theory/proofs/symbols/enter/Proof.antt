@@ -1,0 +1,44 @@
+-- `theory::symbols::enter` meets its contract. Assumes nothing.
+use borrow.Author.Needs.{needs}
+use Rattle.theory.specs.Symbols.{entered}
+use Rattle.theory.proofs.symbols.enter.Statement.{statement}
+use Rattle.theory.proofs.symbols.enter.Tie as tie
+
+find-requires : tie.Need-find-requires
+find-requires c κs = search needs
+
+enum-told : tie.Need-enum-told
+enum-told c = search needs
+
+enum-told-2 : tie.Need-enum-told-2
+enum-told-2 c = search needs
+
+add-requires : tie.Need-add-requires
+add-requires c κs = search needs
+
+same-length : tie.Need-same-length
+same-length c = search needs
+
+returns : tie.Need-returns
+unfolding entered
+returns c = rw (← c .before .before .find .ensures, c .enum-told .given .1)
+
+same-length-2 : tie.Need-same-length-2
+same-length-2 c = search needs
+
+returns-2 : tie.Need-returns-2
+unfolding entered
+returns-2 c = rw (← c .before .before .before .before .before .before .find .ensures, c .before .before .before .before .enum-told2 .given .1, c .before .before .add .ensures)
+
+pub enter-spec : {M : Type 1} → statement M
+enter-spec =
+    tie.close
+    (tie.spec
+    find-requires
+    enum-told
+    enum-told-2
+    add-requires
+    same-length
+    returns
+    same-length-2
+    returns-2)

@@ -1,0 +1,15 @@
+-- `theory::symbols::reserve` meets its contract. Assumes nothing.
+use borrow.Author.Needs.{needs}
+use Rattle.theory.specs.Symbols.{reserved}
+use Rattle.theory.proofs.symbols.reserve.Statement.{statement}
+use Rattle.theory.proofs.symbols.reserve.Tie as tie
+
+plus-requires : tie.Need-plus-requires
+plus-requires c κs = search needs
+
+returns : tie.Need-returns
+unfolding reserved
+returns c = rw (c .plus .ensures)
+
+pub reserve-spec : {M : Type 1} → statement M
+reserve-spec = tie.close (tie.spec plus-requires returns)

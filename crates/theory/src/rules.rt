@@ -1,0 +1,212 @@
+// Declarations of rules.
+ghost use mathlib.Core.Path.{_≡_};
+ghost use lib.ListN.{length};
+ghost use Rattle.patterns.specs.Outcomes.{ok, refusal};
+ghost use Rattle.patterns.specs.Leaving.{_leaving_};
+ghost use Rattle.patterns.specs.Items.{numbered, walked};
+ghost use Rattle.theory.specs.Rules.{kept, passed, skipped, nameKept, begun, bodyRead, variablesStored, ruleEntered, ruleDeclared};
+use super::Kept;
+use super::RuleName;
+use super::symbols;
+use lex::Read;
+use lex::Token;
+use patterns::Item;
+use patterns::Numbered;
+use patterns::Walk;
+use patterns::Walked;
+
+pub fn kept_refusal(r: Kept) -> u32
+    ensures { λ n. ⌜ n ≡ refusal (kept r) ⌝ }
+{
+    match r {
+        Kept::Got(_, _) => 0,
+        Kept::Refused(n) => n,
+    }
+}
+
+// How far the next token goes down into lists, and 1.
+pub fn pass(text: &[u8], w: Walk) -> Numbered
+    ensures { λ r. ⌜ numbered r ≡ passed (now (text .entry)) w ⌝ }
+{
+    let reader = w.reader;
+    let opened = w.opened;
+    let read = reader.token(text);
+    match read {
+        Read::End => Numbered::Refused(5),
+        Read::Bad => Numbered::Refused(3),
+        Read::Got(token, next) => match token {
+            Token::Opening => Numbered::Got(
+                2,
+                Walk {
+                    reader: next,
+                    opened: patterns::plus(opened, 1),
+                    top: w.top,
+                    variables: w.variables,
+                },
+            ),
+            Token::Closing => Numbered::Got(
+                0,
+                Walk {
+                    reader: next,
+                    opened,
+                    top: w.top,
+                    variables: w.variables,
+                },
+            ),
+            Token::Atom(_, _) => Numbered::Got(
+                1,
+                Walk {
+                    reader: next,
+                    opened,
+                    top: w.top,
+                    variables: w.variables,
+                },
+            ),
+        },
+    }
+}
+
+// Past the closing of a list whose opening was taken.
+pub fn skip(text: &[u8], w: Walk) -> Walked
+    ensures { λ r. ⌜ walked r ≡ skipped (length (now (text .entry))) 1 (now (text .entry)) w ⌝ }
+{
+    let mut v = w;
+    let mut depth: u32 = 1;
+    let mut fuel = text.len();
+    while 0 < depth {
+        if fuel == 0 {
+            return Walked::Refused(4);
+        }
+        let p = pass(text, v);
+        let Numbered::Got(k, q) = p else {
+            return Walked::Refused(patterns::numbered_refusal(p));
+        };
+        v = q;
+        depth = patterns::plus(depth - 1, k);
+        fuel -= 1;
+    }
+    Walked::To(v)
+}
+
+pub fn keep_name(text: &[u8], counts: &[u32], w: Walk) -> Kept
+    ensures { λ r. ⌜ kept r ≡ nameKept (now (text .entry)) (now (counts .entry)) w ⌝ }
+{
+    let i = patterns::items::next_item(text, counts, w);
+    match i {
+        Item::Refused(n) => Kept::Refused(n),
+        Item::Atom(s, t, q) => Kept::Got(RuleName::Atom(s, t), q),
+        Item::List(_, q) => {
+            let p = skip(text, q);
+            match p {
+                Walked::Refused(n) => Kept::Refused(n),
+                Walked::To(o) => Kept::Got(RuleName::List, o),
+            }
+        }
+    }
+}
+
+pub fn begin(w: Walk) -> Walk
+    ensures { λ r. ⌜ r ≡ begun w ⌝ }
+{
+    let reader = w.reader;
+    Walk {
+        reader,
+        opened: w.opened,
+        top: patterns::plus(w.top, 5),
+        variables: 0,
+    }
+}
+
+// A rule's premises and its conclusion.
+pub fn read_body(
+    text: &[u8],
+    counts: &[u32],
+    vars: &mut [u32],
+    heap: &mut [u32],
+    w: Walk,
+) -> Numbered
+    ensures { λ r. ⌜ (numbered r leaving (now (vars .exit), now (heap .exit))) ≡ bodyRead (now (text .entry)) (now (counts .entry)) w (now (vars .entry)) (now (heap .entry)) ⌝ }
+{
+    let l = patterns::items::next_list(text, counts, w);
+    let Numbered::Got(n, q) = l else {
+        return Numbered::Refused(patterns::numbered_refusal(l));
+    };
+    let j = patterns::judgments(text, counts, vars, heap, n, q);
+    let Walked::To(p) = j else {
+        return Numbered::Refused(patterns::walked_refusal(j));
+    };
+    let k = patterns::judgment(text, counts, vars, heap, p);
+    let Walked::To(o) = k else {
+        return Numbered::Refused(patterns::walked_refusal(k));
+    };
+    Numbered::Got(n, o)
+}
+
+// The rule's variables behind its patterns.
+pub fn store_variables(vars: &[u32], heap: &mut [u32], w: Walk) -> Walk
+    ensures { λ r. ⌜ (ok r leaving now (heap .exit)) ≡ variablesStored w (now (vars .entry)) (now (heap .entry)) ⌝ }
+{
+    let top = w.top;
+    let end = 3 * w.variables as usize;
+    let mut i: usize = 0;
+    while i < end {
+        let word = words::at(vars, i);
+        words::put(heap, top as usize + i, word);
+        i += 1;
+    }
+    let reader = w.reader;
+    Walk {
+        reader,
+        opened: w.opened,
+        top: patterns::low(top as usize + end),
+        variables: w.variables,
+    }
+}
+
+pub fn enter_rule(
+    text: &[u8],
+    vars: &[u32],
+    heap: &mut [u32],
+    e: u32,
+    s: usize,
+    t: usize,
+    n: u32,
+    w: Walk,
+) -> Walked
+    ensures { λ r. ⌜ (walked r leaving now (heap .exit)) ≡ ruleEntered (now (text .entry)) e s t n w (now (vars .entry)) (now (heap .entry)) ⌝ }
+{
+    let m = symbols::enter(text, heap, 768, e, s, t, w);
+    let Walked::To(q) = m else {
+        return Walked::Refused(patterns::walked_refusal(m));
+    };
+    symbols::describe(heap, e, n, q.variables);
+    let p = store_variables(vars, heap, q);
+    patterns::items::close(text, p)
+}
+
+pub fn declare_rule(
+    text: &[u8],
+    counts: &[u32],
+    vars: &mut [u32],
+    heap: &mut [u32],
+    w: Walk,
+) -> Walked
+    ensures { λ r. ⌜ (walked r leaving (now (vars .exit), now (heap .exit))) ≡ ruleDeclared (now (text .entry)) (now (counts .entry)) w (now (vars .entry)) (now (heap .entry)) ⌝ }
+{
+    let e = w.top;
+    let k = keep_name(text, counts, w);
+    let Kept::Got(name, q) = k else {
+        return Walked::Refused(kept_refusal(k));
+    };
+    let b = read_body(text, counts, vars, heap, begin(q));
+    let Numbered::Got(n, p) = b else {
+        return Walked::Refused(patterns::numbered_refusal(b));
+    };
+    let RuleName::Atom(s, t) = name else {
+        return Walked::Refused(7);
+    };
+    if patterns::items::is_question(text, s) {
+        return Walked::Refused(11);
+    }
+    enter_rule(text, vars, heap, e, s, t, n, p)
+}

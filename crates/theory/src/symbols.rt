@@ -1,0 +1,176 @@
+// Declarations of sorts, constructors and predicates.
+ghost use mathlib.Core.Path.{_≡_};
+ghost use Rattle.patterns.specs.Outcomes.{refusal};
+ghost use Rattle.patterns.specs.Leaving.{_leaving_};
+ghost use Rattle.patterns.specs.Items.{numbered, walked};
+ghost use Rattle.theory.specs.Symbols.{signed, reserved, sortNamed, entered, described, sortDeclared, inputs, signature};
+ghost use Rattle.theory.specs.Symbols.{symbolEntered, constructorDeclared, predicateDeclared};
+use super::Signature;
+use names::Found;
+use patterns::Named;
+use patterns::Numbered;
+use patterns::Walk;
+use patterns::Walked;
+
+pub fn signature_refusal(r: Signature) -> u32
+    ensures { λ n. ⌜ n ≡ refusal (signed r) ⌝ }
+{
+    match r {
+        Signature::Got(_, _, _, _) => 0,
+        Signature::Refused(n) => n,
+    }
+}
+
+// Keeps words of the theory free.
+pub fn reserve(w: Walk, n: u32) -> Walk
+    ensures { λ r. ⌜ r ≡ reserved w n ⌝ }
+{
+    let reader = w.reader;
+    Walk {
+        reader,
+        opened: w.opened,
+        top: patterns::plus(w.top, n),
+        variables: w.variables,
+    }
+}
+
+pub fn sort_named(text: &[u8], counts: &[u32], heap: &[u32], w: Walk) -> Numbered
+    ensures { λ r. ⌜ numbered r ≡ sortNamed (now (text .entry)) (now (counts .entry)) (now (heap .entry)) w ⌝ }
+{
+    let a = patterns::items::declared_name(text, counts, w);
+    let Named::Atom(s, t, q) = a else {
+        return Numbered::Refused(patterns::named_refusal(a));
+    };
+    let found = names::find(heap, 0, 256, text, text, s, t);
+    match found {
+        Found::At(e) => Numbered::Got(e, q),
+        Found::Nothing => Numbered::Refused(12),
+    }
+}
+
+// A new entry at e.
+pub fn enter(
+    text: &[u8],
+    heap: &mut [u32],
+    buckets: u32,
+    e: u32,
+    s: usize,
+    t: usize,
+    w: Walk,
+) -> Walked
+    ensures { λ r. ⌜ (walked r leaving now (heap .exit)) ≡ entered (now (text .entry)) buckets e s t w (now (heap .entry)) ⌝ }
+{
+    let found = names::find(heap, buckets, 256, text, text, s, t);
+    match found {
+        Found::At(_) => Walked::Refused(13),
+        Found::Nothing => {
+            names::add(heap, buckets, 256, e, text, s, t);
+            Walked::To(w)
+        }
+    }
+}
+
+// The two words behind an entry's name.
+pub fn describe(heap: &mut [u32], e: u32, a: u32, b: u32)
+    ensures { λ r. ⌜ now (heap .exit) ≡ described e a b (now (heap .entry)) ⌝ }
+{
+    words::put(heap, e as usize + 3, a);
+    words::put(heap, e as usize + 4, b);
+}
+
+pub fn declare_sort(text: &[u8], counts: &[u32], heap: &mut [u32], w: Walk) -> Walked
+    ensures { λ r. ⌜ (walked r leaving now (heap .exit)) ≡ sortDeclared (now (text .entry)) (now (counts .entry)) w (now (heap .entry)) ⌝ }
+{
+    let e = w.top;
+    let a = patterns::items::declared_name(text, counts, w);
+    let Named::Atom(s, t, q) = a else {
+        return Walked::Refused(patterns::named_refusal(a));
+    };
+    let n = enter(text, heap, 0, e, s, t, q);
+    let Walked::To(p) = n else {
+        return Walked::Refused(patterns::walked_refusal(n));
+    };
+    patterns::items::close(text, reserve(p, 3))
+}
+
+// A symbol's inputs, then the closing.
+pub fn read_inputs(text: &[u8], counts: &[u32], heap: &mut [u32], n: u32, w: Walk) -> Walked
+    ensures { λ r. ⌜ (walked r leaving now (heap .exit)) ≡ inputs n (now (text .entry)) (now (counts .entry)) w (now (heap .entry)) ⌝ }
+{
+    let mut v = w;
+    let mut left = n;
+    while 0 < left {
+        let s = sort_named(text, counts, heap, v);
+        let Numbered::Got(a, q) = s else {
+            return Walked::Refused(patterns::numbered_refusal(s));
+        };
+        v = patterns::push(heap, a, q);
+        left -= 1;
+    }
+    patterns::items::close(text, v)
+}
+
+pub fn read_signature(text: &[u8], counts: &[u32], heap: &mut [u32], w: Walk) -> Signature
+    ensures { λ r. ⌜ (signed r leaving now (heap .exit)) ≡ signature (now (text .entry)) (now (counts .entry)) w (now (heap .entry)) ⌝ }
+{
+    let a = patterns::items::declared_name(text, counts, w);
+    let Named::Atom(s, t, q) = a else {
+        return Signature::Refused(patterns::named_refusal(a));
+    };
+    let l = patterns::items::next_list(text, counts, q);
+    let Numbered::Got(n, p) = l else {
+        return Signature::Refused(patterns::numbered_refusal(l));
+    };
+    let i = read_inputs(text, counts, heap, n, reserve(p, 5));
+    let Walked::To(o) = i else {
+        return Signature::Refused(patterns::walked_refusal(i));
+    };
+    Signature::Got(s, t, n, o)
+}
+
+pub fn enter_symbol(
+    text: &[u8],
+    heap: &mut [u32],
+    buckets: u32,
+    e: u32,
+    s: usize,
+    t: usize,
+    output: u32,
+    n: u32,
+    w: Walk,
+) -> Walked
+    ensures { λ r. ⌜ (walked r leaving now (heap .exit)) ≡ symbolEntered (now (text .entry)) buckets e s t output n w (now (heap .entry)) ⌝ }
+{
+    let m = enter(text, heap, buckets, e, s, t, w);
+    let Walked::To(q) = m else {
+        return Walked::Refused(patterns::walked_refusal(m));
+    };
+    describe(heap, e, output, n);
+    patterns::items::close(text, q)
+}
+
+pub fn declare_constructor(text: &[u8], counts: &[u32], heap: &mut [u32], w: Walk) -> Walked
+    ensures { λ r. ⌜ (walked r leaving now (heap .exit)) ≡ constructorDeclared (now (text .entry)) (now (counts .entry)) w (now (heap .entry)) ⌝ }
+{
+    let e = w.top;
+    let g = read_signature(text, counts, heap, w);
+    let Signature::Got(s, t, n, q) = g else {
+        return Walked::Refused(signature_refusal(g));
+    };
+    let o = sort_named(text, counts, heap, q);
+    let Numbered::Got(output, p) = o else {
+        return Walked::Refused(patterns::numbered_refusal(o));
+    };
+    enter_symbol(text, heap, 256, e, s, t, output, n, p)
+}
+
+pub fn declare_predicate(text: &[u8], counts: &[u32], heap: &mut [u32], w: Walk) -> Walked
+    ensures { λ r. ⌜ (walked r leaving now (heap .exit)) ≡ predicateDeclared (now (text .entry)) (now (counts .entry)) w (now (heap .entry)) ⌝ }
+{
+    let e = w.top;
+    let g = read_signature(text, counts, heap, w);
+    let Signature::Got(s, t, n, q) = g else {
+        return Walked::Refused(signature_refusal(g));
+    };
+    enter_symbol(text, heap, 512, e, s, t, 0, n, q)
+}

@@ -1,0 +1,154 @@
+-- Judgments of a rule: the walk reads what the definition reads, and the words that it writes stand for it.
+-- Assumes nothing.
+use mathlib.Core.Path.{_≡_, refl, ap, sym, subst, _∙_}
+use mathlib.Core.Bool.{Bool, true, false, not}
+use mathlib.Core.List.{List, [], _∷_, _++_}
+use Prim.Native.Nat.{ℕ, zero, suc, _+_, _*_, _≤_, _<_}
+use native.Mathlib.Omega.{arith}
+use lib.ListN.{length, getD, set}
+use Rattle.horn.specs.Refusals.{Refusal, number, Result, ok, refused, need, _>>=_, sortArity}
+use Rattle.horn.specs.Names.{Name}
+use Rattle.horn.specs.Tokens.{Stream, _▹_, Token, opening, closing, atom}
+use Rattle.horn.specs.NestedLists.{Sexp, leaf, list, Sexps, []ₛ, _∷ₛ_}
+use Rattle.horn.specs.Rulebook as definition
+use Rattle.horn.specs.Rulebook.{judgment, Variable, Pattern, isPredicate, Theory, fits, count}
+use Rattle.lex.specs.declared.Reader.{Reader}
+use Rattle.sexp.specs.Flattening.{flatOne, flat, size, countsOne, countsAll}
+use Rattle.patterns.specs.Outcomes as outcomes
+use Rattle.patterns.specs.Leaving.{Did, _leaving_}
+use Rattle.patterns.specs.Items.{readOn, openedOne, listDue, headDue, closingDue}
+use Rattle.patterns.specs.Patterns as walk
+use Rattle.patterns.specs.Patterns.{Areas}
+use Rattle.patterns.specs.declared.Walk.{Walk}
+use Rattle.theory_laws.specs.Simulation.{Simulates, refuse, leave, bind, checked-aside, after}
+use Rattle.theory_laws.specs.Reading.{Reads, Shallow, shallow-leaf, shallow-list, Shallows, shallow-none, shallow-more}
+use Rattle.theory_laws.specs.Representation.{Entries, judgment-output, FlatList, no-premises, one-premise}
+use Rattle.theory_laws.proofs.Items.{AtomMet, atom-met, ListMet, list-met, closing-met}
+use Rattle.theory_laws.proofs.Frames.{Keeps, keeps-all, keeps-then, grown-none, flat-kept}
+use Rattle.theory_laws.proofs.Ready.{Ready, Reached, PatternRead}
+use Rattle.theory_laws.proofs.Leaves.{applied-law, less-credit}
+use Rattle.theory_laws.proofs.Patterns.{size-count, after-atom, after-opening, after-closing, head-met, head-list, applied-arguments, ArgumentsLaw, arguments-law}
+
+module _ (text counted : List ℕ) (Before : Reader → Stream Token → Type 0) (reads : Reads text Before) (short : length text ≤ 8192)
+    (th : Theory) (es : Entries) (base : ℕ) where
+  abbrev pub Was : ℕ → Stream Token → List ℕ → List Variable → Walk → List ℕ → List ℕ → Type 0
+  Was = Ready text counted Before th es base
+
+  abbrev pub Left : Stream Token → List ℕ → List Variable → ℕ → List ℕ → Walk → Areas → Pattern × List Variable → Type 0
+  Left = PatternRead text counted Before th es base
+
+  -- Inside a judgment's list.
+  abbrev InsideLaw : Sexps → Type 0
+  InsideLaw xs =
+      (ts : Stream Token) (ks : List ℕ) (vs : List Variable) (w : Walk) (vars heap : List ℕ)
+      → Was 0 (flatOne (list xs) ts) (countsOne (list xs) ks) vs w vars heap
+      → Simulates (Left ts ks vs (w .top) heap) (walk.judgment text counted w vars heap) (definition.judgmentOf th xs vs)
+
+  pub list-due : {k : ℕ} {ts : Stream Token} {ks : List ℕ} {w : Walk} (m : ListMet text counted Before reads k ts ks w)
+      → listDue text counted w ≡ outcomes.ok (k, openedOne w (m .next))
+  unfolding listDue
+  list-due m = rw (m .met)
+
+  pub atom-due : {bytes : List ℕ} {ts : Stream Token} {ks : List ℕ} {w : Walk} (m : AtomMet text counted Before reads bytes ts ks w)
+      → listDue text counted w ≡ outcomes.refused 7
+  unfolding listDue
+  atom-due m = rw (m .met)
+
+  inside-none : InsideLaw []ₛ
+  unfolding walk.judgment definition.judgmentOf flatOne countsOne size headDue number
+  inside-none ts ks vs w vars heap r = rw (list-due (list-met text counted Before reads (r .walks))) (refuse refl)
+
+  inside-list : (ys xs : Sexps) → InsideLaw (list ys ∷ₛ xs)
+  unfolding walk.judgment definition.judgmentOf definition.atomDue flatOne countsOne size number _>>=_
+  inside-list ys xs ts ks vs w vars heap r =
+      let m = list-met text counted Before reads (r .walks) in
+      rw (list-due m, head-list text counted Before reads short th es base (size xs) (list-met text counted Before reads (m .walks))) (refuse refl)
+
+  inside-atom : (name : Name) (xs : Sexps) → ArgumentsLaw text counted Before reads short th es base 257 xs → InsideLaw (leaf name ∷ₛ xs)
+  unfolding walk.judgment walk.arguments definition.judgmentOf definition.predicate definition.atomDue flatOne countsOne size number _>>=_
+  inside-atom name xs law ts ks vs w vars heap r =
+      rw (list-due met, head-met text counted Before reads short th es base (size xs) head)
+      (checked-aside vars (definition.predicate th name) (λ c. fits c judgment (count xs)) sortArity _ _
+      (applied-law text counted Before th es base 512 isPredicate name (head .s) (head .t) 0 (suc (size xs)) (count xs) judgment ready
+      (r .holds .predicates) (head .name) (ap suc (size-count xs)) (judgment-output refl))
+      (applied-arguments text counted Before reads short th es base 257 xs judgment law refl refl ready)) where
+        met : ListMet text counted Before reads (suc (size xs)) (atom name ▹ flat xs (closing ▹ ts)) (countsAll xs ks) w
+        met = list-met text counted Before reads (r .walks)
+
+        head : AtomMet text counted Before reads name (flat xs (closing ▹ ts)) (countsAll xs ks) (openedOne w (met .next))
+        head = atom-met text counted Before reads (met .walks)
+
+        ready : Was 3 (flat xs (closing ▹ ts)) (countsAll xs ks) vs (readOn (openedOne w (met .next)) (head .next)) vars heap
+        ready =
+            less-credit text counted Before th es base
+            (after-atom text counted Before reads short th es base (after-opening text counted Before reads short th es base r met) head) 3 (omega arith)
+
+  inside-law : (xs : Sexps) → Shallows 257 xs → InsideLaw xs
+  inside-law []ₛ s = inside-none
+  inside-law (leaf name ∷ₛ xs) (shallow-more h s) = inside-atom name xs (arguments-law text counted Before reads short th es base xs 257 s)
+  inside-law (list ys ∷ₛ xs) s = inside-list ys xs
+
+  -- "A judgment J is a list (else 7)".
+  abbrev JudgmentLaw : Sexp → Type 0
+  JudgmentLaw x =
+      (ts : Stream Token) (ks : List ℕ) (vs : List Variable) (w : Walk) (vars heap : List ℕ)
+      → Was 0 (flatOne x ts) (countsOne x ks) vs w vars heap
+      → Simulates (Left ts ks vs (w .top) heap) (walk.judgment text counted w vars heap) (definition.judgmentPattern th x vs)
+
+  pub judgment-law : (x : Sexp) → Shallow 258 x → JudgmentLaw x
+  unfolding walk.judgment definition.judgmentPattern definition.listDue flatOne countsOne number _>>=_
+  judgment-law (leaf bytes) s ts ks vs w vars heap r = rw (atom-due (atom-met text counted Before reads (r .walks))) (refuse refl)
+  judgment-law (list xs) (shallow-list {d} e s) ts ks vs w vars heap r =
+      let q : d ≡ 257 = omega arith in inside-law xs (rw q at s) ts ks vs w vars heap r
+
+  -- "Premises left to right", then the closing.
+  pub record JudgmentsRead (n : ℕ) (ts : Stream Token) (ks : List ℕ) (vs : List Variable) (from : ℕ) (heap : List ℕ) (q : Walk) (areas : Areas) (r : List Pattern × List Variable) : Type 0 where
+    pub reached : Reached text counted Before th es base ts ks vs from heap q areas (r .1)
+    pub flats : FlatList (areas .1) es base (base + 5) (q .top) (r .1) from (r .0) (q .top)
+    pub many : n ≡ length (r .0)
+
+  abbrev JudgmentsLaw : Sexps → Type 0
+  JudgmentsLaw xs =
+      (ts : Stream Token) (ks : List ℕ) (vs : List Variable) (w : Walk) (vars heap : List ℕ)
+      → Was 0 (flat xs (closing ▹ ts)) (countsAll xs ks) vs w vars heap
+      → Simulates (JudgmentsRead (size xs) ts ks vs (w .top) heap) (walk.judgments (size xs) text counted w vars heap) (definition.judgmentPatterns th xs vs)
+
+  judgments-none : JudgmentsLaw []ₛ
+  unfolding walk.judgments definition.judgmentPatterns flat countsAll size
+  judgments-none ts ks vs w vars heap r =
+      let m = closing-met text counted Before reads (r .walks) in
+      rw (m .met)
+      (leave record {
+        reached = record { ready = after-closing text counted Before reads short th es base r m; keeps = keeps-all; rises = omega arith; more = λ v x n. n };
+        flats = no-premises;
+        many = refl;
+      })
+
+  judgments-more : (x : Sexp) (xs : Sexps) → JudgmentLaw x → JudgmentsLaw xs → JudgmentsLaw (x ∷ₛ xs)
+  unfolding walk.judgments definition.judgmentPatterns flat countsAll size
+  judgments-more x xs one law ts ks vs w vars heap r =
+      bind _ _ (one (flat xs (closing ▹ ts)) (countsAll xs ks) vs w vars heap r)
+      (λ q areas p y.
+      after (λ z. (p .0 ∷ z .0, z .1)) (law ts ks (p .1) q (areas .0) (areas .1) (y .reached .ready)) (λ q′ areas′ xs z. join y z)) where
+        join : {q q′ : Walk} {areas areas′ : Areas} {p : Pattern × List Variable} {ps : List Pattern × List Variable}
+            → Left (flat xs (closing ▹ ts)) (countsAll xs ks) vs (w .top) heap q areas p
+            → JudgmentsRead (size xs) ts ks (p .1) (q .top) (areas .1) q′ areas′ ps
+            → JudgmentsRead (suc (size xs)) ts ks vs (w .top) heap q′ areas′ (p .0 ∷ ps .0, ps .1)
+        join {q} {q′} y z =
+            let a = y .reached .rises in
+            let b = z .reached .rises in
+            let u = y .reached .ready .above in
+            record {
+              reached = record {
+                ready = z .reached .ready;
+                keeps = keeps-then a (y .reached .keeps) (z .reached .keeps);
+                rises = omega arith;
+                more = λ v e m. z .reached .more v e (y .reached .more v e m);
+              };
+              flats = one-premise (flat-kept grown-none (λ i g f. z .reached .keeps .words i (omega arith)) (omega arith) (λ i g f. z .reached .keeps .words i f) b (z .reached .more) (y .flat)) (z .flats);
+              many = ap suc (z .many);
+            }
+
+  pub judgments-law : (xs : Sexps) → Shallows 258 xs → JudgmentsLaw xs
+  judgments-law []ₛ s = judgments-none
+  judgments-law (x ∷ₛ xs) (shallow-more h s) = judgments-more x xs (judgment-law x h) (judgments-law xs s)

@@ -1,0 +1,115 @@
+-- Looking up: variables of the rule by their bytes, sorts by their addresses, symbols by their names. Assumes nothing.
+use mathlib.Core.Path.{_≡_, refl, ap, sym, subst, _∙_}
+use mathlib.Core.Bool.{Bool, true, false, not, _&&_, true≢false}
+use mathlib.Core.List.{List, [], _∷_, _++_, List·Memᴰ}
+use mathlib.Core.Option.{Option, none, some}
+use Prim.Native.Nat.{ℕ, zero, suc, _+_, _*_, _-_, _%_, _≤_, _<_}
+use native.Mathlib.Omega.{arith}
+use borrow.Author.Tests.{eqb-true, eqb-false, eq-eqb, ne-eqb}
+use lib.Dec.{eqb}
+use lib.ListN.{length, getD, take, drop, length-take, length-drop}
+use lib.Seq.{drop-cons}
+use Rattle.horn.specs.Names.{Name, named, sameList, questioned, bare, codes, first}
+use Rattle.horn.specs.Rulebook.{Output, sort, judgment, sameOutput, Symbol, symbol, Variable, variable, isVariable, Theory, fits}
+use Rattle.horn.proofs.Equality.{case, named-decides, apart, chose-true, chose-false}
+use Rattle.horn.proofs.Inversion.{some-equal}
+use Rattle.words.specs.Parts.{part, sameBytes}
+use Rattle.names.specs.Chains.{nameAt}
+use Rattle.names.specs.Tables.{Entry, entry, lookup}
+use Rattle.names.proofs.Holds.{by-name, by-number}
+use Rattle.names.proofs.Kept.{member-named, member-bounds}
+use Rattle.names.proofs.Declared.{lookup-member, stands-distinct}
+use Rattle.patterns.specs.Items.{question}
+use Rattle.patterns.specs.Patterns.{variableName, positionFrom, position}
+use Rattle.theory_laws.specs.Representation.{Entries, SortAt, sort-at, OutputAt, sort-output, judgment-output, Nth, here, there, VariablesAt, no-variables, one-variable, Holds}
+
+-- The comparison of the code is the definition's.
+pub same-named : (a b : List ℕ) → sameBytes a b ≡ named a b
+unfolding sameBytes named sameList
+same-named [] [] = refl
+same-named [] (y ∷ b) = refl
+same-named (x ∷ a) [] = refl
+same-named (x ∷ a) (y ∷ b) = case (eqb x y) (λ t. rw (t, sameBytes, sameList) (same-named a b)) (λ t. rw (t, sameBytes, sameList))
+
+pub named-turned : (a b : Name) → named a b ≡ named b a
+named-turned a b =
+    by-name a b
+    (λ e. rw e)
+    (λ n. apart named-decides a b n ∙ sym (apart named-decides b a (λ e. n (sym e))))
+
+-- A name by its bounds: its length, its first byte, and whether it is `?` alone.
+pub part-length : (s t : ℕ) (text : List ℕ) → t ≤ length text → length (part s t text) ≡ t - s
+unfolding part
+part-length s t text h = simp (length-take, length-drop) (omega arith)
+
+pub part-question : (s t : ℕ) (text : List ℕ) → s < t → t ≤ length text → questioned (part s t text) ≡ question text s
+unfolding part question questioned
+part-question s t text l h = by (t - s) (omega arith) where
+  by : (n : ℕ) → 0 < n → questioned (take n (drop s text)) ≡ eqb (getD text s 0) 0x3F
+  by zero p = absurd (omega arith)
+  by (suc n) p = rw (drop-cons text s 0 (omega arith))
+
+pub bare-width : (name : Name) (n : ℕ) → questioned name ≡ true → length name ≡ n → bare name ≡ eqb n 1
+unfolding questioned bare named sameList codes
+bare-width [] n q e = absurd (true≢false (sym q))
+bare-width (b ∷ []) n q e = rw (q, sameList) (sym (eq-eqb n 1 (omega arith)))
+bare-width (b ∷ c ∷ cs) n q e = rw (q, sameList) (sym (ne-eqb n 1 (λ h. omega arith)))
+
+-- A variable of the rule by its bytes.
+pub data Located (vars : List ℕ) (es : Entries) (i : ℕ) (us : List Variable) (key : Name) : Option ℕ → Option Variable → Type 0 where
+  nowhere : Located vars es i us key none none
+  located : {v k : ℕ} {n t : Name} → v ≡ i + k → Nth us k key → SortAt es (getD vars (3 * v + 2) 0) t → Located vars es i us key (some v) (some (variable n t))
+
+located-later : {vars : List ℕ} {es : Entries} {i : ℕ} {u : Variable} {us : List Variable} {key : Name} {o : Option ℕ} {p : Option Variable}
+    → Located vars es (i + 1) us key o p
+    → Located vars es i (u ∷ us) key o p
+located-later nowhere = nowhere
+located-later (located {v} {k} e n a) = located {v = v} {k = suc k} (omega arith) (there n) a
+
+module _ (text vars : List ℕ) (key : Name) where
+  variable-same : (i o : ℕ) (name s : Name) → o ≡ 3 * i → part (getD vars o 0) (getD vars (o + 1) 0) text ≡ name
+      → sameBytes (variableName text vars i) key ≡ isVariable key (variable name s)
+  unfolding variableName isVariable
+  variable-same i o name s e n = same-named _ _ ∙ rw (← e, n) (named-turned name key)
+
+  variable-here : (name s : Name) (vs : List Variable) → isVariable key (variable name s) ≡ true → Nth (variable name s ∷ vs) 0 key
+  unfolding isVariable
+  variable-here name s vs q = rw (named-decides .equal key name q) here
+
+  pub positions : {es : Entries} {o : ℕ} {us : List Variable} (i : ℕ) → o ≡ 3 * i → VariablesAt text vars es o us
+      → Located vars es i us key (positionFrom (length us) text vars key i) (first (isVariable key) us)
+  unfolding positionFrom first
+  positions i e no-variables = nowhere
+  positions {o} i e (one-variable {name} {s} {vs} n a r) =
+      case (isVariable key (variable name s))
+      (λ q.
+      rw (variable-same i o name s e n, q, positionFrom, first)
+      (located {v = i} {k = 0} {n = name} {t = s} (omega arith) (variable-here name s vs q) (rw (← e) a)))
+      (λ q.
+      rw (variable-same i o name s e n, q, positionFrom, first)
+      (located-later (positions (i + 1) (omega arith) r)))
+
+-- Equal addresses of sorts are equal sorts.
+module _ {text heap : List ℕ} {es : Entries} {top : ℕ} {th : Theory} (h : Holds text heap es top th) where
+  pub sort-low : {a : ℕ} {s : Name} → SortAt es a s → 1024 ≤ a
+  sort-low (sort-at m) = member-bounds (h .sorts .table .chain) m .0
+
+  pub same-sort : {a b : ℕ} {s t : Name} → SortAt es a s → SortAt es b t → eqb a b ≡ named s t
+  same-sort {a} {b} {s} {t} (sort-at m) (sort-at n) =
+      by-name s t
+      (λ e.
+      let d = stands-distinct named (SortAt es) (h .sorts .stands) in
+      let p = lookup-member s a d m in
+      let q = lookup-member t b d n in
+      let k : a ≡ b = some-equal (sym p ∙ ap (λ (x : Name). lookup x (es .sorts)) e ∙ q) in
+      eq-eqb a b k ∙ sym (rw e (named-decides .same t)))
+      (λ u.
+      ne-eqb a b (λ k. u (sym (member-named (h .sorts .table .chain) m) ∙ ap (nameAt heap text) k ∙ member-named (h .sorts .table .chain) n))
+      ∙ sym (apart named-decides s t u))
+
+  pub same-output : {a b : ℕ} {o p : Output} → OutputAt es a o → OutputAt es b p → eqb a b ≡ sameOutput o p
+  unfolding sameOutput
+  same-output (sort-output m) (sort-output n) = same-sort m n
+  same-output {a} {b} (sort-output m) (judgment-output e) = let l = sort-low m in ne-eqb a b (λ k. omega arith)
+  same-output {a} {b} (judgment-output e) (sort-output n) = let l = sort-low n in ne-eqb a b (λ k. omega arith)
+  same-output {a} {b} (judgment-output d) (judgment-output e) = eq-eqb a b (d ∙ sym e)

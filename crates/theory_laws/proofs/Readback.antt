@@ -1,0 +1,143 @@
+-- Reading a held theory: what is found by its bytes is what the definition finds, and the words of an entry say what it
+-- is. Assumes nothing.
+use mathlib.Core.Path.{_≡_, refl, ap, ap₂, sym, subst, _∙_}
+use mathlib.Core.Bool.{Bool, true, false, _&&_, true≢false}
+use mathlib.Core.List.{List, [], _∷_, List·Memᴰ}
+use mathlib.Core.Option.{Option, some}
+use Prim.Native.Nat.{ℕ, zero, suc, _+_, _*_, _≤_, _<_}
+use native.Mathlib.Omega.{arith}
+use borrow.Author.Tests.{eqb-true, eq-eqb, ne-eqb}
+use lib.Dec.{eqb}
+use lib.ListN.{length, getD}
+use Rattle.horn.specs.Names.{Name, named, first}
+use Rattle.horn.specs.Rulebook.{Output, sort, judgment, Symbol, symbol, sameSymbol, inputs, output, Variable, variable, Pattern, var, app, Patterns, Rule, Theory}
+use Rattle.horn.specs.Rulebook.{isConstructor, isPredicate, isRule, variablesOf, premisesOf}
+use Rattle.horn.proofs.Equality.{named-decides, sameOutput-decides, sameSymbol-decides, apart}
+use Rattle.horn.proofs.Inversion.{some-equal}
+use Rattle.words.specs.Parts.{part}
+use Rattle.names.specs.Chains.{found, nameAt}
+use Rattle.names.specs.Tables.{Entry, entry, lookup, Agree, Stands}
+use Rattle.names.proofs.Holds.{by-number}
+use Rattle.names.proofs.Kept.{member-named}
+use Rattle.names.proofs.Declared.{find-agrees, lookup-member, stands-distinct}
+use Rattle.theory_laws.specs.Representation.{Entries, tableOf, SortAt, OutputAt, SortsAt, no-sorts, one-sort, SymbolAt, symbol-at, Nth, here, there}
+use Rattle.theory_laws.specs.Representation.{Flat, flat-variable, flat-symbol, Flats, VariablesAt, no-variables, one-variable, RuleAt, rule-at, Declares, Holds}
+use Rattle.theory_laws.proofs.Lookups.{same-sort, same-output}
+
+-- The i-th of some sorts.
+pub sort-there : {heap : List ℕ} {es : Entries} {o : ℕ} {ss : List Name} → SortsAt heap es o ss → (i : ℕ) → i < length ss → SortAt es (getD heap (o + i) 0) (getD ss i [])
+sort-there no-sorts i h = absurd (omega arith)
+sort-there {heap} {es} {o} (one-sort {s} {ss} a r) zero h = let q : o + 0 ≡ o = omega arith in rw q a
+sort-there {heap} {es} {o} (one-sort {s} {ss} a r) (suc i) h = let q : o + suc i ≡ o + 1 + i = omega arith in rw q (sort-there r i (omega arith))
+
+-- The v-th of some variables.
+pub variable-there : {text area : List ℕ} {es : Entries} {o : ℕ} {vs : List Variable} → VariablesAt text area es o vs → {v : ℕ} {name : Name} → Nth vs v name
+    → part (getD area (o + 3 * v) 0) (getD area (o + 3 * v + 1) 0) text ≡ name
+variable-there {o} (one-variable n a r) here = let q : o + 3 * 0 ≡ o = omega arith in rw q n
+variable-there {o} (one-variable n a r) (there {v} m) = let q : o + 3 * suc v ≡ o + 3 + 3 * v = omega arith in rw q (variable-there r m)
+
+-- Its sort.
+pub data Sorted : List Variable → ℕ → Name → Type 0 where
+  sorted-here : {name s : Name} {vs : List Variable} → Sorted (variable name s ∷ vs) 0 s
+  sorted-there : {x : Variable} {vs : List Variable} {v : ℕ} {s : Name} → Sorted vs v s → Sorted (x ∷ vs) (suc v) s
+
+pub variable-sort : {text area : List ℕ} {es : Entries} {o : ℕ} {vs : List Variable} → VariablesAt text area es o vs → {v : ℕ} {s : Name} → Sorted vs v s
+    → SortAt es (getD area (o + 3 * v + 2) 0) s
+variable-sort {o} (one-variable n a r) sorted-here = let q : o + 3 * 0 ≡ o = omega arith in rw q a
+variable-sort {o} (one-variable n a r) (sorted-there {v} m) = let q : o + 3 * suc v ≡ o + 3 + 3 * v = omega arith in rw q (variable-sort r m)
+
+module _ {text heap : List ℕ} {es : Entries} {top : ℕ} {th : Theory} (h : Holds text heap es top th) where
+  -- By its bytes.
+  pub find-sort : (name : Name) → Agree (SortAt es) (found heap 0 256 text name) (first (named name) (th .sorts))
+  find-sort name = find-agrees named (SortAt es) name (h .sorts .table) (h .sorts .stands)
+
+  pub find-constructor : (name : Name) → Agree (SymbolAt heap es top) (found heap 256 256 text name) (first (isConstructor name) (th .symbols))
+  find-constructor name = find-agrees isConstructor (SymbolAt heap es top) name (h .constructors .table) (h .constructors .stands)
+
+  pub find-predicate : (name : Name) → Agree (SymbolAt heap es top) (found heap 512 256 text name) (first (isPredicate name) (th .symbols))
+  find-predicate name = find-agrees isPredicate (SymbolAt heap es top) name (h .predicates .table) (h .predicates .stands)
+
+  pub find-rule : (name : Name) → Agree (RuleAt text heap es top) (found heap 768 256 text name) (first (isRule name) (th .rules))
+  find-rule name = find-agrees isRule (RuleAt text heap es top) name (h .rules .table) (h .rules .stands)
+
+  -- A symbol's words.
+  module _ {a : ℕ} {c : Symbol} (x : SymbolAt heap es top a c) where
+    pub symbol-output : OutputAt es (getD heap (a + 3) 0) (output c)
+    unfolding output
+    symbol-output = by x where
+      by : {d : Symbol} → SymbolAt heap es top a d → OutputAt es (getD heap (a + 3) 0) (output d)
+      by (symbol-at w) = w .gives
+
+    pub symbol-arity : getD heap (a + 4) 0 ≡ length (inputs c)
+    unfolding inputs
+    symbol-arity = by x where
+      by : {d : Symbol} → SymbolAt heap es top a d → getD heap (a + 4) 0 ≡ length (inputs d)
+      by (symbol-at w) = w .arity
+
+    pub symbol-input : (i : ℕ) → i < length (inputs c) → SortAt es (getD heap (a + 5 + i) 0) (getD (inputs c) i [])
+    unfolding inputs
+    symbol-input = by x where
+      by : {d : Symbol} → SymbolAt heap es top a d → (i : ℕ) → i < length (inputs d) → SortAt es (getD heap (a + 5 + i) 0) (getD (inputs d) i [])
+      by (symbol-at w) i l = sort-there (w .takes) i l
+
+    pub symbol-below : (1024 ≤ a) × (a + 5 ≤ top)
+    symbol-below = by x where
+      by : {d : Symbol} → SymbolAt heap es top a d → (1024 ≤ a) × (a + 5 ≤ top)
+      by (symbol-at w) = let l = w .low in let u = w .high in (omega arith, omega arith)
+
+  -- Equal addresses are equal symbols.
+  same-sorts : {o : ℕ} {ss ts : List Name} → length ss ≡ length ts → SortsAt heap es o ss → SortsAt heap es o ts → ss ≡ ts
+  same-sorts e no-sorts no-sorts = refl
+  same-sorts e no-sorts (one-sort b r) = absurd (omega arith)
+  same-sorts e (one-sort a q) no-sorts = absurd (omega arith)
+  same-sorts {o} e (one-sort {s} a q) (one-sort {s = t} b r) =
+      ap₂ _∷_ (named-decides .equal s t (sym (same-sort h a b) ∙ eq-eqb (getD heap o 0) (getD heap o 0) refl)) (same-sorts (omega arith) q r)
+
+  called-same : {a : ℕ} {m n : Name} (out : Output) → List·Memᴰ (entry a m) (tableOf es out) → List·Memᴰ (entry a n) (tableOf es out) → m ≡ n
+  unfolding tableOf
+  called-same (sort s) x y = sym (member-named (h .constructors .table .chain) x) ∙ member-named (h .constructors .table .chain) y
+  called-same judgment x y = sym (member-named (h .predicates .table .chain) x) ∙ member-named (h .predicates .table .chain) y
+
+  called-at : {a b : ℕ} {n : Name} (out : Output) → List·Memᴰ (entry a n) (tableOf es out) → List·Memᴰ (entry b n) (tableOf es out) → a ≡ b
+  unfolding tableOf
+  called-at {a} {b} {n} (sort s) x y =
+      let d = stands-distinct isConstructor (SymbolAt heap es top) (h .constructors .stands) in some-equal (sym (lookup-member n a d x) ∙ lookup-member n b d y)
+  called-at {a} {b} {n} judgment x y =
+      let d = stands-distinct isPredicate (SymbolAt heap es top) (h .predicates .stands) in some-equal (sym (lookup-member n a d x) ∙ lookup-member n b d y)
+
+  pub symbols-equal : {a : ℕ} {c d : Symbol} → SymbolAt heap es top a c → SymbolAt heap es top a d → c ≡ d
+  symbols-equal {a} (symbol-at {name} {ins} {out} x) (symbol-at {name = m} {ins = js} {out = p} y) =
+      let e : out ≡ p = sameOutput-decides .equal out p (sym (same-output h (x .gives) (y .gives)) ∙ eq-eqb (getD heap (a + 3) 0) (getD heap (a + 3) 0) refl) in
+      let f : name ≡ m = called-same p (rw e at (x .called)) (y .called) in
+      let g : ins ≡ js = same-sorts (sym (x .arity) ∙ y .arity) (x .takes) (y .takes) in
+      cc
+
+  pub addresses-equal : {a b : ℕ} {c : Symbol} → SymbolAt heap es top a c → SymbolAt heap es top b c → a ≡ b
+  addresses-equal (symbol-at {out} x) (symbol-at y) = called-at out (x .called) (y .called)
+
+  pub same-symbol : {a b : ℕ} {c d : Symbol} → SymbolAt heap es top a c → SymbolAt heap es top b d → eqb a b ≡ sameSymbol c d
+  same-symbol {a} {b} {c} {d} x y =
+      by-number a b
+      (λ e. eq-eqb a b e ∙ sym (rw (symbols-equal (rw e at x) y) (sameSymbol-decides .same d)))
+      (λ n. ne-eqb a b n ∙ sym (apart sameSymbol-decides c d (λ e. n (addresses-equal (rw e at x) y))))
+
+  -- A rule's variables leave room for their bindings behind the theory.
+  pub few-variables : {e : ℕ} {r : Rule} → RuleAt text heap es top e r → top ≤ 11948 → 11948 + length (variablesOf r) ≤ 16384
+  unfolding variablesOf
+  few-variables (rule-at w) t = let l = w .low in let u = w .rising in let k = w .high in omega arith
+
+  pub rule-premises : {e : ℕ} {r : Rule} → RuleAt text heap es top e r → getD heap (e + 3) 0 ≡ length (premisesOf r)
+  unfolding premisesOf
+  rule-premises (rule-at w) = w .premise-count
+
+  pub rule-variables : {e : ℕ} {r : Rule} → RuleAt text heap es top e r → getD heap (e + 4) 0 ≡ length (variablesOf r)
+  unfolding variablesOf
+  rule-variables (rule-at w) = w .variable-count
+
+  -- A pattern's first word: a variable's number and 16,384, or a symbol's address, which is smaller.
+  module _ {low high : ℕ} {vs : List Variable} {o o′ : ℕ} where
+    pub variable-word : {name : Name} → Flat heap es top low high vs o (var name) o′ → (v : ℕ) × (getD heap o 0 ≡ 16384 + v) × Nth vs v name × (o′ ≡ o + 1)
+    variable-word (flat-variable {v} l u e n q) = (v, e, n, q)
+
+    pub symbol-word : {c : Symbol} {ps : Patterns} → Flat heap es top low high vs o (app c ps) o′ → SymbolAt heap es top (getD heap o 0) c × Flats heap es top low high vs (o + 1) ps o′
+    symbol-word (flat-symbol l u a r) = (a, r)

@@ -1,0 +1,90 @@
+-- Where the walk stands while a rule's patterns are read: before which tokens, with which variables, over which theory.
+-- Assumes nothing.
+use mathlib.Core.Path.{_≡_, refl, ap, sym, subst, _∙_}
+use mathlib.Core.Bool.{Bool, true, false, not}
+use mathlib.Core.List.{List, [], _∷_, _++_, List·Memᴰ}
+use mathlib.Core.Option.{Option, none, some}
+use Prim.Native.Nat.{ℕ, zero, suc, _+_, _*_, _-_, _%_, _≤_, _<_}
+use native.Mathlib.Nat.{mod-eq-of-lt}
+use native.Mathlib.Omega.{arith}
+use lib.ListN.{length, getD, set, length-set, length-append}
+use lib.Seq.{getD-set-same, getD-set-other}
+use Rattle.horn.specs.Names.{Name}
+use Rattle.horn.specs.Tokens.{Stream, Token}
+use Rattle.horn.specs.Rulebook.{Variable, variable, Pattern, Theory}
+use Rattle.words.specs.Parts.{part}
+use Rattle.lex.specs.declared.Reader.{Reader}
+use Rattle.patterns.specs.Items.{sum32, withTop, pushed}
+use Rattle.patterns.specs.Patterns.{Areas}
+use Rattle.patterns.specs.declared.Walk.{Walk}
+use Rattle.theory_laws.specs.Reading.{Reads, Walks, weight}
+use Rattle.theory_laws.specs.Representation.{Entries, SortAt, Nth, here, there, Flat, VariablesAt, no-variables, one-variable, Holds}
+use Rattle.theory_laws.proofs.Items.{sum-small}
+use Rattle.theory_laws.proofs.Frames.{Keeps, keeps-set, holds-kept}
+
+-- One variable more behind others.
+pub nth-more : (vs ws : List Variable) {v : ℕ} {name : Name} → Nth vs v name → Nth (vs ++ ws) v name
+nth-more (variable name s ∷ vs) ws here = here
+nth-more (x ∷ vs) ws (there n) = there (nth-more vs ws n)
+
+pub nth-last : (vs : List Variable) (name s : Name) {v : ℕ} → v ≡ length vs → Nth (vs ++ (variable name s ∷ [])) v name
+nth-last [] name s e = rw e here
+nth-last (x ∷ vs) name s {v = zero} e = absurd (omega arith)
+nth-last (x ∷ vs) name s {v = suc v} e = there {v = v} (nth-last vs name s {v = v} (omega arith))
+
+pub nth-below : (vs : List Variable) {v : ℕ} {name : Name} → Nth vs v name → v < length vs
+nth-below (variable name s ∷ vs) here = omega arith
+nth-below (x ∷ vs) (there n) = omega (arith, nth-below vs n)
+
+pub variables-more : {text area : List ℕ} {es : Entries} {o : ℕ} {vs : List Variable} (name s : Name) (p : ℕ)
+    → VariablesAt text area es o vs
+    → p ≡ o + 3 * length vs
+    → part (getD area p 0) (getD area (p + 1) 0) text ≡ name
+    → SortAt es (getD area (p + 2) 0) s
+    → VariablesAt text area es o (vs ++ (variable name s ∷ []))
+variables-more {o} name s p no-variables e n a =
+    let q : o ≡ p = omega arith in one-variable {o = o} {name = name} {s = s} (rw q n) (rw q a) no-variables
+variables-more name s p (one-variable n′ a′ r) e n a = one-variable n′ a′ (variables-more name s p r (omega arith) n a)
+
+module _ (text counts : List ℕ) (Before : Reader → Stream Token → Type 0) (th : Theory) (es : Entries) (base : ℕ) where
+  -- The tokens and member counts that come, the variables so far. Each token that comes pays for the words that it may
+  -- need, and `credit` is what is paid already: three for each word.
+  pub record Ready (credit : ℕ) (ts : Stream Token) (ks : List ℕ) (vs : List Variable) (w : Walk) (vars heap : List ℕ) : Type 0 where
+    pub walks : Walks text counts Before ts ks w
+    pub holds : Holds text heap es base th
+    pub above : base + 5 ≤ w .top
+    pub base-low : 1024 ≤ base
+    pub many : w .variables ≡ length vs
+    pub long : length vars ≡ 16384
+    pub variables : VariablesAt text vars es 0 vs
+    pub room : 3 * w .top + 9 * length vs + 4 * weight ts + credit ≤ 35844
+
+  -- What reading leaves.
+  pub record Reached (ts : Stream Token) (ks : List ℕ) (vs : List Variable) (from : ℕ) (heap : List ℕ) (q : Walk) (areas : Areas) (vs′ : List Variable) : Type 0 where
+    pub ready : Ready 0 ts ks vs′ q (areas .0) (areas .1)
+    pub keeps : Keeps from heap (areas .1)
+    pub rises : from ≤ q .top
+    pub more : (v : ℕ) (name : Name) → Nth vs v name → Nth vs′ v name
+
+  pub record PatternRead (ts : Stream Token) (ks : List ℕ) (vs : List Variable) (from : ℕ) (heap : List ℕ) (q : Walk) (areas : Areas) (r : Pattern × List Variable) : Type 0 where
+    pub reached : Reached ts ks vs from heap q areas (r .1)
+    pub flat : Flat (areas .1) es base (base + 5) (q .top) (r .1) from (r .0) (q .top)
+
+  -- One word more.
+  pub push-ready : {ts : Stream Token} {ks : List ℕ} {vs : List Variable} {w : Walk} {vars heap : List ℕ} (word : ℕ)
+      → Ready 3 ts ks vs w vars heap
+      → Ready 0 ts ks vs (withTop w (sum32 (w .top) 1)) vars (set heap (w .top) word)
+  push-ready {w} {heap} word r =
+      let a = r .above in
+      let m = r .room in
+      let e : sum32 (w .top) 1 ≡ w .top + 1 = sum-small (w .top) 1 (omega arith) in
+      record {
+        walks = record { before = r .walks .before; counted = r .walks .counted; few = r .walks .few };
+        holds = holds-kept (keeps-set base heap (w .top) word (omega arith)) (omega arith) (r .holds);
+        above = rw e (omega arith);
+        base-low = r .base-low;
+        many = r .many;
+        long = r .long;
+        variables = r .variables;
+        room = rw e (omega arith);
+      }

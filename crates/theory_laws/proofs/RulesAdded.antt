@@ -1,0 +1,157 @@
+-- A theory with one rule more. Assumes nothing.
+use mathlib.Core.Path.{_≡_, refl, ap, sym, subst, _∙_}
+use mathlib.Core.Bool.{Bool, true, false, not}
+use mathlib.Core.List.{List, [], _∷_, _++_, List·Memᴰ, List·Memᴰ·head, List·Memᴰ·tail}
+use Prim.Native.Nat.{ℕ, zero, suc, _+_, _*_, _-_, _≤_, _<_}
+use native.Mathlib.Omega.{arith}
+use lib.ListN.{length, getD, set, length-set}
+use lib.Seq.{getD-set-same, getD-set-other}
+use Rattle.horn.specs.Names.{Name, named, some-of}
+use Rattle.horn.specs.Rulebook.{Variable, variable, Pattern, Rule, rule, Theory, isRule}
+use Rattle.words.specs.Parts.{part}
+use Rattle.names.specs.Chains.{added}
+use Rattle.names.specs.Tables.{Entry, entry}
+use Rattle.names.proofs.Holds.{by-number}
+use Rattle.names.proofs.Kept.{length-added, added-other}
+use Rattle.theory.specs.Symbols.{described}
+use Rattle.theory.specs.Rules.{copied}
+use Rattle.theory_laws.specs.Representation.{Entries, SortAt, Flat, FlatList, VariablesAt, no-variables, one-variable, RuleAt, rule-at, Declares, Holds}
+use Rattle.theory_laws.proofs.Frames.{Grown, Keeps, sort-kept, symbol-kept, rule-kept, flat-kept, premises-kept}
+use Rattle.theory_laws.proofs.Adding.{Adds, adds-kept, others, newer}
+use Rattle.theory_laws.proofs.SymbolsAdded.{length-described, described-other, described-first, described-second}
+
+-- The words of the variables, copied behind the patterns.
+module _ (vars : List ℕ) (top : ℕ) where
+  pub length-copied : (left i : ℕ) (heap : List ℕ) → length (copied left i vars top heap) ≡ length heap
+  unfolding copied
+  length-copied zero i heap = refl
+  length-copied (suc left) i heap = length-copied left (i + 1) (set heap (top + i) (getD vars i 0)) ∙ length-set heap (top + i) (getD vars i 0)
+
+  pub copied-below : (left i : ℕ) (heap : List ℕ) (j : ℕ) → j < top + i → getD (copied left i vars top heap) j 0 ≡ getD heap j 0
+  unfolding copied
+  copied-below zero i heap j h = refl
+  copied-below (suc left) i heap j h =
+      copied-below left (i + 1) (set heap (top + i) (getD vars i 0)) j (omega arith)
+      ∙ getD-set-other heap (top + i) j (getD vars i 0) 0 (λ k. omega arith)
+
+  pub copied-there : (left i : ℕ) (heap : List ℕ) (j : ℕ) → i ≤ j → j < i + left → top + i + left ≤ length heap
+      → getD (copied left i vars top heap) (top + j) 0 ≡ getD vars j 0
+  unfolding copied
+  copied-there zero i heap j l u h = absurd (omega arith)
+  copied-there (suc left) i heap j l u h =
+      by-number j i
+      (λ e.
+      rw e
+      (copied-below left (i + 1) (set heap (top + i) (getD vars i 0)) (top + i) (omega arith)
+      ∙ getD-set-same heap (top + i) (getD vars i 0) 0 (omega arith)))
+      (λ n. copied-there left (i + 1) (set heap (top + i) (getD vars i 0)) j (omega (arith, n)) (omega arith) (simp length-set (omega arith)))
+
+-- Variables in another area, from another place on.
+pub variables-moved : {text area area′ : List ℕ} {es es′ : Entries} {o : ℕ} {vs : List Variable} (g : Grown es es′) (o′ : ℕ)
+    → ((i i′ : ℕ) → i′ + o ≡ i + o′ → o ≤ i → i < o + 3 * length vs → getD area′ i′ 0 ≡ getD area i 0)
+    → VariablesAt text area es o vs
+    → VariablesAt text area′ es′ o′ vs
+variables-moved g o′ k no-variables = no-variables
+variables-moved {o} g o′ k (one-variable {name} {s} {vs} n a r) =
+    one-variable {o = o′} {name = name} {s = s}
+    (rw (k o o′ (omega arith) (omega arith) (omega arith), k (o + 1) (o′ + 1) (omega arith) (omega arith) (omega arith)) n)
+    (rw (k (o + 2) (o′ + 2) (omega arith) (omega arith) (omega arith)) (sort-kept g a))
+    (variables-moved g (o′ + 3) (λ i i′ e l u. k i i′ (omega arith) (omega arith) (omega arith)) r)
+
+abbrev pub withRule : Entries → Entry → Entries
+withRule es e = record { sorts = es .sorts; constructors = es .constructors; predicates = es .predicates; rules = e ∷ es .rules }
+
+rule-grown : (es : Entries) (e : Entry) → Grown es (withRule es e)
+rule-grown es e = record { sorts = λ x m. m; constructors = λ x m. m; predicates = λ x m. m; rules = λ x m. List·Memᴰ·tail m }
+
+module _ (text heap middle vars : List ℕ) (es : Entries) (th : Theory) (e top s t n v : ℕ) (name : Name)
+    (vs : List Variable) (premises : List Pattern) (conclusion : Pattern) (mid : ℕ)
+    (h : Holds text heap es e th) (keeps : Keeps e heap middle) (low : 1024 ≤ e) (rising : e + 5 ≤ top) (fits : top + 3 * v ≤ 16384)
+    (p : part s t text ≡ name) (small-start : s < 4294967296) (small-end : t < 4294967296)
+    (many-premises : n ≡ length premises) (many-variables : v ≡ length vs)
+    (at-premises : FlatList middle es e (e + 5) top vs (e + 5) premises mid) (at-conclusion : Flat middle es e (e + 5) top vs mid conclusion top)
+    (at-variables : VariablesAt text vars es 0 vs) where
+  abbrev named-words : List ℕ
+  named-words = added middle 768 256 e text s t
+
+  abbrev described-words : List ℕ
+  described-words = described e n v named-words
+
+  abbrev pub rule-words : List ℕ
+  rule-words = copied (3 * v) 0 vars top described-words
+
+  length-middle : length described-words ≡ 16384
+  length-middle = length-described named-words e n v ∙ length-added middle 768 256 e text s t ∙ keeps .same-length ∙ h .long
+
+  -- Words between the entry's five words and the variables, and words below the entry.
+  pattern-words : (i : ℕ) → e + 5 ≤ i → i < top → getD rule-words i 0 ≡ getD middle i 0
+  pattern-words i l u =
+      copied-below vars top (3 * v) 0 described-words i (omega arith)
+      ∙ described-other named-words e n v i (λ x. omega arith) (λ x. omega arith)
+      ∙ added-other middle 768 256 e text s t (omega arith) i (λ x y. omega arith) (λ x y. omega arith)
+
+  older-words : (i : ℕ) → 1024 ≤ i → i < e → getD rule-words i 0 ≡ getD middle i 0
+  older-words i l u =
+      copied-below vars top (3 * v) 0 described-words i (omega arith)
+      ∙ described-other named-words e n v i (λ x. omega arith) (λ x. omega arith)
+      ∙ added-other middle 768 256 e text s t (omega arith) i (λ x y. omega arith) (λ x y. omega arith)
+
+  rule-adds : Adds text heap rule-words e 768 s t
+  rule-adds = record {
+    middle = middle;
+    keeps = keeps;
+    same-length = length-copied vars top (3 * v) 0 described-words ∙ length-described named-words e n v ∙ length-added middle 768 256 e text s t;
+    words = λ i u.
+        copied-below vars top (3 * v) 0 described-words i (omega arith)
+        ∙ described-other named-words e n v i (λ x. omega arith) (λ x. omega arith);
+    room = let l = h .long in omega arith;
+    base-low = low;
+    buckets-low = omega arith;
+    small-start = small-start;
+    small-end = small-end;
+  }
+
+  long-enough : e + 4 < length named-words
+  long-enough = let l = h .long in let q = keeps .same-length in rw (length-added middle 768 256 e text s t) (omega arith)
+
+  new-rule : RuleAt text rule-words (withRule es (entry e name)) (top + 3 * v) e (rule name vs premises conclusion)
+  new-rule =
+      let g = rule-grown es (entry e name) in
+      let l = length-middle in
+      rule-at {name = name} {vs = vs} {premises = premises} {conclusion = conclusion} record {
+        low = low;
+        called = List·Memᴰ·head refl;
+        premise-count =
+            copied-below vars top (3 * v) 0 described-words (e + 3) (omega arith) ∙ described-first named-words e n v long-enough ∙ many-premises;
+        variable-count =
+            copied-below vars top (3 * v) 0 described-words (e + 4) (omega arith) ∙ described-second named-words e n v long-enough ∙ many-variables;
+        premises-end = mid;
+        conclusion-end = top;
+        at-premises = premises-kept g older-words (omega arith) pattern-words (omega arith) (λ i x y. y) at-premises;
+        at-conclusion = flat-kept g older-words (omega arith) pattern-words (omega arith) (λ i x y. y) at-conclusion;
+        at-variables =
+            variables-moved g top
+            (λ i i′ q x y.
+            let z : i′ ≡ top + i = omega arith in
+            rw z (copied-there vars top (3 * v) 0 described-words i (omega arith) (omega arith) (omega arith)))
+            at-variables;
+        rising = rising;
+        high = omega arith;
+      }
+
+  pub rule-added : some-of (isRule name) (th .rules) ≡ false
+      → Holds text rule-words (withRule es (entry e name)) (top + 3 * v)
+      record { sorts = th .sorts; symbols = th .symbols; rules = th .rules ++ (rule name vs premises conclusion ∷ []) }
+  unfolding isRule
+  rule-added new =
+      let g = rule-grown es (entry e name) in
+      let k = rule-adds in
+      record {
+        long = length-copied vars top (3 * v) 0 described-words ∙ length-middle;
+        sorts = others k (top + 3 * v) (omega arith) (λ d x y. sort-kept g y) 0 (omega arith) (λ i x y z u. omega arith) (h .sorts);
+        constructors = others k (top + 3 * v) (omega arith) (λ d c y. symbol-kept g (adds-kept k) (omega arith) y) 256 (omega arith) (λ i x y z u. omega arith) (h .constructors);
+        predicates = others k (top + 3 * v) (omega arith) (λ d c y. symbol-kept g (adds-kept k) (omega arith) y) 512 (omega arith) (λ i x y z u. omega arith) (h .predicates);
+        rules =
+            newer k (top + 3 * v) (omega arith) (λ d c y. rule-kept g (adds-kept k) (omega arith) y) name (rule name vs premises conclusion) p (λ key. refl)
+            new-rule new (h .rules);
+      }

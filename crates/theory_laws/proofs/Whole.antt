@@ -1,0 +1,156 @@
+-- Both walks over a rulebook answer as the definition does, for every text of at most 8,192 bytes and areas of 16,384
+-- words of any contents; an accepted rulebook's theory stands in the words. Assumes nothing.
+use mathlib.Core.Path.{_≡_, refl, ap, sym, subst, _∙_}
+use mathlib.Core.List.{List, [], _∷_}
+use Prim.Native.Nat.{ℕ, zero, suc, _+_, _*_, _/_, _≤_, _<_}
+use native.Mathlib.Omega.{arith}
+use lib.ListN.{length, getD, take}
+use Rattle.horn.specs.Refusals.{Refusal, number, Result, ok, refused, _>>=_}
+use Rattle.horn.specs.Tokens.{Stream, end, Token, tokens}
+use Rattle.horn.specs.NestedLists.{items, sexps, Sexps}
+use Rattle.horn.specs.Rulebook as definition
+use Rattle.horn.specs.Rulebook.{Theory, emptyTheory}
+use Rattle.horn.specs.Calls.{RulebookReport, rulebookReport, rulebookAnswer, constructorCount, predicateCount}
+use Rattle.horn.proofs.Counts.{streamLength, few-tokens}
+use Rattle.words.specs.Parts.{cleared}
+use Rattle.names.specs.Tables as tables
+use Rattle.names.specs.Tables.{none-yet}
+use Rattle.names.proofs.Kept.{empty-table, cleared-zero}
+use Rattle.lex.specs.Answers as lexed
+use Rattle.lex.proofs.Standing.{Stands}
+use Rattle.sexp.specs.Flattening.{flat, flattened, size, countsAll, counts}
+use Rattle.sexp.specs.Walk.{walked}
+use Rattle.sexp.proofs.Whole.{few-lists}
+use Rattle.sexp.proofs.Ahead.{Ahead, ahead-start}
+use Rattle.sexp.proofs.Law.{walk-cases}
+use Rattle.patterns.specs.Outcomes as outcomes
+use Rattle.patterns.specs.Leaving.{Did, _leaving_}
+use Rattle.patterns.specs.Patterns.{Areas}
+use Rattle.theory.specs.Declarations.{declarations, declarationsFrom, startWalk, noCounts}
+use Rattle.theory.specs.Walks as walk
+use Rattle.theory.specs.Walks.{AllAreas, withCounts}
+use Rattle.theory.specs.declared.Counts.{Counts}
+use Rattle.theory_laws.specs.Simulation.{Simulates, refuse, leave}
+use Rattle.theory_laws.specs.Reading.{Next, no-more, one-next, weight}
+use Rattle.theory_laws.specs.Representation.{Entries, Holds}
+use Rattle.theory_laws.proofs.Names.{Midway}
+use Rattle.theory_laws.proofs.Weights.{light-tokens}
+use Rattle.theory_laws.proofs.Depth.{whole-shallow}
+use Rattle.theory_laws.proofs.Tallies.{tally, none-counted, none-total}
+use Rattle.theory_laws.proofs.Declarations.{Accepted, declarations-law, size-longer}
+use Rattle.theory_laws.proofs.Readers.{reads}
+
+length-cleared : (n : ℕ) (s : List ℕ) → length (cleared n s) ≡ length s
+unfolding cleared
+length-cleared zero s = refl
+length-cleared (suc n) [] = refl
+length-cleared (suc n) (w ∷ s) = ap suc (length-cleared n s)
+
+next-ahead : (area : List ℕ) (k : ℕ) (cs : List ℕ) → Ahead area k cs → Next area k cs
+unfolding Ahead
+next-ahead area k [] a = no-more
+next-ahead area k (c ∷ cs) a = one-next (a .0) (next-ahead area (k + 1) cs (a .1))
+
+-- Before the first declaration.
+abbrev noEntries : Entries
+noEntries = record { sorts = []; constructors = []; predicates = []; rules = [] }
+
+holds-nothing : (text heap : List ℕ) → length heap ≡ 16384 → Holds text (cleared 1024 heap) noEntries 1024 emptyTheory
+unfolding emptyTheory tables.top
+holds-nothing text heap long =
+    let l = length-cleared 1024 heap in
+    record {
+      long = l ∙ long;
+      sorts = record {
+        table = empty-table text (omega arith) (omega arith) (omega arith) (λ i x y. cleared-zero 1024 heap i (omega arith));
+        below = omega arith;
+        stands = none-yet;
+      };
+      constructors = record {
+        table = empty-table text (omega arith) (omega arith) (omega arith) (λ i x y. cleared-zero 1024 heap i (omega arith));
+        below = omega arith;
+        stands = none-yet;
+      };
+      predicates = record {
+        table = empty-table text (omega arith) (omega arith) (omega arith) (λ i x y. cleared-zero 1024 heap i (omega arith));
+        below = omega arith;
+        stands = none-yet;
+      };
+      rules = record {
+        table = empty-table text (omega arith) (omega arith) (omega arith) (λ i x y. cleared-zero 1024 heap i (omega arith));
+        below = omega arith;
+        stands = none-yet;
+      };
+    }
+
+-- An accepted rulebook: its counts, and its theory in the words below `top`.
+pub record Judged (text : List ℕ) (c : Counts) (areas : AllAreas) (th : Theory) : Type 0 where
+  pub tallied : c ≡ tally th
+  pub entries : Entries
+  pub top : ℕ
+  pub holds : Holds text (areas .2) entries top th
+  pub low : 1024 ≤ top
+  pub high : top ≤ 11948
+
+module _ (text : List ℕ) (short : length text ≤ 8192) where
+  with-counts : (area : List ℕ) {m : Did Areas Counts} {m′ : Result Theory}
+      → Simulates (Accepted text area (Stands text) (reads text) short) m m′
+      → Simulates (Judged text) (withCounts area m) m′
+  with-counts area (refuse e) = refuse e
+  with-counts area (leave q) =
+      leave record { tallied = q .tallied; entries = q .entries; top = q .top; holds = q .holds; low = q .low; high = q .high }
+
+  second-walk : (vars area heap : List ℕ) (xs : Sexps) → length vars ≡ 16384 → length heap ≡ 16384
+      → sexps (items (tokens text)) ≡ ok xs
+      → tokens text ≡ flattened xs
+      → take (length (counts xs)) area ≡ counts xs
+      → Simulates (Accepted text area (Stands text) (reads text) short) (declarations text area vars (cleared 1024 heap)) (definition.declarations emptyTheory xs)
+  unfolding declarations startWalk flattened counts
+  second-walk vars area heap xs long-vars long e whole found =
+      let light = light-tokens text in
+      let few = few-tokens text in
+      let n = few-lists text xs e in
+      let z = ap weight whole in
+      let y = ap streamLength whole in
+      let m = size-longer xs end in
+      let t = none-total in
+      rw (none-counted)
+      (declarations-law text area (Stands text) (reads text) short xs (length text / 2 + 1) emptyTheory noEntries vars
+      record {
+        walks = record {
+          before = subst (Stands text lexed.start) whole (reads text .at-start);
+          counted = next-ahead area 0 (countsAll xs []) (ahead-start area xs found);
+          few = omega arith;
+        };
+        holds = holds-nothing text heap long;
+        above = omega arith;
+        base-low = omega arith;
+        room = omega arith;
+      }
+      long-vars (whole-shallow (items (tokens text)) xs e 260 (omega arith)) (whole-shallow (items (tokens text)) xs e 259 (omega arith))
+      (omega arith) (omega arith) (omega arith))
+
+  -- Both walks.
+  pub theory-law : (vars member-counts heap : List ℕ) → length vars ≡ 16384 → length member-counts ≡ 16384 → length heap ≡ 16384
+      → Simulates (Judged text) (walk.theory text vars member-counts heap) (definition.theory text)
+  unfolding walk.theory definition.theory _>>=_
+  theory-law vars member-counts heap long-vars long-counts long =
+      walk-cases text member-counts short (omega arith)
+      (λ r e a. rw (a, e) (refuse refl))
+      (λ xs e whole a found.
+      rw (a, e) (with-counts (walked text member-counts .area) (second-walk vars (walked text member-counts .area) heap xs long-vars long e whole found)))
+
+-- The report of both walks: number and counts.
+abbrev pub reported : Did AllAreas Counts → RulebookReport
+reported (outcomes.ok c leaving s) = rulebookReport 0 (c .sorts) (c .constructors) (c .predicates) (c .rules)
+reported (outcomes.refused n leaving s) = rulebookReport n 0 0 0 0
+
+report-of : {text : List ℕ} {m : Did AllAreas Counts} {m′ : Result Theory} → Simulates (Judged text) m m′ → reported m ≡ rulebookAnswer m′
+unfolding rulebookAnswer
+report-of (refuse e) = rw e
+report-of (leave q) = rw (q .tallied)
+
+-- Number and counts are the definition's, whatever the areas held.
+pub report-law : (text vars member-counts heap : List ℕ) → length text ≤ 8192 → length vars ≡ 16384 → length member-counts ≡ 16384 → length heap ≡ 16384
+    → reported (walk.theory text vars member-counts heap) ≡ rulebookAnswer (definition.theory text)
+report-law text vars member-counts heap short long-vars long-counts long = report-of (theory-law text short vars member-counts heap long-vars long-counts long)
