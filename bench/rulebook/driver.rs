@@ -8,7 +8,6 @@ mod sexp;
 
 use kernel::Theory;
 use std::hint::black_box;
-use std::time::Instant;
 
 const AREA: usize = 16_384;
 const ROUNDS: usize = 301;
@@ -20,7 +19,17 @@ struct Report {
     counts: [u32; 4],
 }
 
+/// POSIX's processor time of the process, as Linux numbers it.
+const PROCESS_TIME: i32 = 2;
+
+#[repr(C)]
+struct Timespec {
+    seconds: i64,
+    nanoseconds: i64,
+}
+
 unsafe extern "C" {
+    fn clock_gettime(clock: i32, time: *mut Timespec) -> i32;
     // A slice is lent as its pointer and its length.
     #[rustfmt::skip]
     fn horn_rulebook(
@@ -118,13 +127,20 @@ fn median(mut times: Vec<f64>) -> f64 {
     times[times.len() / 2]
 }
 
+/// Microseconds of processor time that this process has used: other work on the machine does not count.
+fn now() -> f64 {
+    let mut t = Timespec { seconds: 0, nanoseconds: 0 };
+    assert_eq!(unsafe { clock_gettime(PROCESS_TIME, &mut t) }, 0, "no processor time");
+    t.seconds as f64 * 1e6 + t.nanoseconds as f64 / 1e3
+}
+
 /// Microseconds of one call, the mean of `turns`.
 fn time(turns: usize, mut call: impl FnMut()) -> f64 {
-    let start = Instant::now();
+    let start = now();
     for _ in 0..turns {
         call();
     }
-    start.elapsed().as_nanos() as f64 / 1_000.0 / turns as f64
+    (now() - start) / turns as f64
 }
 
 fn measure(label: &str, text: &str, areas: &mut Areas) {

@@ -21,9 +21,16 @@ unsafe extern "C" {
     // A slice is lent as its pointer and its length.
     #[rustfmt::skip]
     fn horn_rulebook(
-        text: *const u8, bytes: usize,
-        a: *mut u32, a_words: usize, b: *mut u32, b_words: usize,
-        c: *mut u32, c_words: usize, d: *mut u32, d_words: usize,
+        text: *const u8,
+        bytes: usize,
+        a: *mut u32,
+        a_words: usize,
+        b: *mut u32,
+        b_words: usize,
+        c: *mut u32,
+        c_words: usize,
+        d: *mut u32,
+        d_words: usize,
     ) -> Report;
 }
 

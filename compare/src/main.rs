@@ -14,6 +14,7 @@ mod names;
 mod oracle;
 mod random;
 mod rulebook;
+#[cfg(library)]
 mod rulebooks;
 mod special;
 mod tree;
