@@ -1,3 +1,6 @@
+use mathlib.Core.Path.{_∙_}
+use Rattle.kernel.proofs.Turns.{zeros}
+use denote.Ref.{now}
 use borrow.Author.Needs.{needs}
 use Rattle.kernel.proofs.clear.Statement.{statement}
 use Rattle.kernel.proofs.clear.Tie as tie
@@ -15,7 +18,7 @@ same-length c = search needs
 
 -- src/lib.rt:50:1
 returns : tie.Need-returns
-returns c = search needs
+returns c = c .before .before .clear .ensures ∙ zeros (now (c .before .before .before .before .before .args .s))
 
 pub clear-spec : {M : Type 1} → statement M
 clear-spec = tie.close (tie.spec clear-requires same-length returns)

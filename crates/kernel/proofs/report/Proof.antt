@@ -19,11 +19,11 @@ enum-known-judged-2 c = search needs
 
 -- src/lib.rt:34:1
 returns : tie.Need-returns
-returns c = search needs
+returns c = rw (c .refused .ensures, c .before .before .judged .given .1)
 
 -- src/lib.rt:34:1
 returns-2 : tie.Need-returns-2
-returns-2 c = search needs
+returns-2 c = rw (c .before .judged2 .given .1)
 
 pub report-spec : {M : Type 1} → statement M
 report-spec =
