@@ -117,14 +117,18 @@ fn run_empty_fourth(label: &[u8], text: &[u8]) {
     over(garbage(), label, text, &mut a, &mut b, &mut c, &mut d);
 }
 
-// 01's rows. 10 cannot occur: nothing of a rulebook is read where only a closing may stand.
-fn rows() {
+// 01's rows 3 to 9.
+fn first_rows() {
     run(b"row 3, byte FF", b"\xff");
     run(b"row 5, (sort", b"(sort");
     run(b"row 6, )", b")");
     run(b"row 7, a", b"a");
     run(b"row 8, ()", b"()");
     run(b"row 9, (gaol)", b"(gaol)");
+}
+
+// Rows 11 to 16. 10 cannot occur: nothing of a rulebook is read where only a closing may stand.
+fn later_rows() {
     run(b"row 11, (sort ?a)", b"(sort ?a)");
     run(b"row 12, (ctor a () q)", b"(ctor a () q)");
     run(b"row 13, (sort a)(sort a)", b"(sort a)(sort a)");
@@ -142,14 +146,18 @@ fn rows() {
     );
 }
 
-// Reading: a look only when a token is asked for, the whole rulebook before any judging, names beyond ASCII.
-fn reading() {
+// A look only when a token is asked for, and the whole rulebook before any judging.
+fn lines() {
     run(b"nothing", b"");
     run(b"a closing, FF on the next line", b")\n\xff");
     run(b"an atom, FF on the next line", b"a\n\xff");
+    run(b"an atom, a closing", b"a)");
     run(b"FF in a comment", b";\xff");
     run(b"a comment ends at 0A", b";)\n(sort t)");
-    run(b"an atom, a closing", b"a)");
+}
+
+// Atoms, white space and names.
+fn atoms() {
     run(b"a square bracket", b"[");
     run(
         b"white space beyond ASCII",
@@ -159,13 +167,17 @@ fn reading() {
     run(b"two names, one the other's start", b"(sort a)(sort ab)");
 }
 
-// Declarations: a head and a length, then the parts in 01's order.
-fn declarations() {
+// The head and the length of a declaration, lists and atoms in their places.
+fn heads() {
     run(b"a list for the head", b"((sort) a)");
     run(b"sort without a name", b"(sort)");
     run(b"sort with two names", b"(sort a b)");
     run(b"a list for the name", b"(sort (a))");
     run(b"an atom for inputs", b"(sort t)(ctor a t t)");
+}
+
+// The parts of a declaration in 01's order.
+fn parts() {
     run(
         b"a constructor's name before its inputs",
         b"(ctor ?a (q) q)",
@@ -187,14 +199,18 @@ fn declarations() {
     );
 }
 
-// Rules: premises, conclusion, name, duplicate.
-fn rules() {
+// Premises and conclusion.
+fn judgments() {
     run(b"an atom for premises", b"(rule r a (p))");
     run(b"an atom for a premise", b"(rule r (a) (p))");
     run(b"an empty premise", b"(rule r (()) (p))");
     run(b"a list for a predicate", b"(rule r () ((p)))");
     run(b"a predicate with ?", b"(rule r()(?))");
     run(b"a predicate declared later", b"(rule r()(p))(pred p())");
+}
+
+// Premises, conclusion, name, duplicate, in this order.
+fn rules() {
     run(b"patterns before the name", b"(pred p ())(rule ?r () (q))");
     run(b"a name with ?", b"(pred p ())(rule ?r () (p))");
     run(
@@ -211,7 +227,7 @@ fn rules() {
     );
 }
 
-// Terms of rules.
+// Terms by their form.
 fn terms() {
     run(b"? alone", b"(sort t)(pred p (t))(rule r () (p ?))");
     run(
@@ -231,6 +247,10 @@ fn terms() {
         b"an unknown constructor",
         b"(sort t)(pred p (t))(rule r () (p (q ?x)))",
     );
+}
+
+// Output sort and length before the arguments, and a variable's sort.
+fn sorts() {
     run(
         b"the sort before the arguments",
         b"(sort t)(sort u)(ctor f (t) u)(pred p (t))(rule r () (p (f q)))",
@@ -292,10 +312,15 @@ fn on_ones() {
 fn main() {
     short_areas();
     long_texts();
-    rows();
-    reading();
-    declarations();
+    first_rows();
+    later_rows();
+    lines();
+    atoms();
+    heads();
+    parts();
+    judgments();
     rules();
     terms();
+    sorts();
     on_ones();
 }
