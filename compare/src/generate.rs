@@ -16,7 +16,7 @@ pub struct Case {
     pub kind: String,
 }
 
-fn size(rng: &mut Random) -> Size {
+pub fn size(rng: &mut Random) -> Size {
     match rng.below(100) {
         0..55 => 0,
         55..88 => 1,

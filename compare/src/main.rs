@@ -1,6 +1,8 @@
 //! The comparison's driver: the Rust's answers to cases, and a seeded generator of cases. See ../README.md.
 mod aim;
 mod aim_steps;
+#[cfg(library)]
+mod call;
 mod cases;
 mod certificate;
 mod damage;
@@ -12,6 +14,8 @@ mod names;
 mod oracle;
 mod random;
 mod rulebook;
+#[cfg(library)]
+mod rulebooks;
 mod special;
 mod tree;
 mod written;
@@ -29,6 +33,7 @@ const USAGE: &str = "usage: compare/run COMMAND
   second [NODES WORDS]  the opened copy's answers, on any bytes and limits: a second opinion only
   fixed | rulebooks   the fixed lists
   readings | by-hand  cases written for people (standard input) as case lines, checked
+  rulebook-call N SEED  N generated rulebooks: the static library's call beside the Rust
   keep [DIR]          all four files of compare/cases, written anew";
 
 fn fail(message: &str) -> ! {
@@ -76,6 +81,8 @@ fn main() {
         ["rulebooks"] => rulebooks(&mut out),
         ["readings"] => readings(&mut out),
         ["by-hand"] => by_hand(&mut out),
+        #[cfg(library)]
+        ["rulebook-call", n, seed] => rulebook_call(number(n) as usize, number(seed), &mut out),
         _ => fail(USAGE),
     };
     if let Err(e) = result.and_then(|()| out.flush()) {
@@ -91,6 +98,15 @@ fn generated(n: usize, seed: u64, out: &mut impl Write) -> Io {
         let case = generate::case(&mut rng, false);
         writeln!(out, "{}\t{}\t{}", case.texts, reply(&oracle::answer(&case.texts)), case.kind)
     })
+}
+
+#[cfg(library)]
+fn rulebook_call(n: usize, seed: u64, out: &mut impl Write) -> Io {
+    if call::compare(n, seed, out)? {
+        return Ok(());
+    }
+    out.flush()?;
+    fail("the call differs from the Rust")
 }
 
 fn second(nodes: usize, words: usize, out: &mut impl Write) -> Io {

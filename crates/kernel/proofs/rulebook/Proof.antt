@@ -104,7 +104,7 @@ same-length-4 c = search needs
 
 -- src/lib.rt:80:1
 returns-6 : tie.Need-returns-6
-returns-6 c = 
+returns-6 c =
     whole-call _ (c .before .before .before .before .before .before .before .before .before .before .before .before .before .if5 .left) _ _ _ _ (c .before .before .before .before .before .before .before .before .before .before .before .before .before .before .before .before .if2 .left) (c .before .before .before .before .before .before .before .before .before .before .before .before .before .before .before .if3 .left) (c .before .before .before .before .before .before .before .before .before .before .before .before .before .before .if4 .left) (c .before .before .before .before .before .before .before .before .judge .ensures .0) _ _ _ _ _ (c .before .before .before .before .before .before .before .before .before .before .before .before .before .before .before .before .before .if1 .left)
     (c .before .before .before .before .before .before .before .before .judge .ensures .1 .0) (c .before .before .before .before .before .before .before .before .judge .ensures .1 .1 .0) (c .before .before .before .before .before .before .before .before .judge .ensures .1 .1 .1 .0) (c .before .before .before .before .before .before .before .before .judge .ensures .1 .1 .1 .1)
 
