@@ -110,6 +110,7 @@ module _ (text : List ℕ) (short : length text ≤ 8192) (vars counts heap : Li
       → counts′ ≡ replicate (length (take 16384 counts)) 0
       → heap′ ≡ replicate (length (take 16384 heap)) 0
       → (answered r ≡ rulebookCall document01 (length a) (length vars) (length counts) (length heap) text) × ((a′ ++ drop 16384 a ≡ areaAfter 16384 (r .number) a) × ((vars′ ++ drop 16384 vars ≡ areaAfter 16384 (r .number) vars) × ((counts′ ++ drop 16384 counts ≡ areaAfter 16384 (r .number) counts) × (heap′ ++ drop 16384 heap ≡ areaAfter 16384 (r .number) heap))))
-  whole-call a a′ vars′ counts′ heap′ long-a e₀ e₁ e₂ e₃ =
-      (judged ∙ sym (judged-text (length a) (length vars) (length counts) (length heap) text long-a long-vars long-counts long-heap short),
-      (area-is a′ a long-a e₀, (area-is vars′ vars long-vars e₁, (area-is counts′ counts long-counts e₂, area-is heap′ heap long-heap e₃))))
+  whole-call a a′ vars′ counts′ heap′ long-a e₀ e₁ e₂ e₃ = (
+    judged ∙ sym (judged-text (length a) (length vars) (length counts) (length heap) text long-a long-vars long-counts long-heap short),
+    (area-is a′ a long-a e₀, (area-is vars′ vars long-vars e₁, (area-is counts′ counts long-counts e₂, area-is heap′ heap long-heap e₃))),
+  )

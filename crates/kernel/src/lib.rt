@@ -55,13 +55,7 @@ fn clear(s: &mut [u32])
 }
 
 // Both walks over a rulebook, then the areas cleared behind them.
-fn judge(
-    text: &[u8],
-    a: &mut [u32],
-    b: &mut [u32],
-    c: &mut [u32],
-    d: &mut [u32],
-) -> RulebookReport
+fn judge(text: &[u8], a: &mut [u32], b: &mut [u32], c: &mut [u32], d: &mut [u32]) -> RulebookReport
     ensures report { λ r. ⌜ r ≡ reportedBy (theory (now (text .entry)) (now (b .entry)) (now (c .entry)) (now (d .entry))) ⌝ }
     ensures first { λ r. ⌜ now (a .exit) ≡ replicate (length (now (a .entry))) 0 ⌝ }
     ensures second { λ r. ⌜ now (b .exit) ≡ replicate (length (now (b .entry))) 0 ⌝ }

@@ -56,15 +56,22 @@ same-length-4 c = search needs
 
 -- src/lib.rt:58:1
 returns : tie.Need-returns
-returns c = 
+returns c =
     let long-vars = c .before .before .before .before .before .before .before .before .before .before .before .before .before .before .before .before .before .before .before .before .before .before .before .theory .kept .1 .0 in
     let long-counts = c .before .before .before .before .before .before .before .before .before .before .before .before .before .before .before .before .before .before .before .before .before .before .before .theory .kept .1 .1 .0 in
-    let long-heap = c .before .before .before .before .before .before .before .before .before .before .before .before .before .before .before .before .before .before .before .before .before .before .before .theory .kept .1 .1 .1 .0 in
-    (c .report .ensures ∙ ap (λ (m : Did AllAreas Counts). reportedBy m) (c .before .before .before .before .before .before .before .before .before .before .before .before .before .before .before .before .before .before .before .before .before .before .before .theory .ensures),
-    (c .before .before .before .before .before .before .before .before .before .before .before .before .before .before .before .clear .ensures,
-    (c .before .before .before .before .before .before .before .before .before .before .before .clear2 .ensures ∙ ap (λ (n : ℕ). replicate n 0) long-vars,
-    (c .before .before .before .before .before .before .before .clear3 .ensures ∙ ap (λ (n : ℕ). replicate n 0) long-counts,
-    c .before .before .before .clear4 .ensures ∙ ap (λ (n : ℕ). replicate n 0) long-heap))))
+    let long-heap = c .before .before .before .before .before .before .before .before .before .before .before .before .before .before .before .before .before .before .before .before .before .before .before .theory .kept .1 .1 .1 .0 in (
+      c .report .ensures ∙ ap (λ (m : Did AllAreas Counts). reportedBy m) (c .before .before .before .before .before .before .before .before .before .before .before .before .before .before .before .before .before .before .before .before .before .before .before .theory .ensures),
+      (
+        c .before .before .before .before .before .before .before .before .before .before .before .before .before .before .before .clear .ensures,
+        (
+          c .before .before .before .before .before .before .before .before .before .before .before .clear2 .ensures ∙ ap (λ (n : ℕ). replicate n 0) long-vars,
+          (
+            c .before .before .before .before .before .before .before .clear3 .ensures ∙ ap (λ (n : ℕ). replicate n 0) long-counts,
+            c .before .before .before .clear4 .ensures ∙ ap (λ (n : ℕ). replicate n 0) long-heap,
+          ),
+        ),
+      ),
+    )
 
 pub judge-spec : {M : Type 1} → statement M
 judge-spec =
