@@ -1,5 +1,5 @@
 use mathlib.Core.Path.{sym}
-use lib.Seq.{length-take-le}
+use lib.Seq.{length-take-le, length-front}
 use Rattle.kernel.proofs.Turns.{short-first, short-second, short-third, short-fourth, long-text, untouched-short, untouched-long, early, whole-call}
 use denote.Ref.{now}
 use borrow.Author.Needs.{needs}
@@ -52,7 +52,7 @@ returns-5 c = early 2 _ _ _ _ _ _ (c .refused5 .ensures) (long-text _ _ _ _ _ (c
 
 -- src/lib.rt:110:9
 slice-relend-prefix-judge : tie.Need-slice-relend-prefix-judge
-slice-relend-prefix-judge c = search needs
+slice-relend-prefix-judge c = c .before .before .before .before .if1 .left
 
 -- src/lib.rt:110:9
 slice-aggregate-judge : tie.Need-slice-aggregate-judge
@@ -60,7 +60,7 @@ slice-aggregate-judge c = sym (length-take-le 16384 (now (c .before .before .bef
 
 -- src/lib.rt:111:9
 slice-relend-prefix-judge-2 : tie.Need-slice-relend-prefix-judge-2
-slice-relend-prefix-judge-2 c = search needs
+slice-relend-prefix-judge-2 c = c .before .before .before .before .if2 .left
 
 -- src/lib.rt:111:9
 slice-aggregate-judge-2 : tie.Need-slice-aggregate-judge-2
@@ -68,7 +68,7 @@ slice-aggregate-judge-2 c = sym (length-take-le 16384 (now (c .before .before .b
 
 -- src/lib.rt:112:9
 slice-relend-prefix-judge-3 : tie.Need-slice-relend-prefix-judge-3
-slice-relend-prefix-judge-3 c = search needs
+slice-relend-prefix-judge-3 c = c .before .before .before .before .if3 .left
 
 -- src/lib.rt:112:9
 slice-aggregate-judge-3 : tie.Need-slice-aggregate-judge-3
@@ -76,7 +76,7 @@ slice-aggregate-judge-3 c = sym (length-take-le 16384 (now (c .before .before .b
 
 -- src/lib.rt:113:9
 slice-relend-prefix-judge-4 : tie.Need-slice-relend-prefix-judge-4
-slice-relend-prefix-judge-4 c = search needs
+slice-relend-prefix-judge-4 c = c .before .before .before .before .if4 .left
 
 -- src/lib.rt:113:9
 slice-aggregate-judge-4 : tie.Need-slice-aggregate-judge-4
@@ -88,19 +88,19 @@ judge-requires c κs = search needs
 
 -- src/lib.rt:80:1
 same-length : tie.Need-same-length
-same-length c = search needs
+same-length c = length-front (now (c .before .before .before .before .before .before .before .before .before .before .before .before .before .before .before .before .before .before .before .before .before .before .before .args .a)) (c .before .before .before .before .before .before .before .before .judge .last .1 .0) 16384 (c .before .before .before .before .before .before .before .before .judge .kept .1 .0)
 
 -- src/lib.rt:80:1
 same-length-2 : tie.Need-same-length-2
-same-length-2 c = search needs
+same-length-2 c = length-front (now (c .before .before .before .before .before .before .before .before .before .before .before .before .before .before .before .before .before .before .before .before .before .before .before .args .b)) (c .before .before .before .before .before .before .before .before .judge .last .1 .1 .0) 16384 (c .before .before .before .before .before .before .before .before .judge .kept .1 .1 .0)
 
 -- src/lib.rt:80:1
 same-length-3 : tie.Need-same-length-3
-same-length-3 c = search needs
+same-length-3 c = length-front (now (c .before .before .before .before .before .before .before .before .before .before .before .before .before .before .before .before .before .before .before .before .before .before .before .args .c)) (c .before .before .before .before .before .before .before .before .judge .last .1 .1 .1 .0) 16384 (c .before .before .before .before .before .before .before .before .judge .kept .1 .1 .1 .0)
 
 -- src/lib.rt:80:1
 same-length-4 : tie.Need-same-length-4
-same-length-4 c = search needs
+same-length-4 c = length-front (now (c .before .before .before .before .before .before .before .before .before .before .before .before .before .before .before .before .before .before .before .before .before .before .before .args .d)) (c .before .before .before .before .before .before .before .before .judge .last .1 .1 .1 .1 .0) 16384 (c .before .before .before .before .before .before .before .before .judge .kept .1 .1 .1 .1 .0)
 
 -- src/lib.rt:80:1
 returns-6 : tie.Need-returns-6
