@@ -4,6 +4,7 @@ pub mod Post
 pub mod Counts
 pub mod Kept
 pub mod Limits
+pub mod Refusing
 pub mod Later
 pub mod Equality
 pub mod Inversion

@@ -20,4 +20,3 @@ pub mod Declarations
 pub mod Readers
 pub mod Whole
 pub mod Readback
-pub mod Refusing

@@ -39,7 +39,7 @@ use Rattle.theory_laws.proofs.Depth.{whole-shallow}
 use Rattle.theory_laws.proofs.Tallies.{tally, none-counted, none-total}
 use Rattle.theory_laws.proofs.Declarations.{Accepted, declarations-law, size-longer}
 use Rattle.theory_laws.proofs.Readers.{reads}
-use Rattle.theory_laws.proofs.Refusing.{Judges, judges-refused, judging-number, judges-declarations}
+use Rattle.horn.proofs.Refusing.{Judges, judges-refused, judging-number, judges-declarations}
 
 length-cleared : (n : ℕ) (s : List ℕ) → length (cleared n s) ≡ length s
 unfolding cleared

@@ -1,21 +1,21 @@
 -- Which refusals the judging of declarations gives: 7, 8, 9 and 11 to 16. So the second walk never gives those of the
--- first, 3 to 6, nor 10. Assumes nothing.
+-- first, 3 to 6, nor 10.
 use Prim.Native.Nat.{_≤_}
 use mathlib.Core.Path.{_≡_}
 use mathlib.Core.Bool.{Bool, true, false}
 use mathlib.Core.List.{List, [], _∷_, _++_}
 use mathlib.Core.Option.{Option, none, some}
 use native.Mathlib.Omega.{arith}
 use Rattle.horn.specs.Refusals.{Refusal, number, Result, ok, refused, need, found, _>>=_}
 use Rattle.horn.specs.Refusals.{atomOrList, emptyList, form, variableName, unknown, duplicate, twoSorts, sortArity, bracketedConstant}
 use Rattle.horn.specs.NestedLists.{Sexp, leaf, list, Sexps, []ₛ, _∷ₛ_}
 use Rattle.horn.specs.Names.{Name, named, questioned, first}
 use Rattle.horn.specs.Rulebook.{inputs, Pattern, Variable, variable, isVariable, var, Theory, Keyword, sortWord, ctorWord, predWord, ruleWord, otherWord}
 use Rattle.horn.specs.Rulebook.{constructor, predicate, atomDue, listDue, declaredName, sortNamed, sortsNamed, schematic, constant}
 use Rattle.horn.specs.Rulebook.{pattern, compound, patterns, judgmentOf, judgmentPattern, judgmentPatterns, declareSort}
 use Rattle.horn.specs.Rulebook.{declareConstructor, declarePredicate, declareRule, oneMember, twoMembers, threeMembers, keyword}
 use Rattle.horn.specs.Rulebook.{declare, headed, declaration, declarations}
 use Rattle.horn.proofs.Post.{either}
 
 -- The refusals of judging.
 pub data Judging : Refusal → Type 0 where
