@@ -60,10 +60,17 @@ pub untouched-long : (s : List ℕ) → s ≡ areaAfter 16384 2 s
 unfolding areaAfter
 untouched-long s = refl
 
+-- What the call ensures of its report and of each area afterwards.
+abbrev Ensured : RulebookReport → List ℕ → List ℕ → List ℕ → List ℕ → List ℕ → List ℕ → List ℕ → List ℕ → List ℕ → Type 0
+Ensured r text a b c d a′ b′ c′ d′ =
+    (answered r ≡ rulebookCall document01 (length a) (length b) (length c) (length d) text)
+    × ((a′ ≡ areaAfter 16384 (r .number) a) × ((b′ ≡ areaAfter 16384 (r .number) b) × ((c′ ≡ areaAfter 16384 (r .number) c) × (d′ ≡ areaAfter 16384 (r .number) d))))
+
+-- A refusal by the lengths.
 pub early : (n : ℕ) (a b c d text : List ℕ) (r : RulebookReport) → r ≡ record { number = n; sorts = 0; constructors = 0; predicates = 0; rules = 0 }
     → rulebookCall document01 (length a) (length b) (length c) (length d) text ≡ rulebookReport n 0 0 0 0
     → ((s : List ℕ) → s ≡ areaAfter 16384 n s)
-    → (answered r ≡ rulebookCall document01 (length a) (length b) (length c) (length d) text) × ((a ≡ areaAfter 16384 (r .number) a) × ((b ≡ areaAfter 16384 (r .number) b) × ((c ≡ areaAfter 16384 (r .number) c) × (d ≡ areaAfter 16384 (r .number) d))))
+    → Ensured r text a b c d a b c d
 early n a b c d text r is call kept = rw is (sym call, (kept a, (kept b, (kept c, kept d))))
 
 -- "Every other answer leaves the first 16,384 words of each area zero and later words untouched."
@@ -77,17 +84,18 @@ unfolding cleared
 zeros [] = refl
 zeros (w ∷ s) = ap (λ (r : List ℕ). 0 ∷ r) (zeros s)
 
--- "A number" that is not of the lengths: neither 1 nor 2.
+-- A rulebook that is read and judged is answered neither 1 nor 2.
 late : (m : Result Theory) → Later m → (rulebookAnswer m .number ≢ 1) × (rulebookAnswer m .number ≢ 2)
 unfolding rulebookAnswer
 late m later-ok = ((λ e. absurd (omega arith)), (λ e. absurd (omega arith)))
 late m (later-refused r h) = ((λ e. absurd (omega arith)), (λ e. absurd (omega arith)))
 
--- A report of both walks is the definition's, in its words.
+-- A report of both walks, in the definition's words.
 in-its-words : (m : Did AllAreas Counts) → answered (reportedBy m) ≡ whole.reported m
 in-its-words (outcomes.ok c leaving areas) = refl
 in-its-words (outcomes.refused n leaving areas) = refl
 
+-- A text of at most 8,192 bytes, and areas whose first 16,384 words are lent to both walks.
 module _ (text : List ℕ) (short : length text ≤ 8192) (vars counts heap : List ℕ) (r : RulebookReport) (long-vars : 16384 ≤ length vars) (long-counts : 16384 ≤ length counts)
     (long-heap : 16384 ≤ length heap) (is : r ≡ reportedBy (walks.theory text (take 16384 vars) (take 16384 counts) (take 16384 heap))) where
   judged : answered r ≡ rulebookAnswer (theory text)
@@ -104,12 +112,13 @@ module _ (text : List ℕ) (short : length text ≤ 8192) (vars counts heap : Li
       ap (λ (p : List ℕ). p ++ drop 16384 s) (e ∙ ap (λ (k : ℕ). replicate k 0) (length-take-le 16384 s long))
       ∙ sym (touched (r .number) s (λ h. l .0 (sym n ∙ h)) (λ h. l .1 (sym n ∙ h)))
 
+  -- Every other answer.
   pub whole-call : (a a′ vars′ counts′ heap′ : List ℕ) → 16384 ≤ length a
       → a′ ≡ replicate (length (take 16384 a)) 0
       → vars′ ≡ replicate (length (take 16384 vars)) 0
       → counts′ ≡ replicate (length (take 16384 counts)) 0
       → heap′ ≡ replicate (length (take 16384 heap)) 0
-      → (answered r ≡ rulebookCall document01 (length a) (length vars) (length counts) (length heap) text) × ((a′ ++ drop 16384 a ≡ areaAfter 16384 (r .number) a) × ((vars′ ++ drop 16384 vars ≡ areaAfter 16384 (r .number) vars) × ((counts′ ++ drop 16384 counts ≡ areaAfter 16384 (r .number) counts) × (heap′ ++ drop 16384 heap ≡ areaAfter 16384 (r .number) heap))))
+      → Ensured r text a vars counts heap (a′ ++ drop 16384 a) (vars′ ++ drop 16384 vars) (counts′ ++ drop 16384 counts) (heap′ ++ drop 16384 heap)
   whole-call a a′ vars′ counts′ heap′ long-a e₀ e₁ e₂ e₃ = (
     judged ∙ sym (judged-text (length a) (length vars) (length counts) (length heap) text long-a long-vars long-counts long-heap short),
     (area-is a′ a long-a e₀, (area-is vars′ vars long-vars e₁, (area-is counts′ counts long-counts e₂, area-is heap′ heap long-heap e₃))),
