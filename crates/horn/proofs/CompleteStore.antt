@@ -2,7 +2,7 @@
 use Prim.Native.Nat.{_≤_}
 use native.Mathlib.Omega.{arith}
 use mathlib.Core.Path.{_≡_, refl, sym, subst, _∙_}
-use mathlib.Core.Bool.{true, false}
+use mathlib.Core.Bool.{and-eq-true-iff, true, false}
 use mathlib.Core.List.{List, [], _∷_, _++_, List·Memᴰ, List·Memᴰ·head, List·Memᴰ·tail, Memᴰ·append-left, Memᴰ·append-right, List·Memᴰ·append-cases}
 use mathlib.Core.Logic.{⊎-elim}
 use lib.Dec.{leb}
@@ -149,7 +149,8 @@ fits-all us (t ∷ ts) store f s =
 pub at-most : (limits : Setting) (store : Store) → length store ≤ limits .nodes → size store ≤ limits .nodeWords
     → withinLimits limits store ≡ true
 unfolding withinLimits
-at-most limits store h k = rw (le-leb (length store) (limits .nodes) h, le-leb (size store) (limits .nodeWords) k)
+at-most limits store h k =
+    and-eq-true-iff _ _ .1 (le-leb (length store) (limits .nodes) h, le-leb (size store) (limits .nodeWords) k)
 
 pub no-more : (limits : Setting) (store : Store) → withinLimits limits store ≡ true
     → (length store ≤ limits .nodes) × (size store ≤ limits .nodeWords)

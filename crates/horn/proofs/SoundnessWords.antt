@@ -106,18 +106,18 @@ unfolding conclusion
 conclusion-well-sorted w i is =
     substitute-judgment (i .assignment) (is .sorted) ((w .formed (i .byRule) (is .declared)) .sorted-conclusion)
 
--- Derivable judgments are in every closed set.
-module _ {ℓ} {th : Theory} (S : Term → Type ℓ) (closed-set : IsClosed th S) where
+-- Derivable judgments are in every set that is closed under the rules, whatever else it holds.
+module _ {ℓ} {th : Theory} (S : Term → Type ℓ) (closed : (i : Instance) → IsInstance th i → Each S (premises i) → S (conclusion i)) where
   mutual
     pub derivable-least : {j : Term} → Derivable th j → S j
-    derivable-least (derive i is ds e) = subst S (sym e) (closed-set .closed i is (derivables-least ds))
+    derivable-least (derive i is ds e) = subst S (sym e) (closed i is (derivables-least ds))
 
     pub derivables-least : {js : List Term} → Derivables th js → Each S js
     derivables-least all-derived = tt
     derivables-least (derived d ds) = (derivable-least d, derivables-least ds)
 
 pub forced {ℓ} : {th : Theory} {j : Term} → Derivable th j → Forced {ℓ} th j
-forced d S closed-set = derivable-least S closed-set d
+forced d S closed-set = derivable-least S (closed-set .closed) d
 
 -- They are closed under the rules, and well-sorted.
 pub derivables : {th : Theory} (js : List Term) → Each (Derivable th) js → Derivables th js
