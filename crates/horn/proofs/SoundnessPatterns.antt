@@ -1,7 +1,7 @@
 -- A rule's patterns that were read are well-sorted under the variables that were read with them.
 use Prim.Native.Nat.{ℕ, zero}
 use mathlib.Core.Path.{_≡_, refl, sym, ap, subst, _∙_}
-use mathlib.Core.Bool.{true, true≢false}
+use mathlib.Core.Bool.{true, false, true≢false}
 use mathlib.Core.List.{List, [], _∷_, _++_, List·Memᴰ, List·Memᴰ·head, List·Memᴰ·tail}
 use mathlib.Core.Option.{none, some}
 use lib.Dec.{eqb}
@@ -13,11 +13,11 @@ use Rattle.horn.specs.NestedLists.{Sexp, leaf, list, Sexps, []ₛ, _∷�
 use Rattle.horn.specs.Rulebook
 use Rattle.horn.specs.Rulebook.{Symbol, symbol, Output, sameOutput, sort, judgment, Variable, variable, Pattern, var, app, Patterns, []ₚ, _∷ₚ_}
 use Rattle.horn.specs.Rulebook.{Theory}
-use Rattle.horn.proofs.Equality.{both, chosen, eqb-decides, named-decides, sameOutput-decides, first-some, first-none}
-use Rattle.horn.proofs.Inversion.{not-ok, ok-equal, afterᵣ, afterNeedᵣ, was-found, chosen-option}
+use Rattle.horn.proofs.Equality.{case, apart, differ, both, chosen, eqb-decides, named-decides, sameOutput-decides, first-some, first-none}
+use Rattle.horn.proofs.Inversion.{not-ok, none-some, ok-equal, afterᵣ, afterNeedᵣ, was-found, chosen-option}
 use Rattle.horn.proofs.SoundnessWords.{Sorted, a-variable, a-term, AllSorted, no-pattern, pattern-then, SortedJudgment}
 use Rattle.horn.proofs.SoundnessWords.{a-judgment, sorted-in-more, judgment-in-more, Throughout}
-use Rattle.horn.proofs.SoundnessWords.{at-variable, in-term, ThroughoutAll, in-next, Covers, OneSort}
+use Rattle.horn.proofs.SoundnessWords.{at-variable, in-term, ThroughoutAll, in-next, Covers, OneSort, Apart, no-names, name-apart}
 
 -- Members of a list with one entry more.
 pub in-longer : {A : Type 0} {a : A} {xs : List A} (ys : List A) → List·Memᴰ a xs → List·Memᴰ a (xs ++ ys)
@@ -51,10 +51,11 @@ predicate-declared th name e = was-found _ _ e λ p. first-some (Rulebook.isPred
 pub record Extends (uses : (Name → Type 0) → Type 0) (vs ws : List Variable) : Type 1 where
   pub grow : (v : Variable) → List·Memᴰ v vs → List·Memᴰ v ws
   pub keep : OneSort vs → OneSort ws
+  pub apart : Apart vs → Apart ws
   pub occur : (P : Name → Type 0) → uses P → Covers P vs → Covers P ws
 
 extends-none : {uses : (Name → Type 0) → Type 0} (vs : List Variable) → Extends uses vs vs
-extends-none vs = record { grow = λ v m. m; keep = λ o. o; occur = λ P u c. c }
+extends-none vs = record { grow = λ v m. m; keep = λ o. o; apart = λ a. a; occur = λ P u c. c }
 
 -- One part after another.
 extends-both : {A B both : (Name → Type 0) → Type 0} {us vs ws : List Variable} → Extends A us vs → Extends B vs ws
@@ -64,12 +65,13 @@ extends-both x y split =
     record {
       grow = λ v m. y .grow v (x .grow v m);
       keep = λ o. y .keep (x .keep o);
+      apart = λ a. y .apart (x .apart a);
       occur = λ P u c. y .occur P ((split P u) .1) (x .occur P ((split P u) .0) c);
     }
 
 extends-by : {A B : (Name → Type 0) → Type 0} {vs ws : List Variable} → Extends A vs ws → ((P : Name → Type 0) → B P → A P)
     → Extends B vs ws
-extends-by x f = record { grow = x .grow; keep = x .keep; occur = λ P u c. x .occur P (f P u) c }
+extends-by x f = record { grow = x .grow; keep = x .keep; apart = x .apart; occur = λ P u c. x .occur P (f P u) c }
 
 -- A new variable.
 variable-equal : {n m s t : Name} → variable n s ≡ variable m t → (n ≡ m) × (s ≡ t)
@@ -84,6 +86,27 @@ in-term-of (in-term ps) = ps
 in-next-of : {P : Name → Type 0} {p : Pattern} {ps : Patterns} → ThroughoutAll P (p ∷ₚ ps) → Throughout P p × ThroughoutAll P ps
 in-next-of (in-next p ps) = (p, ps)
 
+-- A name that no variable has, behind them.
+none-behind : (key name s : Name) (vs : List Variable) → first (Rulebook.isVariable key) vs ≡ none → named key name ≡ false
+    → first (Rulebook.isVariable key) (vs ++ (variable name s ∷ [])) ≡ none
+unfolding first Rulebook.isVariable
+none-behind key name s [] e f = rw (f, first)
+none-behind key name s (variable m t ∷ vs) e f =
+    case (named key m)
+    (λ p. none-some {a = variable m t} (sym e ∙ rw (p, first)))
+    (λ p. rw (p, first) (none-behind key name s vs (rw (p, first) at e) f))
+
+apart-more : (name s : Name) {vs : List Variable} → Apart vs → first (Rulebook.isVariable name) vs ≡ none → Apart (vs ++ (variable name s ∷ []))
+unfolding first Rulebook.isVariable
+apart-more name s no-names e = name-apart refl no-names
+apart-more name s (name-apart {name = m} {s = t} {vs} f a) e =
+    case (named name m)
+    (λ p. none-some {a = variable m t} (sym e ∙ rw (p, first)))
+    (λ p.
+    name-apart
+    (none-behind m name s vs f (apart named-decides m name (λ q. differ named-decides name m p (sym q))))
+    (apart-more name s a (rw (p, first) at e)))
+
 extends-new : (name s : Name) (vs : List Variable) → first (Rulebook.isVariable name) vs ≡ none
     → Extends (λ P. Throughout P (var name)) vs (vs ++ (variable name s ∷ []))
 unfolding Rulebook.isVariable
@@ -96,6 +119,7 @@ extends-new name s vs e =
           (λ p. in-or-last vs m₂
           (λ m₂′. absurd (other u m₂′ ((variable-equal p) .0)))
           (λ q. (variable-equal p) .1 ∙ sym ((variable-equal q) .1)));
+      apart = λ a. apart-more name s a e;
       occur = λ P u c n t m.
           in-or-last vs m (c n t) (λ p. subst P (sym ((variable-equal p) .0)) (at-variable-of u));
     }

@@ -9,7 +9,7 @@ use Rattle.horn.specs.Rulebook
 use Rattle.horn.specs.Rulebook.{Symbol, Variable, Pattern, Rule, rule, Theory}
 use Rattle.horn.specs.Rulebook.{Keyword, sortWord, ctorWord, predWord, ruleWord, otherWord}
 use Rattle.horn.proofs.Inversion.{afterOne, afterTwo, afterThree, not-ok, ok-equal, afterᵣ, afterNeedᵣ}
-use Rattle.horn.proofs.SoundnessWords.{judgment-in-more, RuleFormed, WellFormed}
+use Rattle.horn.proofs.SoundnessWords.{judgment-in-more, no-names, RuleFormed, WellFormed}
 use Rattle.horn.proofs.SoundnessPatterns.{in-longer, in-or-last, JudgmentRead, JudgmentsRead, read-judgment-pattern}
 use Rattle.horn.proofs.SoundnessPatterns.{read-judgment-patterns}
 
@@ -22,6 +22,7 @@ formed-in-more f w =
       sorted-premises = λ p m. judgment-in-more f (λ v n. n) (w .sorted-premises p m);
       sorted-conclusion = judgment-in-more f (λ v n. n) (w .sorted-conclusion);
       one-sort = w .one-sort;
+      apart = w .apart;
       occur = w .occur;
     }
 
@@ -36,6 +37,7 @@ rule-formed name x y =
       sorted-premises = λ p m. judgment-in-more (λ c n. n) (y .extends .grow) (x .sorted p m);
       sorted-conclusion = y .sorted;
       one-sort = y .extends .keep (x .extends .keep (λ n s t m. elim m [ ]));
+      apart = y .extends .apart (x .extends .apart no-names);
       occur = λ P us u. y .extends .occur P u (x .extends .occur P us (λ n s m. elim m [ ]));
     }
 

@@ -3,9 +3,10 @@
 use mathlib.Core.Path.{_≡_, refl, sym, subst}
 use mathlib.Core.Logic.{Lift}
 use mathlib.Core.List.{List, [], _∷_, List·Memᴰ}
-use Rattle.horn.specs.Names.{Name}
+use mathlib.Core.Option.{none}
+use Rattle.horn.specs.Names.{Name, first}
 use Rattle.horn.specs.Rulebook.{Symbol, symbol, sort, judgment, Variable, variable, Pattern, var, app, Patterns, []ₚ, _∷ₚ_}
-use Rattle.horn.specs.Rulebook.{Rule, Theory, variablesOf, premisesOf, conclusionOf}
+use Rattle.horn.specs.Rulebook.{isVariable, Rule, Theory, variablesOf, premisesOf, conclusionOf}
 use Rattle.horn.specs.StoredTerms.{Term}
 use Rattle.horn.specs.Forced.{Ground, ground, Grounds, none-left, and-then, WellSorted, well-sorted, Assignment, substitute}
 use Rattle.horn.specs.Forced.{substituteAll, Instance, IsInstance, premises, conclusion, Each, IsClosed, Forced, Derivable}
@@ -69,12 +70,18 @@ Covers P vs = (name s : Name) → List·Memᴰ (variable name s) vs → P name
 abbrev pub OneSort : List Variable → Type 0
 OneSort vs = (name s t : Name) → List·Memᴰ (variable name s) vs → List·Memᴰ (variable name t) vs → s ≡ t
 
--- A rule is well-formed: its judgments are sorted by its variables, which have one sort each, and none of them occurs
--- nowhere, which is said so: what holds throughout its judgments holds of each.
+-- The names of a rule's variables are pairwise different: none is met again behind it.
+pub data Apart : List Variable → Type 0 where
+  no-names : Apart []
+  name-apart : {name s : Name} {vs : List Variable} → first (isVariable name) vs ≡ none → Apart vs → Apart (variable name s ∷ vs)
+
+-- A rule is well-formed: its judgments are sorted by its variables, which have one sort and different
+-- names, and none of them occurs nowhere, which is said so: what holds throughout its judgments holds of each.
 pub record RuleFormed (symbols : List Symbol) (r : Rule) : Type 1 where
   pub sorted-premises : (p : Pattern) → List·Memᴰ p (premisesOf r) → SortedJudgment symbols (variablesOf r) p
   pub sorted-conclusion : SortedJudgment symbols (variablesOf r) (conclusionOf r)
   pub one-sort : OneSort (variablesOf r)
+  pub apart : Apart (variablesOf r)
   pub occur : (P : Name → Type 0) → ((p : Pattern) → List·Memᴰ p (premisesOf r) → Throughout P p)
       → Throughout P (conclusionOf r)
       → Covers P (variablesOf r)

@@ -1,9 +1,10 @@
 -- The next item of a list that was read whole before, and what is due there.
-use Prim.Native.Nat.{ℕ, _+_, _%_}
+use Prim.Native.Nat.{ℕ}
 use mathlib.Core.Bool.{Bool, true, false, not}
 use mathlib.Core.List.{List}
 use lib.Dec.{eqb}
 use lib.ListN.{getD, set}
+use Rattle.words.specs.Sums.{sum32}
 use Rattle.lex.specs.Answers as lex
 use Rattle.lex.specs.Answers.{Answer, taken}
 use Rattle.lex.specs.declared.Reader.{Reader}
@@ -42,10 +43,6 @@ numbered (numbers.Refused n) = refused n
 abbrev pub walked : Walked → Outcome Walk
 walked (walks.To w) = ok w
 walked (walks.Refused n) = refused n
-
--- A sum in 32 bits.
-unfoldable pub sum32 : ℕ → ℕ → ℕ
-sum32 a b = (a + b) % 4294967296
 
 -- A walk with its reader moved on,
 abbrev pub readOn : Walk → Reader → Walk

@@ -7,10 +7,12 @@ use lib.Dec.{eqb}
 use lib.ListN.{getD, set}
 use Rattle.words.specs.Parts.{part, sameBytes}
 use Rattle.names.specs.Chains.{found}
+use Rattle.patterns.specs.Places as places
 use Rattle.patterns.specs.Outcomes.{Outcome, ok, refused, need, orElse, pick}
 use Rattle.patterns.specs.Outcomes as outcomes
 use Rattle.patterns.specs.Leaving.{Did, _leaving_, _>>=_, beside}
-use Rattle.patterns.specs.Items.{Met, atom, list, sum32, pushed, itemDue, listDue, closingDue, question, declaredName, headDue}
+use Rattle.words.specs.Sums.{sum32}
+use Rattle.patterns.specs.Items.{Met, atom, list, pushed, itemDue, listDue, closingDue, question, declaredName, headDue}
 use Rattle.patterns.specs.declared.Walk.{Walk}
 
 -- A rule's variables and the theory.
@@ -34,7 +36,7 @@ position text vars variables s t = positionFrom variables text vars (part s t te
 
 -- The word for a variable in a pattern.
 unfoldable pub variableWord : ℕ → ℕ
-variableWord v = sum32 16384 v
+variableWord v = sum32 places.variable v
 
 -- A new variable's three words.
 unfoldable pub withVariable : List ℕ → ℕ → ℕ → ℕ → ℕ → List ℕ
@@ -67,16 +69,16 @@ schematic text s t sort w vars heap = do
 -- A symbol with these buckets: unknown is 12, then output sort and length (of the list, its head included) 15.
 unfoldable pub applied : List ℕ → ℕ → ℕ → ℕ → ℕ → ℕ → Walk → List ℕ → Did (List ℕ) (ℕ × Walk)
 applied text buckets sort members s t w heap = do
-  (c, heap) ← orElse (found heap buckets 256 text (part s t text)) 12 leaving heap
-  _ ← need (eqb (getD heap (c + 3) 0) sort) 15 leaving heap
-  _ ← need (eqb (getD heap (c + 4) 0 + 1) members) 15 leaving heap
+  (c, heap) ← orElse (found heap buckets places.buckets text (part s t text)) 12 leaving heap
+  _ ← need (eqb (getD heap (c + places.output) 0) sort) 15 leaving heap
+  _ ← need (eqb (getD heap (c + places.arity) 0 + 1) members) 15 leaving heap
   (q, heap) ← pushed c w heap
   ok (c, q) leaving heap
 
 -- "An atom is a constructor (12)."
 unfoldable pub constant : List ℕ → ℕ → ℕ → ℕ → Walk → List ℕ → Did (List ℕ) Walk
 constant text s t sort w heap = do
-  ((c, q), heap) ← applied text 256 sort 1 s t w heap
+  ((c, q), heap) ← applied text places.constructors sort 1 s t w heap
   ok q leaving heap
 
 -- An atom at a place of a sort.
@@ -91,20 +93,20 @@ unfoldable pub compoundHead : List ℕ → List ℕ → ℕ → ℕ → Walk →
 compoundHead text counts sort members w heap = do
   ((s, t, q), heap) ← headDue text counts members w leaving heap
   _ ← need (not (eqb members 1)) 16 leaving heap
-  applied text 256 sort members s t q heap
+  applied text places.constructors sort members s t q heap
 
 -- The arguments of the symbol at c from the k-th on, each read at its input's sort, then the closing.
 unfoldable pub argumentsFrom : (ℕ → Walk → List ℕ → List ℕ → Did Areas Walk) → ℕ → List ℕ → ℕ → ℕ → Walk → List ℕ → List ℕ → Did Areas Walk
 argumentsFrom read zero text c k w vars heap = closingDue text w leaving (vars, heap)
 argumentsFrom read (suc left) text c k w vars heap = do
-  (q, (vars, heap)) ← read (getD heap (c + 5 + k) 0) w vars heap
+  (q, (vars, heap)) ← read (getD heap (c + places.inputs + k) 0) w vars heap
   argumentsFrom read left text c (k + 1) q vars heap
 
 abbrev pub patternOf : (ℕ → Walk → List ℕ → List ℕ → Did Areas Walk) → List ℕ → List ℕ → ℕ → Met → List ℕ → List ℕ → Did Areas Walk
 patternOf read text counts sort (atom s t w) vars heap = leaf text s t sort w vars heap
 patternOf read text counts sort (list members w) vars heap = do
   ((c, q), (vars, heap)) ← beside vars (compoundHead text counts sort members w heap)
-  argumentsFrom read (getD heap (c + 4) 0) text c 0 q vars heap
+  argumentsFrom read (getD heap (c + places.arity) 0) text c 0 q vars heap
 
 -- A term at a place of a sort, with that much depth left.
 unfoldable pub pattern : ℕ → List ℕ → List ℕ → ℕ → Walk → List ℕ → List ℕ → Did Areas Walk
@@ -115,7 +117,7 @@ pattern (suc left) text counts sort w vars heap = do
 
 -- All arguments of the symbol at c.
 unfoldable pub arguments : ℕ → List ℕ → List ℕ → ℕ → Walk → List ℕ → List ℕ → Did Areas Walk
-arguments left text counts c w vars heap = argumentsFrom (pattern left text counts) (getD heap (c + 4) 0) text c 0 w vars heap
+arguments left text counts c w vars heap = argumentsFrom (pattern left text counts) (getD heap (c + places.arity) 0) text c 0 w vars heap
 
 -- "A judgment J is a list (else 7), not empty (8), its head an atom (7) and a predicate (12), its length right (15),
 -- then its terms." A term of a judgment has a depth of 3 at least.
@@ -123,7 +125,7 @@ unfoldable pub judgment : List ℕ → List ℕ → Walk → List ℕ → List �
 judgment text counts w vars heap = do
   ((members, q), (vars, heap)) ← listDue text counts w leaving (vars, heap)
   ((s, t, q), (vars, heap)) ← headDue text counts members q leaving (vars, heap)
-  ((c, q), (vars, heap)) ← beside vars (applied text 512 0 members s t q heap)
+  ((c, q), (vars, heap)) ← beside vars (applied text places.predicates 0 members s t q heap)
   arguments 257 text counts c q vars heap
 
 -- "Premises left to right", then the closing.

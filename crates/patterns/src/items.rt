@@ -39,7 +39,7 @@ pub fn next_item(text: &[u8], counts: &[u32], w: Walk) -> Item
                     members,
                     Walk {
                         reader: next,
-                        opened: super::plus(opened, 1),
+                        opened: words::plus(opened, 1),
                         top: w.top,
                         variables: w.variables,
                     },

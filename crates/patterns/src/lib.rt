@@ -4,7 +4,7 @@
 // The theory's area: 256 buckets each for sorts, constructors, predicates and rules, from 0, 256, 512 and 768, then entries in the order
 // of the text, named by their addresses. A sort is its name (bounds and link). A symbol is its name, its output (the sort's address, 0 for
 // a judgment), the number of its inputs, and their sorts' addresses. A rule is its name, the numbers of its premises and of its variables,
-// the patterns of its premises and its conclusion, and its variables (bounds and sort). A pattern has one word a node, in preorder: a
+// the places of its conclusion and of its variables, the patterns of its premises and its conclusion, and its variables (bounds and sort). A pattern has one word a node, in preorder: a
 // symbol's address, whose arguments follow, or 16,384 and a variable's number. While a rule is read its variables stand in an area of
 // their own, three words each.
 ghost use mathlib.Core.Path.{_≡_};
@@ -12,13 +12,14 @@ ghost use Prim.Native.Nat.{_%_};
 ghost use Rattle.names.specs.Chains.{answered};
 ghost use Rattle.patterns.specs.Outcomes.{ok, refusal};
 ghost use Rattle.patterns.specs.Leaving.{_leaving_};
-ghost use Rattle.patterns.specs.Items.{named, numbered, walked, sum32, pushed};
+ghost use Rattle.patterns.specs.Items.{named, numbered, walked, pushed};
 ghost use Rattle.patterns.specs.Patterns.{position, introduced, metAgain, schematic, applied, constant, leaf, compoundHead};
 ghost use Rattle.patterns.specs.Patterns.{pattern, arguments, judgment, judgments};
 use lex::Reader;
 use names::Found;
 
 pub mod items;
+pub mod places;
 
 // Where the walk stands: the reader, how many lists were opened, the first free word of the theory, and how many variables the rule has.
 pub struct Walk {
@@ -79,13 +80,6 @@ pub fn walked_refusal(r: Walked) -> u32
     }
 }
 
-// A sum in 32 bits. Those that a text of 8,192 bytes asks for never wrap.
-pub fn plus(a: u32, b: u32) -> u32
-    ensures { λ r. ⌜ r ≡ sum32 a b ⌝ }
-{
-    ((a as u64 + b as u64) % 4294967296) as u32
-}
-
 // A place in a text as a word.
 pub fn low(x: usize) -> u32
     ensures { λ r. ⌜ r ≡ x % 4294967296 ⌝ }
@@ -103,7 +97,7 @@ pub fn push(heap: &mut [u32], word: u32, w: Walk) -> Walk
     Walk {
         reader,
         opened: w.opened,
-        top: plus(top, 1),
+        top: words::plus(top, 1),
         variables: w.variables,
     }
 }
@@ -138,9 +132,9 @@ pub fn introduce(vars: &mut [u32], heap: &mut [u32], s: usize, t: usize, sort: u
         reader,
         opened: w.opened,
         top: w.top,
-        variables: plus(v, 1),
+        variables: words::plus(v, 1),
     };
-    push(heap, plus(16384, v), q)
+    push(heap, words::plus(places::VARIABLE, v), q)
 }
 
 pub fn meet_again(vars: &[u32], heap: &mut [u32], v: u32, sort: u32, w: Walk) -> Walked
@@ -149,7 +143,7 @@ pub fn meet_again(vars: &[u32], heap: &mut [u32], v: u32, sort: u32, w: Walk) ->
     if words::at(vars, 3 * v as usize + 2) != sort {
         return Walked::Refused(14);
     }
-    Walked::To(push(heap, plus(16384, v), w))
+    Walked::To(push(heap, words::plus(places::VARIABLE, v), w))
 }
 
 // `?v` at a place of a sort.
@@ -187,14 +181,14 @@ pub fn apply(
 ) -> Numbered
     ensures { λ r. ⌜ (numbered r leaving now (heap .exit)) ≡ applied (now (text .entry)) buckets sort members s t w (now (heap .entry)) ⌝ }
 {
-    let found = names::find(heap, buckets, 256, text, text, s, t);
+    let found = names::find(heap, buckets, places::BUCKETS, text, text, s, t);
     let Found::At(c) = found else {
         return Numbered::Refused(12);
     };
-    if words::at(heap, c as usize + 3) != sort {
+    if words::at(heap, c as usize + places::OUTPUT) != sort {
         return Numbered::Refused(15);
     }
-    let inputs = words::at(heap, c as usize + 4);
+    let inputs = words::at(heap, c as usize + places::ARITY);
     if inputs as u64 + 1 != members as u64 {
         return Numbered::Refused(15);
     }
@@ -205,7 +199,7 @@ pub fn apply(
 pub fn constant(text: &[u8], heap: &mut [u32], s: usize, t: usize, sort: u32, w: Walk) -> Walked
     ensures { λ r. ⌜ (walked r leaving now (heap .exit)) ≡ constant (now (text .entry)) s t sort w (now (heap .entry)) ⌝ }
 {
-    let a = apply(text, heap, 256, sort, 1, s, t, w);
+    let a = apply(text, heap, places::CONSTRUCTORS, sort, 1, s, t, w);
     match a {
         Numbered::Got(_, q) => Walked::To(q),
         Numbered::Refused(n) => Walked::Refused(n),
@@ -248,7 +242,7 @@ pub fn compound_head(
     if members == 1 {
         return Numbered::Refused(16);
     }
-    apply(text, heap, 256, sort, members, s, t, q)
+    apply(text, heap, places::CONSTRUCTORS, sort, members, s, t, q)
 }
 
 // A term at a place of a sort, with that much depth left.
@@ -292,11 +286,11 @@ pub fn arguments(
 ) -> Walked
     ensures { λ r. ⌜ (walked r leaving (now (vars .exit), now (heap .exit))) ≡ arguments left (now (text .entry)) (now (counts .entry)) c w (now (vars .entry)) (now (heap .entry)) ⌝ }
 {
-    let inputs = words::at(heap, c as usize + 4);
+    let inputs = words::at(heap, c as usize + places::ARITY);
     let mut v = w;
     let mut k: u32 = 0;
     while k < inputs {
-        let sort = words::at(heap, c as usize + 5 + k as usize);
+        let sort = words::at(heap, c as usize + places::INPUTS + k as usize);
         let p = pattern(text, counts, vars, heap, sort, left, v);
         let Walked::To(q) = p else {
             return Walked::Refused(walked_refusal(p));
@@ -318,7 +312,7 @@ pub fn judgment(text: &[u8], counts: &[u32], vars: &mut [u32], heap: &mut [u32],
     let Named::Atom(s, t, p) = h else {
         return Walked::Refused(named_refusal(h));
     };
-    let a = apply(text, heap, 512, 0, members, s, t, p);
+    let a = apply(text, heap, places::PREDICATES, 0, members, s, t, p);
     let Numbered::Got(c, o) = a else {
         return Walked::Refused(numbered_refusal(a));
     };

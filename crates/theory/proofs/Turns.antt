@@ -7,7 +7,8 @@ use borrow.Author.Tests.{lt-ltb, le-ltb}
 use lib.ListN.{getD, set}
 use Rattle.patterns.specs.Outcomes.{Outcome, ok, refused}
 use Rattle.patterns.specs.Leaving.{Did, _leaving_}
-use Rattle.patterns.specs.Items.{sum32, pushed, closingDue}
+use Rattle.words.specs.Sums.{sum32}
+use Rattle.patterns.specs.Items.{pushed, closingDue}
 use Rattle.patterns.specs.Patterns.{Areas}
 use Rattle.patterns.specs.declared.Walk.{Walk}
 use Rattle.theory.specs.Symbols.{sortNamed, inputs}

@@ -8,10 +8,12 @@ use Rattle.lex.specs.Answers as lex
 use Rattle.lex.specs.Answers.{Answer, peeked, start}
 use Rattle.lex.specs.declared.Reader.{Reader}
 use Rattle.words.specs.Parts.{part, sameBytes}
+use Rattle.patterns.specs.Places as places
 use Rattle.patterns.specs.Outcomes.{Outcome, ok, refused, pick}
 use Rattle.patterns.specs.Outcomes as outcomes
 use Rattle.patterns.specs.Leaving.{Did, _leaving_, _>>=_, beside}
-use Rattle.patterns.specs.Items.{sum32, readOn, listDue, headDue}
+use Rattle.words.specs.Sums.{sum32}
+use Rattle.patterns.specs.Items.{readOn, listDue, headDue}
 use Rattle.patterns.specs.Patterns.{Areas}
 use Rattle.patterns.specs.declared.Walk.{Walk}
 use Rattle.theory.specs.Symbols.{sortDeclared, constructorDeclared, predicateDeclared}
@@ -123,7 +125,7 @@ declarationsFrom (suc fuel) text counts c w vars heap = do
 
 -- Where the walk begins.
 unfoldable pub startWalk : Walk
-startWalk = record { reader = start; opened = 0; top = 1024; variables = 0 }
+startWalk = record { reader = start; opened = 0; top = places.entries; variables = 0 }
 
 unfoldable pub noCounts : Counts
 noCounts = record { sorts = 0; constructors = 0; predicates = 0; rules = 0 }

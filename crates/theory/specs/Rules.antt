@@ -7,22 +7,31 @@ use lib.ListN.{length, getD, set}
 use Rattle.lex.specs.Answers as lex
 use Rattle.lex.specs.Answers.{Answer, taken}
 use Rattle.lex.specs.declared.Token.the-variants as tokens
+use Rattle.patterns.specs.Places as places
 use Rattle.patterns.specs.Outcomes.{Outcome, ok, refused, need, pick}
 use Rattle.patterns.specs.Outcomes as outcomes
 use Rattle.patterns.specs.Leaving.{Did, _leaving_, _>>=_, beside}
-use Rattle.patterns.specs.Items.{Met, atom, list, sum32, readOn, openedOne, withTop, itemDue, listDue, closingDue, question}
+use Rattle.words.specs.Sums.{sum32}
+use Rattle.patterns.specs.Items.{Met, atom, list, readOn, openedOne, withTop, itemDue, listDue, closingDue, question}
 use Rattle.patterns.specs.Patterns.{Areas, judgment, judgments}
 use Rattle.patterns.specs.declared.Walk.{Walk}
-use Rattle.theory.specs.Symbols.{entered, described}
+use Rattle.theory.specs.Symbols.{entered}
 use Rattle.theory.specs.declared.RuleName.{RuleName}
 use Rattle.theory.specs.declared.RuleName.the-variants as ruleNames
 use Rattle.theory.specs.declared.Kept.{Kept}
 use Rattle.theory.specs.declared.Kept.the-variants as kepts
+use Rattle.theory.specs.declared.Body.{Body}
+use Rattle.theory.specs.declared.Body.the-variants as bodies
 
 -- What each case of the answer says: what stands in a rule's place for its name, and the walk after it; or a refusal.
 abbrev pub kept : Kept → Outcome (RuleName × Walk)
 kept (kepts.Got name w) = ok (name, w)
 kept (kepts.Refused n) = refused n
+
+-- The number of a rule's premises, the place of its conclusion and the walk after it; or a refusal.
+abbrev pub body : Body → Outcome (ℕ × ℕ × Walk)
+body (bodies.Got n conclusion w) = ok (n, conclusion, w)
+body (bodies.Refused n) = refused n
 
 -- How far a token goes down into lists, and 1: an opening 2, an atom 1, a closing 0.
 abbrev pub passedFrom : Walk → Answer → Outcome (ℕ × Walk)
@@ -56,17 +65,22 @@ abbrev pub nameJudged : List ℕ → RuleName → Outcome (ℕ × ℕ)
 nameJudged text (ruleNames.Atom s t) = outcomes._>>=_ (need (not (question text s)) 11) (λ _. ok (s, t))
 nameJudged text ruleNames.List = refused 7
 
--- A walk before a rule's patterns, which stand behind five words of its entry.
+-- A walk before a rule's patterns, which stand behind seven words of its entry.
 unfoldable pub begun : Walk → Walk
-begun w = record { reader = w .reader; opened = w .opened; top = sum32 (w .top) 5; variables = 0 }
+begun w = record { reader = w .reader; opened = w .opened; top = sum32 (w .top) places.patterns; variables = 0 }
 
--- "Premises left to right, conclusion", and the number of premises.
-unfoldable pub bodyRead : List ℕ → List ℕ → Walk → List ℕ → List ℕ → Did Areas (ℕ × Walk)
+-- "Premises left to right, conclusion", with the number of premises and the place of the conclusion's words.
+unfoldable pub bodyRead : List ℕ → List ℕ → Walk → List ℕ → List ℕ → Did Areas (ℕ × ℕ × Walk)
 bodyRead text counts w vars heap = do
   ((n, q), (vars, heap)) ← listDue text counts w leaving (vars, heap)
-  (q, (vars, heap)) ← judgments n text counts q vars heap
-  (q, (vars, heap)) ← judgment text counts q vars heap
-  ok (n, q) leaving (vars, heap)
+  (p, (vars, heap)) ← judgments n text counts q vars heap
+  (o, (vars, heap)) ← judgment text counts p vars heap
+  ok (n, p .top, o) leaving (vars, heap)
+
+-- The four words behind a rule's name: how many premises and variables it has, and where its conclusion and its variables stand.
+unfoldable pub ruleDescribed : ℕ → ℕ → ℕ → ℕ → ℕ → List ℕ → List ℕ
+ruleDescribed e premises variables conclusion place heap =
+    set (set (set (set heap (e + places.premise-count) premises) (e + places.variable-count) variables) (e + places.conclusion) conclusion) (e + places.variables) place
 
 -- The words of the variables from the i-th on, behind the patterns.
 unfoldable pub copied : ℕ → ℕ → List ℕ → ℕ → List ℕ → List ℕ
@@ -79,16 +93,16 @@ variablesStored w vars heap =
     ok (withTop w ((w .top + 3 * w .variables) % 4294967296)) leaving copied (3 * w .variables) 0 vars (w .top) heap
 
 -- A rule's entry, then the closing of its declaration.
-unfoldable pub ruleEntered : List ℕ → ℕ → ℕ → ℕ → ℕ → Walk → List ℕ → List ℕ → Did (List ℕ) Walk
-ruleEntered text e s t n w vars heap = do
-  (q, heap) ← entered text 768 e s t w heap
-  (q, heap) ← variablesStored q vars (described e n (q .variables) heap)
+unfoldable pub ruleEntered : List ℕ → ℕ → ℕ → ℕ → ℕ → ℕ → Walk → List ℕ → List ℕ → Did (List ℕ) Walk
+ruleEntered text e s t n conclusion w vars heap = do
+  (q, heap) ← entered text places.rules e s t w heap
+  (q, heap) ← variablesStored q vars (ruleDescribed e n (q .variables) conclusion (q .top) heap)
   closingDue text q leaving heap
 
 -- "`(rule N (J...) J)`: premises left to right, conclusion, N, duplicate."
 unfoldable pub ruleDeclared : List ℕ → List ℕ → Walk → List ℕ → List ℕ → Did Areas Walk
 ruleDeclared text counts w vars heap = do
   ((name, q), (vars, heap)) ← nameKept text counts w leaving (vars, heap)
-  ((n, q), (vars, heap)) ← bodyRead text counts (begun q) vars heap
+  ((n, conclusion, q), (vars, heap)) ← bodyRead text counts (begun q) vars heap
   ((s, t), (vars, heap)) ← nameJudged text name leaving (vars, heap)
-  beside vars (ruleEntered text (w .top) s t n q vars heap)
+  beside vars (ruleEntered text (w .top) s t n conclusion q vars heap)

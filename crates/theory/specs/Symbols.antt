@@ -6,10 +6,12 @@ use mathlib.Core.Option.{Option, none, some}
 use lib.ListN.{set}
 use Rattle.words.specs.Parts.{part}
 use Rattle.names.specs.Chains.{found, added}
+use Rattle.patterns.specs.Places as places
 use Rattle.patterns.specs.Outcomes.{Outcome, ok, refused, need, orElse}
 use Rattle.patterns.specs.Outcomes as outcomes
 use Rattle.patterns.specs.Leaving.{Did, _leaving_, _>>=_}
-use Rattle.patterns.specs.Items.{sum32, withTop, pushed, listDue, closingDue, declaredName}
+use Rattle.words.specs.Sums.{sum32}
+use Rattle.patterns.specs.Items.{withTop, pushed, listDue, closingDue, declaredName}
 use Rattle.patterns.specs.declared.Walk.{Walk}
 use Rattle.theory.specs.declared.Signature.{Signature}
 use Rattle.theory.specs.declared.Signature.the-variants as signatures
@@ -29,7 +31,7 @@ isNew (some a) = false
 
 -- "S unknown is 12."
 unfoldable pub sortFrom : List ℕ → List ℕ → ℕ × ℕ × Walk → Outcome (ℕ × Walk)
-sortFrom text heap (s, t, q) = outcomes._>>=_ (orElse (found heap 0 256 text (part s t text)) 12) (λ a. ok (a, q))
+sortFrom text heap (s, t, q) = outcomes._>>=_ (orElse (found heap places.sorts places.buckets text (part s t text)) 12) (λ a. ok (a, q))
 
 unfoldable pub sortNamed : List ℕ → List ℕ → List ℕ → Walk → Outcome (ℕ × Walk)
 sortNamed text counts heap w = outcomes._>>=_ (declaredName text counts w) (sortFrom text heap)
@@ -37,18 +39,18 @@ sortNamed text counts heap w = outcomes._>>=_ (declaredName text counts w) (sort
 -- A new entry at e, found by its name from now on; a duplicate is 13.
 unfoldable pub entered : List ℕ → ℕ → ℕ → ℕ → ℕ → Walk → List ℕ → Did (List ℕ) Walk
 entered text buckets e s t w heap = do
-  _ ← need (isNew (found heap buckets 256 text (part s t text))) 13 leaving heap
-  ok w leaving added heap buckets 256 e text s t
+  _ ← need (isNew (found heap buckets places.buckets text (part s t text))) 13 leaving heap
+  ok w leaving added heap buckets places.buckets e text s t
 
 -- The two words behind an entry's name.
 unfoldable pub described : ℕ → ℕ → ℕ → List ℕ → List ℕ
-described e a b heap = set (set heap (e + 3) a) (e + 4) b
+described e a b heap = set (set heap (e + places.output) a) (e + places.arity) b
 
 -- "`(sort N)`: N, then duplicate."
 unfoldable pub sortDeclared : List ℕ → List ℕ → Walk → List ℕ → Did (List ℕ) Walk
 sortDeclared text counts w heap = do
   ((s, t, q), heap) ← declaredName text counts w leaving heap
-  (q, heap) ← entered text 0 (w .top) s t q heap
+  (q, heap) ← entered text places.sorts (w .top) s t q heap
   closingDue text (reserved q 3) leaving heap
 
 -- "Inputs left to right", then the closing.
@@ -64,7 +66,7 @@ unfoldable pub signature : List ℕ → List ℕ → Walk → List ℕ → Did (
 signature text counts w heap = do
   ((s, t, q), heap) ← declaredName text counts w leaving heap
   ((n, q), heap) ← listDue text counts q leaving heap
-  (q, heap) ← inputs n text counts (reserved q 5) heap
+  (q, heap) ← inputs n text counts (reserved q places.inputs) heap
   ok (s, t, n, q) leaving heap
 
 -- A symbol's entry, then the closing of its declaration.
@@ -78,10 +80,10 @@ unfoldable pub constructorDeclared : List ℕ → List ℕ → Walk → List ℕ
 constructorDeclared text counts w heap = do
   ((s, t, n, q), heap) ← signature text counts w heap
   ((output, q), heap) ← sortNamed text counts heap q leaving heap
-  symbolEntered text 256 (w .top) s t output n q heap
+  symbolEntered text places.constructors (w .top) s t output n q heap
 
 -- "`(pred N (S...))`": the same, without an output.
 unfoldable pub predicateDeclared : List ℕ → List ℕ → Walk → List ℕ → Did (List ℕ) Walk
 predicateDeclared text counts w heap = do
   ((s, t, n, q), heap) ← signature text counts w heap
-  symbolEntered text 512 (w .top) s t 0 n q heap
+  symbolEntered text places.predicates (w .top) s t 0 n q heap

@@ -4,6 +4,7 @@ use mathlib.Core.List.{List}
 use Rattle.words.specs.Parts.{cleared}
 use Rattle.sexp.specs.Walk as sexp
 use Rattle.sexp.specs.Walk.{walked}
+use Rattle.patterns.specs.Places as places
 use Rattle.patterns.specs.Outcomes.{Outcome, ok, refused}
 use Rattle.patterns.specs.Leaving.{Did, _leaving_}
 use Rattle.patterns.specs.Patterns.{Areas}
@@ -20,7 +21,7 @@ withCounts counts (o leaving (vars, heap)) = o leaving (vars, counts, heap)
 
 -- "All of the rulebook is read so before any declaration is judged."
 abbrev pub theoryFrom : sexp.Walked → List ℕ → List ℕ → List ℕ → List ℕ → Did AllAreas Counts
-theoryFrom (sexp.whole n) text vars counts heap = withCounts counts (declarations text counts vars (cleared 1024 heap))
+theoryFrom (sexp.whole n) text vars counts heap = withCounts counts (declarations text counts vars (cleared places.entries heap))
 theoryFrom (sexp.refused n) text vars counts heap = refused n leaving (vars, counts, heap)
 
 unfoldable pub theory : List ℕ → List ℕ → List ℕ → List ℕ → Did AllAreas Counts

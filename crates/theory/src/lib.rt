@@ -12,6 +12,7 @@ use patterns::Named;
 use patterns::Numbered;
 use patterns::Walk;
 use patterns::Walked;
+use patterns::places;
 
 pub mod rules;
 pub mod symbols;
@@ -30,6 +31,12 @@ pub enum RuleName {
 
 pub enum Kept {
     Got(RuleName, Walk),
+    Refused(u32),
+}
+
+// The number of a rule's premises, the place of its conclusion and the walk after it.
+pub enum Body {
+    Got(u32, u32, Walk),
     Refused(u32),
 }
 
@@ -147,28 +154,28 @@ fn count(c: Counts, form: Form) -> Counts
 {
     match form {
         Form::Sort => Counts {
-            sorts: patterns::plus(c.sorts, 1),
+            sorts: words::plus(c.sorts, 1),
             constructors: c.constructors,
             predicates: c.predicates,
             rules: c.rules,
         },
         Form::Constructor => Counts {
             sorts: c.sorts,
-            constructors: patterns::plus(c.constructors, 1),
+            constructors: words::plus(c.constructors, 1),
             predicates: c.predicates,
             rules: c.rules,
         },
         Form::Predicate => Counts {
             sorts: c.sorts,
             constructors: c.constructors,
-            predicates: patterns::plus(c.predicates, 1),
+            predicates: words::plus(c.predicates, 1),
             rules: c.rules,
         },
         Form::Rule => Counts {
             sorts: c.sorts,
             constructors: c.constructors,
             predicates: c.predicates,
-            rules: patterns::plus(c.rules, 1),
+            rules: words::plus(c.rules, 1),
         },
         Form::Other => c,
     }
@@ -199,7 +206,7 @@ fn begin_walk() -> Walk
     Walk {
         reader,
         opened: 0,
-        top: 1024,
+        top: places::ENTRIES,
         variables: 0,
     }
 }
@@ -249,7 +256,7 @@ pub fn theory(text: &[u8], vars: &mut [u32], counts: &mut [u32], heap: &mut [u32
     match first {
         sexp::Walk::Refused(n) => Judged::Refused(n),
         sexp::Walk::Whole(_) => {
-            words::clear(heap, 1024);
+            words::clear(heap, places::ALL_BUCKETS);
             declarations(text, vars, counts, heap)
         }
     }

@@ -4,7 +4,8 @@ ghost use lib.ListN.{length};
 ghost use Rattle.patterns.specs.Outcomes.{ok, refusal};
 ghost use Rattle.patterns.specs.Leaving.{_leaving_};
 ghost use Rattle.patterns.specs.Items.{numbered, walked};
-ghost use Rattle.theory.specs.Rules.{kept, passed, skipped, nameKept, begun, bodyRead, variablesStored, ruleEntered, ruleDeclared};
+ghost use Rattle.theory.specs.Rules.{kept, body, passed, skipped, nameKept, begun, bodyRead, ruleDescribed, variablesStored, ruleEntered, ruleDeclared};
+use super::Body;
 use super::Kept;
 use super::RuleName;
 use super::symbols;
@@ -14,6 +15,7 @@ use patterns::Item;
 use patterns::Numbered;
 use patterns::Walk;
 use patterns::Walked;
+use patterns::places;
 
 pub fn kept_refusal(r: Kept) -> u32
     ensures { λ n. ⌜ n ≡ refusal (kept r) ⌝ }
@@ -21,6 +23,15 @@ pub fn kept_refusal(r: Kept) -> u32
     match r {
         Kept::Got(_, _) => 0,
         Kept::Refused(n) => n,
+    }
+}
+
+pub fn body_refusal(r: Body) -> u32
+    ensures { λ n. ⌜ n ≡ refusal (body r) ⌝ }
+{
+    match r {
+        Body::Got(_, _, _) => 0,
+        Body::Refused(n) => n,
     }
 }
 
@@ -39,7 +50,7 @@ pub fn pass(text: &[u8], w: Walk) -> Numbered
                 2,
                 Walk {
                     reader: next,
-                    opened: patterns::plus(opened, 1),
+                    opened: words::plus(opened, 1),
                     top: w.top,
                     variables: w.variables,
                 },
@@ -82,7 +93,7 @@ pub fn skip(text: &[u8], w: Walk) -> Walked
             return Walked::Refused(patterns::numbered_refusal(p));
         };
         v = q;
-        depth = patterns::plus(depth - 1, k);
+        depth = words::plus(depth - 1, k);
         fuel -= 1;
     }
     Walked::To(v)
@@ -112,34 +123,46 @@ pub fn begin(w: Walk) -> Walk
     Walk {
         reader,
         opened: w.opened,
-        top: patterns::plus(w.top, 5),
+        top: words::plus(w.top, places::PATTERNS),
         variables: 0,
     }
 }
 
 // A rule's premises and its conclusion.
-pub fn read_body(
-    text: &[u8],
-    counts: &[u32],
-    vars: &mut [u32],
-    heap: &mut [u32],
-    w: Walk,
-) -> Numbered
-    ensures { λ r. ⌜ (numbered r leaving (now (vars .exit), now (heap .exit))) ≡ bodyRead (now (text .entry)) (now (counts .entry)) w (now (vars .entry)) (now (heap .entry)) ⌝ }
+pub fn read_body(text: &[u8], counts: &[u32], vars: &mut [u32], heap: &mut [u32], w: Walk) -> Body
+    ensures { λ r. ⌜ (body r leaving (now (vars .exit), now (heap .exit))) ≡ bodyRead (now (text .entry)) (now (counts .entry)) w (now (vars .entry)) (now (heap .entry)) ⌝ }
 {
     let l = patterns::items::next_list(text, counts, w);
     let Numbered::Got(n, q) = l else {
-        return Numbered::Refused(patterns::numbered_refusal(l));
+        return Body::Refused(patterns::numbered_refusal(l));
     };
     let j = patterns::judgments(text, counts, vars, heap, n, q);
     let Walked::To(p) = j else {
-        return Numbered::Refused(patterns::walked_refusal(j));
+        return Body::Refused(patterns::walked_refusal(j));
     };
+    let conclusion = p.top;
     let k = patterns::judgment(text, counts, vars, heap, p);
     let Walked::To(o) = k else {
-        return Numbered::Refused(patterns::walked_refusal(k));
+        return Body::Refused(patterns::walked_refusal(k));
     };
-    Numbered::Got(n, o)
+    Body::Got(n, conclusion, o)
+}
+
+// The four words behind a rule's name: how many premises and variables it has, and where its conclusion and its variables stand.
+pub fn describe_rule(
+    heap: &mut [u32],
+    e: u32,
+    premises: u32,
+    variables: u32,
+    conclusion: u32,
+    place: u32,
+)
+    ensures { λ r. ⌜ now (heap .exit) ≡ ruleDescribed e premises variables conclusion place (now (heap .entry)) ⌝ }
+{
+    words::put(heap, e as usize + places::PREMISE_COUNT, premises);
+    words::put(heap, e as usize + places::VARIABLE_COUNT, variables);
+    words::put(heap, e as usize + places::CONCLUSION, conclusion);
+    words::put(heap, e as usize + places::VARIABLES, place);
 }
 
 // The rule's variables behind its patterns.
@@ -171,15 +194,16 @@ pub fn enter_rule(
     s: usize,
     t: usize,
     n: u32,
+    conclusion: u32,
     w: Walk,
 ) -> Walked
-    ensures { λ r. ⌜ (walked r leaving now (heap .exit)) ≡ ruleEntered (now (text .entry)) e s t n w (now (vars .entry)) (now (heap .entry)) ⌝ }
+    ensures { λ r. ⌜ (walked r leaving now (heap .exit)) ≡ ruleEntered (now (text .entry)) e s t n conclusion w (now (vars .entry)) (now (heap .entry)) ⌝ }
 {
-    let m = symbols::enter(text, heap, 768, e, s, t, w);
+    let m = symbols::enter(text, heap, places::RULES, e, s, t, w);
     let Walked::To(q) = m else {
         return Walked::Refused(patterns::walked_refusal(m));
     };
-    symbols::describe(heap, e, n, q.variables);
+    describe_rule(heap, e, n, q.variables, conclusion, q.top);
     let p = store_variables(vars, heap, q);
     patterns::items::close(text, p)
 }
@@ -199,8 +223,8 @@ pub fn declare_rule(
         return Walked::Refused(kept_refusal(k));
     };
     let b = read_body(text, counts, vars, heap, begin(q));
-    let Numbered::Got(n, p) = b else {
-        return Walked::Refused(patterns::numbered_refusal(b));
+    let Body::Got(n, conclusion, p) = b else {
+        return Walked::Refused(body_refusal(b));
     };
     let RuleName::Atom(s, t) = name else {
         return Walked::Refused(7);
@@ -208,5 +232,5 @@ pub fn declare_rule(
     if patterns::items::is_question(text, s) {
         return Walked::Refused(11);
     }
-    enter_rule(text, vars, heap, e, s, t, n, p)
+    enter_rule(text, vars, heap, e, s, t, n, conclusion, p)
 }

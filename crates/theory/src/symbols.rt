@@ -11,6 +11,7 @@ use patterns::Named;
 use patterns::Numbered;
 use patterns::Walk;
 use patterns::Walked;
+use patterns::places;
 
 pub fn signature_refusal(r: Signature) -> u32
     ensures { λ n. ⌜ n ≡ refusal (signed r) ⌝ }
@@ -29,7 +30,7 @@ pub fn reserve(w: Walk, n: u32) -> Walk
     Walk {
         reader,
         opened: w.opened,
-        top: patterns::plus(w.top, n),
+        top: words::plus(w.top, n),
         variables: w.variables,
     }
 }
@@ -41,7 +42,7 @@ pub fn sort_named(text: &[u8], counts: &[u32], heap: &[u32], w: Walk) -> Numbere
     let Named::Atom(s, t, q) = a else {
         return Numbered::Refused(patterns::named_refusal(a));
     };
-    let found = names::find(heap, 0, 256, text, text, s, t);
+    let found = names::find(heap, places::SORTS, places::BUCKETS, text, text, s, t);
     match found {
         Found::At(e) => Numbered::Got(e, q),
         Found::Nothing => Numbered::Refused(12),
@@ -60,11 +61,11 @@ pub fn enter(
 ) -> Walked
     ensures { λ r. ⌜ (walked r leaving now (heap .exit)) ≡ entered (now (text .entry)) buckets e s t w (now (heap .entry)) ⌝ }
 {
-    let found = names::find(heap, buckets, 256, text, text, s, t);
+    let found = names::find(heap, buckets, places::BUCKETS, text, text, s, t);
     match found {
         Found::At(_) => Walked::Refused(13),
         Found::Nothing => {
-            names::add(heap, buckets, 256, e, text, s, t);
+            names::add(heap, buckets, places::BUCKETS, e, text, s, t);
             Walked::To(w)
         }
     }
@@ -74,8 +75,8 @@ pub fn enter(
 pub fn describe(heap: &mut [u32], e: u32, a: u32, b: u32)
     ensures { λ r. ⌜ now (heap .exit) ≡ described e a b (now (heap .entry)) ⌝ }
 {
-    words::put(heap, e as usize + 3, a);
-    words::put(heap, e as usize + 4, b);
+    words::put(heap, e as usize + places::OUTPUT, a);
+    words::put(heap, e as usize + places::ARITY, b);
 }
 
 pub fn declare_sort(text: &[u8], counts: &[u32], heap: &mut [u32], w: Walk) -> Walked
@@ -86,7 +87,7 @@ pub fn declare_sort(text: &[u8], counts: &[u32], heap: &mut [u32], w: Walk) -> W
     let Named::Atom(s, t, q) = a else {
         return Walked::Refused(patterns::named_refusal(a));
     };
-    let n = enter(text, heap, 0, e, s, t, q);
+    let n = enter(text, heap, places::SORTS, e, s, t, q);
     let Walked::To(p) = n else {
         return Walked::Refused(patterns::walked_refusal(n));
     };
@@ -121,7 +122,7 @@ pub fn read_signature(text: &[u8], counts: &[u32], heap: &mut [u32], w: Walk) ->
     let Numbered::Got(n, p) = l else {
         return Signature::Refused(patterns::numbered_refusal(l));
     };
-    let i = read_inputs(text, counts, heap, n, reserve(p, 5));
+    let i = read_inputs(text, counts, heap, n, reserve(p, places::SYMBOL));
     let Walked::To(o) = i else {
         return Signature::Refused(patterns::walked_refusal(i));
     };
@@ -161,7 +162,7 @@ pub fn declare_constructor(text: &[u8], counts: &[u32], heap: &mut [u32], w: Wal
     let Numbered::Got(output, p) = o else {
         return Walked::Refused(patterns::numbered_refusal(o));
     };
-    enter_symbol(text, heap, 256, e, s, t, output, n, p)
+    enter_symbol(text, heap, places::CONSTRUCTORS, e, s, t, output, n, p)
 }
 
 pub fn declare_predicate(text: &[u8], counts: &[u32], heap: &mut [u32], w: Walk) -> Walked
@@ -172,5 +173,5 @@ pub fn declare_predicate(text: &[u8], counts: &[u32], heap: &mut [u32], w: Walk)
     let Signature::Got(s, t, n, q) = g else {
         return Walked::Refused(signature_refusal(g));
     };
-    enter_symbol(text, heap, 512, e, s, t, 0, n, q)
+    enter_symbol(text, heap, places::PREDICATES, e, s, t, 0, n, q)
 }

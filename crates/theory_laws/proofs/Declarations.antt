@@ -117,7 +117,7 @@ module _ (text member-counts : List ℕ) (Before : Reader → Stream Token → T
         list-met text member-counts Before reads (r .walks) in
         let head : AtomMet text member-counts Before reads name (flat xs (closing ▹ ts)) (countsAll xs ks) (openedOne w (met .next)) =
         atom-met text member-counts Before reads (met .walks) in
-        rw (list-due text member-counts Before reads short th es 0 met, head-met text member-counts Before reads short th es 0 (size xs) head, head .name)
+        rw (list-due text member-counts Before reads short th es 0 0 met, head-met text member-counts Before reads short th es 0 0 (size xs) head, head .name)
         (giving (λ q. (formNamed name (suc (size xs)), q))
         (by-form vars (formed name xs)
         record { walks = head .walks; holds = r .holds; above = r .above; base-low = r .base-low; room = omega arith } long s₀ s₁ (omega arith))
@@ -133,14 +133,14 @@ module _ (text member-counts : List ℕ) (Before : Reader → Stream Token → T
         → Simulates (DeclarationRead th ts ks) (walk.declaration text member-counts w vars heap) (definition.declaration th x)
     unfolding walk.declaration definition.declaration definition.listDue definition.headed definition.atomDue headDue flatOne countsOne size number _>>=_
     declaration-law (leaf bytes) vars r long s₀ s₁ enough =
-        rw (atom-due text member-counts Before reads short th es 0 (atom-met text member-counts Before reads (r .walks))) (refuse refl)
+        rw (atom-due text member-counts Before reads short th es 0 0 (atom-met text member-counts Before reads (r .walks))) (refuse refl)
     declaration-law (list []ₛ) vars r long s₀ s₁ enough =
-        rw (list-due text member-counts Before reads short th es 0 (list-met text member-counts Before reads (r .walks))) (refuse refl)
+        rw (list-due text member-counts Before reads short th es 0 0 (list-met text member-counts Before reads (r .walks))) (refuse refl)
     declaration-law (list (list ys ∷ₛ xs)) vars r long s₀ s₁ enough =
         let m = list-met text member-counts Before reads (r .walks) in
         rw (
-          list-due text member-counts Before reads short th es 0 m,
-          head-list text member-counts Before reads short th es 0 (size xs) (list-met text member-counts Before reads (m .walks)),
+          list-due text member-counts Before reads short th es 0 0 m,
+          head-list text member-counts Before reads short th es 0 0 (size xs) (list-met text member-counts Before reads (m .walks)),
         ) (refuse refl)
     declaration-law (list (leaf name ∷ₛ xs)) vars r long (shallow-list {d} e (shallow-more h s)) (shallow-list {d = d′} e′ (shallow-more h′ s′)) enough =
         let k : d ≡ 259 = omega arith in

@@ -108,8 +108,10 @@ module _ {es es′ : Entries} (g : Grown es es′) where
         called = g .rules _ (w .called);
         premise-count = k (e + 3) (omega arith) (omega arith) ∙ w .premise-count;
         variable-count = k (e + 4) (omega arith) (omega arith) ∙ w .variable-count;
-        premises-end = w .premises-end;
-        conclusion-end = w .conclusion-end;
+        conclusion-place = w .conclusion-place;
+        variables-place = w .variables-place;
+        to-conclusion = k (e + 5) (omega arith) (omega arith) ∙ w .to-conclusion;
+        to-variables = k (e + 6) (omega arith) (omega arith) ∙ w .to-variables;
         at-premises = premises-kept k up (λ i p q. k i (omega arith) q) up (λ v name n. n) (w .at-premises);
         at-conclusion = flat-kept k up (λ i p q. k i (omega arith) q) up (λ v name n. n) (w .at-conclusion);
         at-variables = variables-kept top (λ i p q. k i (omega arith) q) h (w .at-variables);

@@ -2,25 +2,21 @@
 use mathlib.Core.Path.{_≡_}
 use mathlib.Core.List.{List, _∷_}
 use Prim.Native.Nat.{ℕ, _+_, _≤_, _<_}
-use native.Mathlib.Nat.{mod-eq-of-lt}
 use native.Mathlib.Omega.{arith}
 use lib.ListN.{length, getD}
 use Rattle.horn.specs.Tokens.{Stream, _▹_, Token, opening, closing, atom}
 use Rattle.words.specs.Parts.{part}
+use Rattle.words.specs.Sums.{sum32}
+use Rattle.words.proofs.Sums.{sum-small}
 use Rattle.lex.specs.Answers as lexed
 use Rattle.lex.specs.declared.Token as read
 use Rattle.lex.specs.declared.Token.the-variants.{Opening, Closing, Atom}
 use Rattle.lex.specs.declared.Reader.{Reader}
 use Rattle.patterns.specs.Outcomes as outcomes
 use Rattle.patterns.specs.Items as items
-use Rattle.patterns.specs.Items.{sum32, readOn, openedOne, itemDue, closingDue}
+use Rattle.patterns.specs.Items.{readOn, openedOne, itemDue, closingDue}
 use Rattle.patterns.specs.declared.Walk.{Walk}
 use Rattle.theory_laws.specs.Reading.{Same, same-opening, same-closing, same-atom, Takes, Reads, Next, one-next, Walks}
-
--- No sum of the walk wraps.
-pub sum-small : (a b : ℕ) → a + b < 4294967296 → sum32 a b ≡ a + b
-unfolding sum32
-sum-small a b h = mod-eq-of-lt h
 
 module _ (text counts : List ℕ) (Before : Reader → Stream Token → Type 0) (reads : Reads text Before) where
   -- An atom there.

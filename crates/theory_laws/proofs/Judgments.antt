@@ -28,12 +28,12 @@ use Rattle.theory_laws.proofs.Leaves.{applied-law, less-credit}
 use Rattle.theory_laws.proofs.Patterns.{size-count, after-atom, after-opening, after-closing, head-met, head-list, applied-arguments, ArgumentsLaw, arguments-law}
 
 module _ (text counted : List ℕ) (Before : Reader → Stream Token → Type 0) (reads : Reads text Before) (short : length text ≤ 8192)
-    (th : Theory) (es : Entries) (base : ℕ) where
+    (th : Theory) (es : Entries) (base spare : ℕ) where
   abbrev pub Was : ℕ → Stream Token → List ℕ → List Variable → Walk → List ℕ → List ℕ → Type 0
-  Was = Ready text counted Before th es base
+  Was = Ready text counted Before th es base spare
 
   abbrev pub Left : Stream Token → List ℕ → List Variable → ℕ → List ℕ → Walk → Areas → Pattern × List Variable → Type 0
-  Left = PatternRead text counted Before th es base
+  Left = PatternRead text counted Before th es base spare
 
   -- Inside a judgment's list.
   abbrev InsideLaw : Sexps → Type 0
@@ -60,16 +60,16 @@ module _ (text counted : List ℕ) (Before : Reader → Stream Token → Type 0)
   unfolding walk.judgment definition.judgmentOf definition.atomDue flatOne countsOne size number _>>=_
   inside-list ys xs ts ks vs w vars heap r =
       let m = list-met text counted Before reads (r .walks) in
-      rw (list-due m, head-list text counted Before reads short th es base (size xs) (list-met text counted Before reads (m .walks))) (refuse refl)
+      rw (list-due m, head-list text counted Before reads short th es base spare (size xs) (list-met text counted Before reads (m .walks))) (refuse refl)
 
-  inside-atom : (name : Name) (xs : Sexps) → ArgumentsLaw text counted Before reads short th es base 257 xs → InsideLaw (leaf name ∷ₛ xs)
+  inside-atom : (name : Name) (xs : Sexps) → ArgumentsLaw text counted Before reads short th es base spare 257 xs → InsideLaw (leaf name ∷ₛ xs)
   unfolding walk.judgment walk.arguments definition.judgmentOf definition.predicate definition.atomDue flatOne countsOne size number _>>=_
   inside-atom name xs law ts ks vs w vars heap r =
-      rw (list-due met, head-met text counted Before reads short th es base (size xs) head)
+      rw (list-due met, head-met text counted Before reads short th es base spare (size xs) head)
       (checked-aside vars (definition.predicate th name) (λ c. fits c judgment (count xs)) sortArity _ _
-      (applied-law text counted Before th es base 512 isPredicate name (head .s) (head .t) 0 (suc (size xs)) (count xs) judgment ready
+      (applied-law text counted Before th es base spare 512 isPredicate name (head .s) (head .t) 0 (suc (size xs)) (count xs) judgment ready
       (r .holds .predicates) (head .name) (ap suc (size-count xs)) (judgment-output refl))
-      (applied-arguments text counted Before reads short th es base 257 xs judgment law refl refl ready)) where
+      (applied-arguments text counted Before reads short th es base spare 257 xs judgment law refl refl ready)) where
         met : ListMet text counted Before reads (suc (size xs)) (atom name ▹ flat xs (closing ▹ ts)) (countsAll xs ks) w
         met = list-met text counted Before reads (r .walks)
 
@@ -78,12 +78,12 @@ module _ (text counted : List ℕ) (Before : Reader → Stream Token → Type 0)
 
         ready : Was 3 (flat xs (closing ▹ ts)) (countsAll xs ks) vs (readOn (openedOne w (met .next)) (head .next)) vars heap
         ready =
-            less-credit text counted Before th es base
-            (after-atom text counted Before reads short th es base (after-opening text counted Before reads short th es base r met) head) 3 (omega arith)
+            less-credit text counted Before th es base spare
+            (after-atom text counted Before reads short th es base spare (after-opening text counted Before reads short th es base spare r met) head) 3 (omega arith)
 
   inside-law : (xs : Sexps) → Shallows 257 xs → InsideLaw xs
   inside-law []ₛ s = inside-none
-  inside-law (leaf name ∷ₛ xs) (shallow-more h s) = inside-atom name xs (arguments-law text counted Before reads short th es base xs 257 s)
+  inside-law (leaf name ∷ₛ xs) (shallow-more h s) = inside-atom name xs (arguments-law text counted Before reads short th es base spare xs 257 s)
   inside-law (list ys ∷ₛ xs) s = inside-list ys xs
 
   -- "A judgment J is a list (else 7)".
@@ -101,8 +101,8 @@ module _ (text counted : List ℕ) (Before : Reader → Stream Token → Type 0)
 
   -- "Premises left to right", then the closing.
   pub record JudgmentsRead (n : ℕ) (ts : Stream Token) (ks : List ℕ) (vs : List Variable) (from : ℕ) (heap : List ℕ) (q : Walk) (areas : Areas) (r : List Pattern × List Variable) : Type 0 where
-    pub reached : Reached text counted Before th es base ts ks vs from heap q areas (r .1)
-    pub flats : FlatList (areas .1) es base (base + 5) (q .top) (r .1) from (r .0) (q .top)
+    pub reached : Reached text counted Before th es base spare ts ks vs from heap q areas (r .1)
+    pub flats : FlatList (areas .1) es base (base + 7) (q .top) (r .1) from (r .0) (q .top)
     pub many : n ≡ length (r .0)
 
   abbrev JudgmentsLaw : Sexps → Type 0
@@ -117,7 +117,7 @@ module _ (text counted : List ℕ) (Before : Reader → Stream Token → Type 0)
       let m = closing-met text counted Before reads (r .walks) in
       rw (m .met)
       (leave record {
-        reached = record { ready = after-closing text counted Before reads short th es base r m; keeps = keeps-all; rises = omega arith; more = λ v x n. n };
+        reached = record { ready = after-closing text counted Before reads short th es base spare r m; keeps = keeps-all; rises = omega arith; more = λ v x n. n };
         flats = no-premises;
         many = refl;
       })

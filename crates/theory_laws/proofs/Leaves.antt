@@ -25,13 +25,14 @@ use Rattle.names.proofs.Declared.{find-agrees}
 use Rattle.names.proofs.Holds.{by-number}
 use Rattle.lex.specs.declared.Reader.{Reader}
 use Rattle.patterns.specs.Leaving.{beside}
-use Rattle.patterns.specs.Items.{sum32, withTop, pushed, question}
+use Rattle.words.specs.Sums.{sum32}
+use Rattle.patterns.specs.Items.{withTop, pushed, question}
 use Rattle.patterns.specs.Patterns as walk
 use Rattle.patterns.specs.Patterns.{Areas, variableWord, withVariable, oneVariable, introduced, metAgain, variableAt, position, applied}
 use Rattle.patterns.specs.declared.Walk.{Walk}
 use Rattle.theory_laws.specs.Simulation.{Simulates, leave, test, tests, look, checked, aside}
 use Rattle.theory_laws.specs.Representation.{Entries, SortAt, OutputAt, sort-output, SymbolAt, symbol-at, Nth, flat-variable, flat-symbol, no-flats, Declares, Holds}
-use Rattle.theory_laws.proofs.Items.{sum-small}
+use Rattle.words.proofs.Sums.{sum-small}
 use Rattle.theory_laws.proofs.Frames.{keeps-set, grown-none, symbol-kept, variables-kept}
 use Rattle.theory_laws.proofs.Ready.{Ready, PatternRead, push-ready, nth-more, nth-last, nth-below, variables-more}
 use Rattle.theory_laws.proofs.Lookups.{named-turned, part-question, part-length, bare-width, Located, nowhere, located, positions, same-sort, same-output}
@@ -79,12 +80,12 @@ module _ (vars : List ℕ) (v s t a : ℕ) where
     with-sort =
         getD-set-same (set (set vars (3 * v) (s % 4294967296)) (3 * v + 1) (t % 4294967296)) (3 * v + 2) a 0 (simp length-set (omega arith))
 
-module _ (text counts : List ℕ) (Before : Reader → Stream Token → Type 0) (th : Theory) (es : Entries) (base : ℕ) where
+module _ (text counts : List ℕ) (Before : Reader → Stream Token → Type 0) (th : Theory) (es : Entries) (base spare : ℕ) where
   abbrev pub Was : ℕ → Stream Token → List ℕ → List Variable → Walk → List ℕ → List ℕ → Type 0
-  Was = Ready text counts Before th es base
+  Was = Ready text counts Before th es base spare
 
   abbrev pub Left : Stream Token → List ℕ → List Variable → ℕ → List ℕ → Walk → Areas → Pattern × List Variable → Type 0
-  Left = PatternRead text counts Before th es base
+  Left = PatternRead text counts Before th es base spare
 
   module _ {credit : ℕ} {ts : Stream Token} {ks : List ℕ} {vs : List Variable} {w : Walk} {vars heap : List ℕ} (r : Was credit ts ks vs w vars heap) where
     pub top-after : sum32 (w .top) 1 ≡ w .top + 1
@@ -121,7 +122,7 @@ module _ (text counts : List ℕ) (Before : Reader → Stream Token → Type 0) 
       let k : sum32 16384 v ≡ 16384 + v = sum-small 16384 v (omega arith) in
       record {
         reached = record {
-          ready = push-ready text counts Before th es base _ r;
+          ready = push-ready text counts Before th es base spare _ r;
           keeps = keeps-set (w .top) heap (w .top) _ (omega arith);
           rises = rw e (omega arith);
           more = λ i x y. y;
@@ -268,7 +269,7 @@ module _ (text counts : List ℕ) (Before : Reader → Stream Token → Type 0) 
         rw (word-there r (omega arith) e)
         (symbol-kept grown-none (λ i p k. keeps-set base heap (w .top) e (omega arith) .words i k) (omega arith) x)
 
-    pub low-top : base + 5 ≤ w .top
+    pub low-top : base + 7 ≤ w .top
     low-top = r .above
 
     pub top-rises : w .top < sum32 (w .top) 1
@@ -293,7 +294,7 @@ module _ (text counts : List ℕ) (Before : Reader → Stream Token → Type 0) 
             rw q
             record {
               reached = record {
-                ready = push-ready text counts Before th es base e r;
+                ready = push-ready text counts Before th es base spare e r;
                 keeps = keeps-set (w .top) heap (w .top) e (omega arith);
                 rises = le-of-lt (top-rises r e);
                 more = λ i n z. z;

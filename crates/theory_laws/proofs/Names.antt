@@ -22,13 +22,15 @@ use Rattle.sexp.specs.Flattening.{flatOne, flat, size, countsOne, countsAll}
 use Rattle.patterns.specs.Outcomes as outcomes
 use Rattle.patterns.specs.Leaving as leaving
 use Rattle.patterns.specs.Leaving.{_leaving_}
-use Rattle.patterns.specs.Items.{sum32, readOn, withTop, pushed, atomDue, declaredName}
+use Rattle.words.specs.Sums.{sum32}
+use Rattle.patterns.specs.Items.{readOn, withTop, pushed, atomDue, declaredName}
 use Rattle.patterns.specs.declared.Walk.{Walk}
 use Rattle.theory.specs.Symbols.{sortFrom, sortNamed, inputs}
 use Rattle.theory_laws.specs.Simulation.{Answers, both-refuse, both-ok, then, Simulates, leave, pure, after}
 use Rattle.theory_laws.specs.Reading.{Reads, Walks, weight}
 use Rattle.theory_laws.specs.Representation.{Entries, SortAt, sort-at, SortsAt, no-sorts, one-sort, Holds}
-use Rattle.theory_laws.proofs.Items.{sum-small, atom-met, list-met, closing-met}
+use Rattle.words.proofs.Sums.{sum-small}
+use Rattle.theory_laws.proofs.Items.{atom-met, list-met, closing-met}
 use Rattle.theory_laws.proofs.Frames.{Keeps, keeps-all, keeps-then, keeps-set, holds-kept}
 use Rattle.theory_laws.proofs.Lookups.{part-length, part-question}
 

@@ -20,7 +20,8 @@ use Rattle.sexp.specs.Flattening.{flatOne, flat, size, countsOne, countsAll}
 use Rattle.patterns.specs.Outcomes as outcomes
 use Rattle.patterns.specs.Leaving.{Did, _leaving_}
 use Rattle.patterns.specs.Items as items
-use Rattle.patterns.specs.Items.{sum32, readOn, openedOne, withTop, atomDue, headDue, closingDue}
+use Rattle.words.specs.Sums.{sum32}
+use Rattle.patterns.specs.Items.{readOn, openedOne, withTop, atomDue, headDue, closingDue}
 use Rattle.patterns.specs.Patterns as walk
 use Rattle.patterns.specs.Patterns.{Areas, compoundHead, argumentsFrom}
 use Rattle.patterns.specs.declared.Walk.{Walk}
@@ -44,12 +45,12 @@ alone []ₛ = refl
 alone (x ∷ₛ xs) = ne-eqb (suc (suc (size xs))) 1 (λ e. omega arith)
 
 module _ (text counted : List ℕ) (Before : Reader → Stream Token → Type 0) (reads : Reads text Before) (short : length text ≤ 8192)
-    (th : Theory) (es : Entries) (base : ℕ) where
+    (th : Theory) (es : Entries) (base spare : ℕ) where
   abbrev pub Was : ℕ → Stream Token → List ℕ → List Variable → Walk → List ℕ → List ℕ → Type 0
-  Was = Ready text counted Before th es base
+  Was = Ready text counted Before th es base spare
 
   abbrev pub Left : Stream Token → List ℕ → List Variable → ℕ → List ℕ → Walk → Areas → Pattern × List Variable → Type 0
-  Left = PatternRead text counted Before th es base
+  Left = PatternRead text counted Before th es base spare
 
   -- After a token.
   pub after-atom : {bytes : List ℕ} {ts : Stream Token} {ks : List ℕ} {vs : List Variable} {w : Walk} {vars heap : List ℕ}
@@ -108,8 +109,8 @@ module _ (text counted : List ℕ) (Before : Reader → Stream Token → Type 0)
 
   -- What reading arguments leaves.
   pub record ArgumentsRead (ts : Stream Token) (ks : List ℕ) (vs : List Variable) (from : ℕ) (heap : List ℕ) (q : Walk) (areas : Areas) (r : Patterns × List Variable) : Type 0 where
-    pub reached : Reached text counted Before th es base ts ks vs from heap q areas (r .1)
-    pub flats : Flats (areas .1) es base (base + 5) (q .top) (r .1) from (r .0) (q .top)
+    pub reached : Reached text counted Before th es base spare ts ks vs from heap q areas (r .1)
+    pub flats : Flats (areas .1) es base (base + 7) (q .top) (r .1) from (r .0) (q .top)
 
   -- No argument is left: the closing.
   no-arguments : {ts : Stream Token} {ks : List ℕ} {vs : List Variable} {w : Walk} {vars heap : List ℕ}
@@ -208,7 +209,7 @@ module _ (text counted : List ℕ) (Before : Reader → Stream Token → Type 0)
       → ls ≡ countsAll xs ks
       → Was 3 us ls vs w vars heap
       → (x : ℕ × Walk) (heap′ : List ℕ) (c : Symbol)
-      → Applied text counted Before th es base us ls vs w vars heap expected (count xs) x heap′ c
+      → Applied text counted Before th es base spare us ls vs w vars heap expected (count xs) x heap′ c
       → Simulates (Left ts ks vs (w .top) heap)
       (argumentsFrom (walk.pattern left text counted) (getD heap′ (x .0 + 4) 0) text (x .0) 0 (x .1) vars heap′)
       (definition.patterns th xs (inputs c) vs >>= λ (ps, ws). ok (app c ps, ws))
@@ -227,7 +228,7 @@ module _ (text counted : List ℕ) (Before : Reader → Stream Token → Type 0)
         ready : Was 0 (flat xs (closing ▹ ts)) (countsAll xs ks) vs (withTop w (sum32 (w .top) 1)) vars new
         ready =
             subst (λ (s : Stream Token). Was 0 s (countsAll xs ks) vs (withTop w (sum32 (w .top) 1)) vars new) p
-            (subst (λ (s : List ℕ). Was 0 us s vs (withTop w (sum32 (w .top) 1)) vars new) q (push-ready text counted Before th es base e r))
+            (subst (λ (s : List ℕ). Was 0 us s vs (withTop w (sum32 (w .top) 1)) vars new) q (push-ready text counted Before th es base spare e r))
 
         arguments : Simulates (ArgumentsRead ts ks vs (sum32 (w .top) 1) new)
             (argumentsFrom (walk.pattern left text counted) (length ins) text e 0 (withTop w (sum32 (w .top) 1)) vars new)
@@ -244,7 +245,7 @@ module _ (text counted : List ℕ) (Before : Reader → Stream Token → Type 0)
         join : {q′ : Walk} {areas : Areas} {v : Patterns × List Variable} → ArgumentsRead ts ks vs (sum32 (w .top) 1) new q′ areas v
             → Left ts ks vs (w .top) heap q′ areas (app (symbol name ins out) (v .0), v .1)
         join {q′} {areas} {v} k =
-            let t = top-rises text counted Before th es base r e in
+            let t = top-rises text counted Before th es base spare r e in
             let a = k .reached .rises in
             let u = r .above in
             record {
@@ -254,10 +255,10 @@ module _ (text counted : List ℕ) (Before : Reader → Stream Token → Type 0)
                 rises = omega arith;
                 more = k .reached .more;
               };
-              flat = flat-symbol {o = w .top} {o′ = q′ .top} {c = symbol name ins out} {ps = v .0} (low-top text counted Before th es base r e) (omega arith)
+              flat = flat-symbol {o = w .top} {o′ = q′ .top} {c = symbol name ins out} {ps = v .0} (low-top text counted Before th es base spare r e) (omega arith)
                   (rw (k .reached .keeps .words (w .top) t)
-                  (symbol-kept grown-none (λ i g h. k .reached .keeps .words i (omega arith)) (omega arith) (symbol-word text counted Before th es base r e (symbol-at y))))
-                  (rw (← top-after text counted Before th es base r) (k .flats));
+                  (symbol-kept grown-none (λ i g h. k .reached .keeps .words i (omega arith)) (omega arith) (symbol-word text counted Before th es base spare r e (symbol-at y))))
+                  (rw (← top-after text counted Before th es base spare r) (k .flats));
             }
 
   -- A list whose head is an atom.
@@ -265,14 +266,14 @@ module _ (text counted : List ℕ) (Before : Reader → Stream Token → Type 0)
       (met : AtomMet text counted Before reads name ts ks w)
       → SortAt es a sortName
       → Was 3 ts ks vs (readOn w (met .next)) vars heap
-      → Simulates (Applied text counted Before th es base ts ks vs (readOn w (met .next)) vars heap (sort sortName) (count xs))
+      → Simulates (Applied text counted Before th es base spare ts ks vs (readOn w (met .next)) vars heap (sort sortName) (count xs))
       (compoundHead text counted a (suc (size xs)) w heap)
       (need (not (isEmpty xs)) bracketedConstant >>= λ _. definition.constructor th name >>= λ c. need (fits c (sort sortName) (count xs)) sortArity >>= λ _. ok c)
   unfolding compoundHead definition.constructor number
   compound-head name sortName a xs met m r =
       rw (head-met (size xs) met)
       (test (not (eqb (suc (size xs)) 1)) 16 bracketedConstant _ _ (ap not (alone xs)) refl
-      (λ _. applied-law text counted Before th es base 256 isConstructor name (met .s) (met .t) a (suc (size xs)) (count xs) (sort sortName) r
+      (λ _. applied-law text counted Before th es base spare 256 isConstructor name (met .s) (met .t) a (suc (size xs)) (count xs) (sort sortName) r
       (r .holds .constructors) (met .name) (ap suc (size-count xs)) (sort-output m)))
 
   compound-atom : (left : ℕ) (name : Name) (xs : Sexps) → ArgumentsLaw left xs → CompoundLaw left (leaf name ∷ₛ xs)
@@ -285,7 +286,7 @@ module _ (text counted : List ℕ) (Before : Reader → Stream Token → Type 0)
         met = atom-met text counted Before reads (r .walks)
 
         ready : Was 3 (flat xs (closing ▹ ts)) (countsAll xs ks) vs (readOn w (met .next)) vars heap
-        ready = less-credit text counted Before th es base (after-atom r met) 3 (omega arith)
+        ready = less-credit text counted Before th es base spare (after-atom r met) 3 (omega arith)
 
   compound-list : (left : ℕ) (ys xs : Sexps) → CompoundLaw left (list ys ∷ₛ xs)
   unfolding definition.compound definition.atomDue flat countsAll size _>>=_ compoundHead number
@@ -302,7 +303,7 @@ module _ (text counted : List ℕ) (Before : Reader → Stream Token → Type 0)
   pattern-atom left d bytes e sortName a ts ks vs w vars heap m r =
       let met = atom-met text counted Before reads (r .walks) in
       rw (e, met .met)
-      (leaf-law text counted Before th es base bytes sortName (met .s) (met .t) a short (after-atom r met) (met .name) (met .some-byte) (met .inside) m)
+      (leaf-law text counted Before th es base spare bytes sortName (met .s) (met .t) a short (after-atom r met) (met .name) (met .some-byte) (met .inside) m)
 
   pattern-list : (left d : ℕ) (xs : Sexps) → left ≡ suc d → CompoundLaw d xs → PatternLaw left (list xs)
   unfolding walk.pattern flatOne countsOne definition.pattern

@@ -10,12 +10,13 @@ use Rattle.horn.specs.Tokens.{Stream, Token}
 use Rattle.horn.specs.Rulebook.{Variable, variable, Pattern, Theory}
 use Rattle.words.specs.Parts.{part}
 use Rattle.lex.specs.declared.Reader.{Reader}
-use Rattle.patterns.specs.Items.{sum32, withTop}
+use Rattle.words.specs.Sums.{sum32}
+use Rattle.patterns.specs.Items.{withTop}
 use Rattle.patterns.specs.Patterns.{Areas}
 use Rattle.patterns.specs.declared.Walk.{Walk}
 use Rattle.theory_laws.specs.Reading.{Walks, weight}
 use Rattle.theory_laws.specs.Representation.{Entries, SortAt, Nth, here, there, Flat, VariablesAt, no-variables, one-variable, Holds}
-use Rattle.theory_laws.proofs.Items.{sum-small}
+use Rattle.words.proofs.Sums.{sum-small}
 use Rattle.theory_laws.proofs.Frames.{Keeps, keeps-set, holds-kept}
 
 -- One variable more behind others.
@@ -42,18 +43,19 @@ variables-more {o} name s p no-variables e n a =
     let q : o ≡ p = omega arith in one-variable {o = o} {name = name} {s = s} (rw q n) (rw q a) no-variables
 variables-more name s p (one-variable n′ a′ r) e n a = one-variable n′ a′ (variables-more name s p r (omega arith) n a)
 
-module _ (text counts : List ℕ) (Before : Reader → Stream Token → Type 0) (th : Theory) (es : Entries) (base : ℕ) where
+module _ (text counts : List ℕ) (Before : Reader → Stream Token → Type 0) (th : Theory) (es : Entries) (base spare : ℕ) where
   -- The tokens and member counts that come, the variables so far. Each token that comes pays for the words that it may
-  -- need, and `credit` is what is paid already: three for each word.
+  -- need, and `credit` is what is paid already: three for each word. A rule's entry takes one more than `rule` pays for its
+  -- seven words; a name that is an atom pays it and has `spare` left, and no rule is entered by another.
   pub record Ready (credit : ℕ) (ts : Stream Token) (ks : List ℕ) (vs : List Variable) (w : Walk) (vars heap : List ℕ) : Type 0 where
     pub walks : Walks text counts Before ts ks w
     pub holds : Holds text heap es base th
-    pub above : base + 5 ≤ w .top
+    pub above : base + 7 ≤ w .top
     pub base-low : 1024 ≤ base
     pub many : w .variables ≡ length vs
     pub long : length vars ≡ 16384
     pub variables : VariablesAt text vars es 0 vs
-    pub room : 3 * w .top + 9 * length vs + 4 * weight ts + credit ≤ 35844
+    pub room : 3 * w .top + 9 * length vs + 4 * weight ts + credit + spare ≤ 35846
 
   -- What reading leaves.
   pub record Reached (ts : Stream Token) (ks : List ℕ) (vs : List Variable) (from : ℕ) (heap : List ℕ) (q : Walk) (areas : Areas) (vs′ : List Variable) : Type 0 where
@@ -64,7 +66,7 @@ module _ (text counts : List ℕ) (Before : Reader → Stream Token → Type 0) 
 
   pub record PatternRead (ts : Stream Token) (ks : List ℕ) (vs : List Variable) (from : ℕ) (heap : List ℕ) (q : Walk) (areas : Areas) (r : Pattern × List Variable) : Type 0 where
     pub reached : Reached ts ks vs from heap q areas (r .1)
-    pub flat : Flat (areas .1) es base (base + 5) (q .top) (r .1) from (r .0) (q .top)
+    pub flat : Flat (areas .1) es base (base + 7) (q .top) (r .1) from (r .0) (q .top)
 
   -- One word more.
   pub push-ready : {ts : Stream Token} {ks : List ℕ} {vs : List Variable} {w : Walk} {vars heap : List ℕ} (word : ℕ)

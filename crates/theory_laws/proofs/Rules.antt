@@ -23,17 +23,19 @@ use Rattle.lex.specs.declared.Reader.{Reader}
 use Rattle.sexp.specs.Flattening.{flatOne, flat, size, countsOne}
 use Rattle.patterns.specs.Outcomes as outcomes
 use Rattle.patterns.specs.Leaving.{beside}
-use Rattle.patterns.specs.Items.{sum32, readOn, openedOne, withTop, listDue}
+use Rattle.words.specs.Sums.{sum32}
+use Rattle.patterns.specs.Items.{readOn, openedOne, withTop, listDue}
 use Rattle.patterns.specs.Patterns.{Areas}
 use Rattle.patterns.specs.declared.Walk.{Walk}
-use Rattle.theory.specs.Symbols.{isNew, entered, described}
-use Rattle.theory.specs.Rules.{nameKept, nameJudged, begun, bodyRead, copied, variablesStored, ruleEntered, ruleDeclared}
+use Rattle.theory.specs.Symbols.{isNew, entered}
+use Rattle.theory.specs.Rules.{nameKept, nameJudged, begun, bodyRead, copied, ruleDescribed, variablesStored, ruleEntered, ruleDeclared}
 use Rattle.theory.specs.declared.RuleName.{RuleName}
 use Rattle.theory.specs.declared.RuleName.the-variants as ruleNames
 use Rattle.theory_laws.specs.Simulation.{Answers, both-refuse, both-ok, Simulates, refuse, leave, bind, pure, aside, test-then, paired, three-on}
 use Rattle.theory_laws.specs.Reading.{Reads, Walks, weight, Shallow, shallow-list}
 use Rattle.theory_laws.specs.Representation.{Entries, Flat, FlatList, no-variables, Holds}
-use Rattle.theory_laws.proofs.Items.{sum-small, atom-met, list-met, ClosingMet, closing-met}
+use Rattle.words.proofs.Sums.{sum-small}
+use Rattle.theory_laws.proofs.Items.{atom-met, list-met, ClosingMet, closing-met}
 use Rattle.theory_laws.proofs.Frames.{Keeps, keeps-less, keeps-then, grown-none, premises-kept}
 use Rattle.theory_laws.proofs.Lookups.{part-question}
 use Rattle.theory_laws.proofs.Ready.{Ready, PatternRead}
@@ -56,10 +58,20 @@ mutual
   lighter-all []ₛ ts = omega arith
   lighter-all (x ∷ₛ xs) ts = let h = lighter x (flat xs ts) in let k = lighter-all xs ts in omega arith
 
+-- What a name leaves of what it weighs, when it has paid for a word: only an atom does.
+unfoldable pub spared : Sexp → ℕ
+spared (leaf bytes) = 2
+spared (list xs) = 0
+
+name-pays : (x : Sexp) (ts : Stream Token) → spared x + 4 * weight ts ≤ 4 * weight (flatOne x ts)
+unfolding spared weight flatOne
+name-pays (leaf bytes) ts = omega arith
+name-pays (list xs) ts = let h = lighter-all xs (closing ▹ ts) in omega arith
+
 module _ (text counted : List ℕ) (Before : Reader → Stream Token → Type 0) (reads : Reads text Before) (short : length text ≤ 8192) where
   -- A name that is judged later.
-  pub data NameJudged : ℕ × ℕ → Name → Type 0 where
-    name-judged : {s t : ℕ} {name : Name} → part s t text ≡ name → s < t → t ≤ length text → NameJudged (s, t) name
+  pub data NameJudged (n : Sexp) : ℕ × ℕ → Name → Type 0 where
+    name-judged : {s t : ℕ} {name : Name} → part s t text ≡ name → s < t → t ≤ length text → spared n ≡ 2 → NameJudged n (s, t) name
 
   pub record NameKept (n : Sexp) (ts : Stream Token) (ks : List ℕ) (w : Walk) : Type 0 where
     pub name : RuleName
@@ -67,12 +79,12 @@ module _ (text counted : List ℕ) (Before : Reader → Stream Token → Type 0)
     pub met : nameKept text counted w ≡ outcomes.ok (name, next)
     pub walks : Walks text counted Before ts ks next
     pub top : next .top ≡ w .top
-    pub judged : Answers NameJudged (nameJudged text name) (definition.declaredName n)
+    pub judged : Answers (NameJudged n) (nameJudged text name) (definition.declaredName n)
 
   name-kept : (n : Sexp) {ts : Stream Token} {ks : List ℕ} {w : Walk} → Walks text counted Before (flatOne n ts) (countsOne n ks) w
       → streamLength (flatOne n ts) ≤ length text
       → NameKept n ts ks w
-  unfolding nameKept definition.declaredName definition.atomDue flatOne countsOne streamLength number need _>>=_
+  unfolding nameKept spared definition.declaredName definition.atomDue flatOne countsOne streamLength number need _>>=_
   name-kept (leaf name) {w} h enough =
       let m = atom-met text counted Before reads h in
       let q = sym (part-question (m .s) (m .t) text (m .some-byte) (m .inside)) ∙ ap questioned (m .name) in
@@ -85,7 +97,7 @@ module _ (text counted : List ℕ) (Before : Reader → Stream Token → Type 0)
         judged =
             case (questioned name)
             (λ k. rw (q, k) (both-refuse refl))
-            (λ k. rw (q, k) (both-ok (name-judged (m .name) (m .some-byte) (m .inside))));
+            (λ k. rw (q, k) (both-ok (name-judged (m .name) (m .some-byte) (m .inside) refl)));
       }
   name-kept (list xs) h enough =
       let m = list-met text counted Before reads h in
@@ -101,45 +113,45 @@ module _ (text counted : List ℕ) (Before : Reader → Stream Token → Type 0)
 
   module _ (th : Theory) (es : Entries) where
     -- A rule's premises and its conclusion.
-    pub data BodyRead (base : ℕ) (ts : Stream Token) (ks : List ℕ) (heap : List ℕ) : ℕ × Walk → Areas → (List Pattern × List Variable) × (Pattern × List Variable) → Type 0 where
+    pub data BodyRead (base spare : ℕ) (ts : Stream Token) (ks : List ℕ) (heap : List ℕ) : ℕ × ℕ × Walk → Areas → (List Pattern × List Variable) × (Pattern × List Variable) → Type 0 where
       body-read : {n : ℕ} {q : Walk} {areas : Areas} {p : List Pattern × List Variable} {c : Pattern × List Variable} (mid : ℕ)
           → n ≡ length (p .0)
-          → Ready text counted Before th es base 0 ts ks (c .1) q (areas .0) (areas .1)
-          → Keeps (base + 5) heap (areas .1)
-          → FlatList (areas .1) es base (base + 5) (q .top) (c .1) (base + 5) (p .0) mid
-          → Flat (areas .1) es base (base + 5) (q .top) (c .1) mid (c .0) (q .top)
-          → BodyRead base ts ks heap (n, q) areas (paired p c)
+          → Ready text counted Before th es base spare 0 ts ks (c .1) q (areas .0) (areas .1)
+          → Keeps (base + 7) heap (areas .1)
+          → FlatList (areas .1) es base (base + 7) (q .top) (c .1) (base + 7) (p .0) mid
+          → Flat (areas .1) es base (base + 7) (q .top) (c .1) mid (c .0) (q .top)
+          → BodyRead base spare ts ks heap (n, mid, q) areas (paired p c)
 
-    body-law : (js j : Sexp) {base : ℕ} {ts : Stream Token} {ks : List ℕ} {w : Walk} {vars heap : List ℕ}
-        → Ready text counted Before th es base 0 (flatOne js (flatOne j ts)) (countsOne js (countsOne j ks)) [] w vars heap
-        → w .top ≡ base + 5
+    body-law : (js j : Sexp) {base spare : ℕ} {ts : Stream Token} {ks : List ℕ} {w : Walk} {vars heap : List ℕ}
+        → Ready text counted Before th es base spare 0 (flatOne js (flatOne j ts)) (countsOne js (countsOne j ks)) [] w vars heap
+        → w .top ≡ base + 7
         → Shallow 259 js
         → Shallow 258 j
-        → Simulates (BodyRead base ts ks heap) (bodyRead text counted w vars heap)
+        → Simulates (BodyRead base spare ts ks heap) (bodyRead text counted w vars heap)
         (definition.listDue js >>= λ xs. definition.judgmentPatterns th xs [] >>= λ p. definition.judgmentPattern th j (p .1) >>= λ c. ok (paired p c))
     unfolding bodyRead definition.listDue flatOne countsOne number _>>=_
-    body-law (leaf bytes) j {base} r e s₀ s₁ = rw (atom-due text counted Before reads short th es base (atom-met text counted Before reads (r .walks))) (refuse refl)
-    body-law (list xs) j {base} {ts} {ks} {w} {vars} {heap} r e (shallow-list {d} q s₀) s₁ =
+    body-law (leaf bytes) j {base} {spare} r e s₀ s₁ = rw (atom-due text counted Before reads short th es base spare (atom-met text counted Before reads (r .walks))) (refuse refl)
+    body-law (list xs) j {base} {spare} {ts} {ks} {w} {vars} {heap} r e (shallow-list {d} q s₀) s₁ =
         let m = list-met text counted Before reads (r .walks) in
         let k : d ≡ 258 = omega arith in
-        rw (list-due text counted Before reads short th es base m)
+        rw (list-due text counted Before reads short th es base spare m)
         (bind _ _
-        (judgments-law text counted Before reads short th es base xs (rw k at s₀) (flatOne j ts) (countsOne j ks) [] (openedOne w (m .next)) vars heap
-        (after-opening text counted Before reads short th es base r m))
+        (judgments-law text counted Before reads short th es base spare xs (rw k at s₀) (flatOne j ts) (countsOne j ks) [] (openedOne w (m .next)) vars heap
+        (after-opening text counted Before reads short th es base spare r m))
         (λ q₁ areas p y.
         bind _ _
-        (judgment-law text counted Before reads short th es base j s₁ ts ks (p .1) q₁ (areas .0) (areas .1) (y .reached .ready))
+        (judgment-law text counted Before reads short th es base spare j s₁ ts ks (p .1) q₁ (areas .0) (areas .1) (y .reached .ready))
         (λ q₂ areas′ c z.
         leave (join y z)))) where
           join : {q₁ q₂ : Walk} {areas areas′ : Areas} {p : List Pattern × List Variable} {c : Pattern × List Variable}
-              → JudgmentsRead text counted Before reads short th es base (size xs) (flatOne j ts) (countsOne j ks) [] (w .top) heap q₁ areas p
-              → PatternRead text counted Before th es base ts ks (p .1) (q₁ .top) (areas .1) q₂ areas′ c
-              → BodyRead base ts ks heap (size xs, q₂) areas′ (paired p c)
+              → JudgmentsRead text counted Before reads short th es base spare (size xs) (flatOne j ts) (countsOne j ks) [] (w .top) heap q₁ areas p
+              → PatternRead text counted Before th es base spare ts ks (p .1) (q₁ .top) (areas .1) q₂ areas′ c
+              → BodyRead base spare ts ks heap (size xs, q₁ .top, q₂) areas′ (paired p c)
           join {q₁} {q₂} {areas} {areas′} {p} {c} y z =
               let a = y .reached .rises in
               let b = z .reached .rises in
               let u = y .reached .ready .above in
-              let f : FlatList (areas′ .1) es base (base + 5) (q₂ .top) (c .1) (w .top) (p .0) (q₁ .top) =
+              let f : FlatList (areas′ .1) es base (base + 7) (q₂ .top) (c .1) (w .top) (p .0) (q₁ .top) =
               premises-kept grown-none (λ i g f. z .reached .keeps .words i (omega arith)) (omega arith) (λ i g f. z .reached .keeps .words i f) b (z .reached .more) (y .flats) in
               body-read (q₁ .top) (y .many) (z .reached .ready)
               (rw e at (keeps-then a (y .reached .keeps) (z .reached .keeps)))
@@ -152,16 +164,16 @@ module _ (text counted : List ℕ) (Before : Reader → Stream Token → Type 0)
       pub long : length (areas .0) ≡ 16384
 
     -- The rule's entry, its variables, and the closing of the declaration.
-    rule-entered : {base : ℕ} {ts : Stream Token} {ks : List ℕ} {heap : List ℕ} (b : ℕ × Walk) (areas : Areas) (p : List Pattern × List Variable) (c : Pattern × List Variable)
+    rule-entered : {base : ℕ} {n : Sexp} {ts : Stream Token} {ks : List ℕ} {heap : List ℕ} (b : ℕ × ℕ × Walk) (areas : Areas) (p : List Pattern × List Variable) (c : Pattern × List Variable)
         (st : ℕ × ℕ) (name : Name)
         → Holds text heap es base th
-        → BodyRead base (closing ▹ ts) ks heap b areas (paired p c)
-        → NameJudged st name
-        → Simulates (StoodWith ts ks) (beside (areas .0) (ruleEntered text base (st .0) (st .1) (b .0) (b .1) (areas .0) (areas .1)))
+        → BodyRead base (spared n) (closing ▹ ts) ks heap b areas (paired p c)
+        → NameJudged n st name
+        → Simulates (StoodWith ts ks) (beside (areas .0) (ruleEntered text base (st .0) (st .1) (b .0) (b .1) (b .2) (areas .0) (areas .1)))
         (need (not (some-of (isRule name) (th .rules))) duplicate >>= λ _.
         ok record { sorts = th .sorts; symbols = th .symbols; rules = th .rules ++ (rule name (c .1) (p .0) (c .0) ∷ []) })
     unfolding ruleEntered entered variablesStored number weight
-    rule-entered {base} {ts} {ks} {heap} b areas p c st name h (body-read {n} {q} mid many r keeps premises conclusion) (name-judged {s} {t} e l u) =
+    rule-entered {base} {ts} {ks} {heap} b areas p c st name h (body-read {n} {q} mid many r keeps premises conclusion) (name-judged {s} {t} e l u paid) =
         let room = r .room in
         let above = r .above in
         let low = r .base-low in
@@ -175,7 +187,7 @@ module _ (text counted : List ℕ) (Before : Reader → Stream Token → Type 0)
         (rw e (new-test name (r .holds .rules))) refl
         (λ y.
         rw (m .met)
-        (leave {a = readOn q′ (m .next)} {s = copied (3 * q .variables) 0 (areas .0) (q .top) (described base n (q .variables) (added (areas .1) 768 256 base text s t))} {b = record { sorts = th .sorts; symbols = th .symbols; rules = th .rules ++ (rule name (c .1) (p .0) (c .0) ∷ []) }} record {
+        (leave {a = readOn q′ (m .next)} {s = copied (3 * q .variables) 0 (areas .0) (q .top) (ruleDescribed base n (q .variables) mid (q .top) (added (areas .1) 768 256 base text s t))} {b = record { sorts = th .sorts; symbols = th .symbols; rules = th .rules ++ (rule name (c .1) (p .0) (c .0) ∷ []) }} record {
           entries = withRule es (entry base name);
           ready = record {
             walks = m .walks;
@@ -203,8 +215,8 @@ module _ (text counted : List ℕ) (Before : Reader → Stream Token → Type 0)
         let k = name-kept n (r .walks) enough in
         let room = r .room in
         let low = r .base-low in
-        let light = lighter n (flatOne js (flatOne j (closing ▹ ts))) in
-        let e : sum32 (k .next .top) 5 ≡ w .top + 5 = rw (k .top) (sum-small (w .top) 5 (omega arith)) in
+        let light = name-pays n (flatOne js (flatOne j (closing ▹ ts))) in
+        let e : sum32 (k .next .top) 7 ≡ w .top + 7 = rw (k .top) (sum-small (w .top) 7 (omega arith)) in
         rw (
           k .met,
           ← three-on {D = Theory} (definition.listDue js) (λ xs. definition.judgmentPatterns th xs []) (λ p. definition.judgmentPattern th j (p .1))

@@ -13,12 +13,10 @@ use Rattle.names.specs.Chains.{added}
 use Rattle.names.specs.Tables.{Entry, entry}
 use Rattle.names.proofs.Holds.{by-number}
 use Rattle.names.proofs.Kept.{length-added, added-other}
-use Rattle.theory.specs.Symbols.{described}
-use Rattle.theory.specs.Rules.{copied}
+use Rattle.theory.specs.Rules.{copied, ruleDescribed}
 use Rattle.theory_laws.specs.Representation.{Entries, Flat, FlatList, VariablesAt, no-variables, one-variable, RuleAt, rule-at, Holds}
 use Rattle.theory_laws.proofs.Frames.{Grown, Keeps, sort-kept, symbol-kept, rule-kept, flat-kept, premises-kept}
 use Rattle.theory_laws.proofs.Adding.{Adds, adds-kept, others, newer}
-use Rattle.theory_laws.proofs.SymbolsAdded.{length-described, described-other, described-first, described-second}
 
 -- The words of the variables, copied behind the patterns.
 module _ (vars : List ℕ) (top : ℕ) where
@@ -58,6 +56,55 @@ variables-moved {o} g o′ k (one-variable {name} {s} {vs} n a r) =
     (rw (k (o + 2) (o′ + 2) (omega arith) (omega arith) (omega arith)) (sort-kept g a))
     (variables-moved g (o′ + 3) (λ i i′ e l u. k i i′ (omega arith) (omega arith) (omega arith)) r)
 
+-- The four words behind a rule's name.
+module _ (heap : List ℕ) (e a b c d : ℕ) where
+  abbrev one : List ℕ
+  one = set heap (e + 3) a
+
+  abbrev two : List ℕ
+  two = set one (e + 4) b
+
+  abbrev three : List ℕ
+  three = set two (e + 5) c
+
+  pub length-rule : length (ruleDescribed e a b c d heap) ≡ length heap
+  unfolding ruleDescribed
+  length-rule = simp length-set
+
+  pub rule-other : (i : ℕ) → (e + 3 ≤ i → i ≤ e + 6 → ⊥) → getD (ruleDescribed e a b c d heap) i 0 ≡ getD heap i 0
+  unfolding ruleDescribed
+  rule-other i h =
+      getD-set-other three (e + 6) i d 0 (λ k. h (omega arith) (omega arith))
+      ∙ getD-set-other two (e + 5) i c 0 (λ k. h (omega arith) (omega arith))
+      ∙ getD-set-other one (e + 4) i b 0 (λ k. h (omega arith) (omega arith))
+      ∙ getD-set-other heap (e + 3) i a 0 (λ k. h (omega arith) (omega arith))
+
+  module _ (fits : e + 6 < length heap) where
+    pub rule-first : getD (ruleDescribed e a b c d heap) (e + 3) 0 ≡ a
+    unfolding ruleDescribed
+    rule-first =
+        getD-set-other three (e + 6) (e + 3) d 0 (λ k. omega arith)
+        ∙ getD-set-other two (e + 5) (e + 3) c 0 (λ k. omega arith)
+        ∙ getD-set-other one (e + 4) (e + 3) b 0 (λ k. omega arith)
+        ∙ getD-set-same heap (e + 3) a 0 (omega arith)
+
+    pub rule-second : getD (ruleDescribed e a b c d heap) (e + 4) 0 ≡ b
+    unfolding ruleDescribed
+    rule-second =
+        getD-set-other three (e + 6) (e + 4) d 0 (λ k. omega arith)
+        ∙ getD-set-other two (e + 5) (e + 4) c 0 (λ k. omega arith)
+        ∙ getD-set-same one (e + 4) b 0 (simp length-set (omega arith))
+
+    pub rule-third : getD (ruleDescribed e a b c d heap) (e + 5) 0 ≡ c
+    unfolding ruleDescribed
+    rule-third =
+        getD-set-other three (e + 6) (e + 5) d 0 (λ k. omega arith)
+        ∙ getD-set-same two (e + 5) c 0 (simp length-set (omega arith))
+
+    pub rule-fourth : getD (ruleDescribed e a b c d heap) (e + 6) 0 ≡ d
+    unfolding ruleDescribed
+    rule-fourth = getD-set-same three (e + 6) d 0 (simp length-set (omega arith))
+
 abbrev pub withRule : Entries → Entry → Entries
 withRule es e = record { sorts = es .sorts; constructors = es .constructors; predicates = es .predicates; rules = e ∷ es .rules }
 
@@ -66,44 +113,44 @@ rule-grown es e = record { sorts = λ x m. m; constructors = λ x m. m; predicat
 
 module _ (text heap middle vars : List ℕ) (es : Entries) (th : Theory) (e top s t n v : ℕ) (name : Name)
     (vs : List Variable) (premises : List Pattern) (conclusion : Pattern) (mid : ℕ)
-    (h : Holds text heap es e th) (keeps : Keeps e heap middle) (low : 1024 ≤ e) (rising : e + 5 ≤ top) (fits : top + 3 * v ≤ 16384)
+    (h : Holds text heap es e th) (keeps : Keeps e heap middle) (low : 1024 ≤ e) (rising : e + 7 ≤ top) (fits : top + 3 * v ≤ 16384)
     (p : part s t text ≡ name) (small-start : s < 4294967296) (small-end : t < 4294967296)
     (many-premises : n ≡ length premises) (many-variables : v ≡ length vs)
-    (at-premises : FlatList middle es e (e + 5) top vs (e + 5) premises mid) (at-conclusion : Flat middle es e (e + 5) top vs mid conclusion top)
+    (at-premises : FlatList middle es e (e + 7) top vs (e + 7) premises mid) (at-conclusion : Flat middle es e (e + 7) top vs mid conclusion top)
     (at-variables : VariablesAt text vars es 0 vs) where
   abbrev named-words : List ℕ
   named-words = added middle 768 256 e text s t
 
   abbrev described-words : List ℕ
-  described-words = described e n v named-words
+  described-words = ruleDescribed e n v mid top named-words
 
   abbrev pub rule-words : List ℕ
   rule-words = copied (3 * v) 0 vars top described-words
 
   length-middle : length described-words ≡ 16384
-  length-middle = length-described named-words e n v ∙ length-added middle 768 256 e text s t ∙ keeps .same-length ∙ h .long
+  length-middle = length-rule named-words e n v mid top ∙ length-added middle 768 256 e text s t ∙ keeps .same-length ∙ h .long
 
-  -- Words between the entry's five words and the variables, and words below the entry.
-  pattern-words : (i : ℕ) → e + 5 ≤ i → i < top → getD rule-words i 0 ≡ getD middle i 0
+  -- Words between the entry's seven words and the variables, and words below the entry.
+  pattern-words : (i : ℕ) → e + 7 ≤ i → i < top → getD rule-words i 0 ≡ getD middle i 0
   pattern-words i l u =
       copied-below vars top (3 * v) 0 described-words i (omega arith)
-      ∙ described-other named-words e n v i (λ x. omega arith) (λ x. omega arith)
+      ∙ rule-other named-words e n v mid top i (λ x y. omega arith)
       ∙ added-other middle 768 256 e text s t (omega arith) i (λ x y. omega arith) (λ x y. omega arith)
 
   older-words : (i : ℕ) → 1024 ≤ i → i < e → getD rule-words i 0 ≡ getD middle i 0
   older-words i l u =
       copied-below vars top (3 * v) 0 described-words i (omega arith)
-      ∙ described-other named-words e n v i (λ x. omega arith) (λ x. omega arith)
+      ∙ rule-other named-words e n v mid top i (λ x y. omega arith)
       ∙ added-other middle 768 256 e text s t (omega arith) i (λ x y. omega arith) (λ x y. omega arith)
 
   rule-adds : Adds text heap rule-words e 768 s t
   rule-adds = record {
     middle = middle;
     keeps = keeps;
-    same-length = length-copied vars top (3 * v) 0 described-words ∙ length-described named-words e n v ∙ length-added middle 768 256 e text s t;
+    same-length = length-copied vars top (3 * v) 0 described-words ∙ length-rule named-words e n v mid top ∙ length-added middle 768 256 e text s t;
     words = λ i u.
         copied-below vars top (3 * v) 0 described-words i (omega arith)
-        ∙ described-other named-words e n v i (λ x. omega arith) (λ x. omega arith);
+        ∙ rule-other named-words e n v mid top i (λ x y. omega arith);
     room = let l = h .long in omega arith;
     base-low = low;
     buckets-low = omega arith;
@@ -111,7 +158,7 @@ module _ (text heap middle vars : List ℕ) (es : Entries) (th : Theory) (e top 
     small-end = small-end;
   }
 
-  long-enough : e + 4 < length named-words
+  long-enough : e + 6 < length named-words
   long-enough = let l = h .long in let q = keeps .same-length in rw (length-added middle 768 256 e text s t) (omega arith)
 
   new-rule : RuleAt text rule-words (withRule es (entry e name)) (top + 3 * v) e (rule name vs premises conclusion)
@@ -122,11 +169,13 @@ module _ (text heap middle vars : List ℕ) (es : Entries) (th : Theory) (e top 
         low = low;
         called = List·Memᴰ·head refl;
         premise-count =
-            copied-below vars top (3 * v) 0 described-words (e + 3) (omega arith) ∙ described-first named-words e n v long-enough ∙ many-premises;
+            copied-below vars top (3 * v) 0 described-words (e + 3) (omega arith) ∙ rule-first named-words e n v mid top long-enough ∙ many-premises;
         variable-count =
-            copied-below vars top (3 * v) 0 described-words (e + 4) (omega arith) ∙ described-second named-words e n v long-enough ∙ many-variables;
-        premises-end = mid;
-        conclusion-end = top;
+            copied-below vars top (3 * v) 0 described-words (e + 4) (omega arith) ∙ rule-second named-words e n v mid top long-enough ∙ many-variables;
+        conclusion-place = mid;
+        variables-place = top;
+        to-conclusion = copied-below vars top (3 * v) 0 described-words (e + 5) (omega arith) ∙ rule-third named-words e n v mid top long-enough;
+        to-variables = copied-below vars top (3 * v) 0 described-words (e + 6) (omega arith) ∙ rule-fourth named-words e n v mid top long-enough;
         at-premises = premises-kept g older-words (omega arith) pattern-words (omega arith) (λ i x y. y) at-premises;
         at-conclusion = flat-kept g older-words (omega arith) pattern-words (omega arith) (λ i x y. y) at-conclusion;
         at-variables =

@@ -14,11 +14,12 @@ use Rattle.lex.specs.declared.Reader.{Reader}
 use Rattle.sexp.specs.Flattening.{flatOne, flat, countsOne, countsAll}
 use Rattle.patterns.specs.Outcomes as outcomes
 use Rattle.patterns.specs.Outcomes.{Outcome}
-use Rattle.patterns.specs.Items.{sum32, readOn, openedOne}
+use Rattle.words.specs.Sums.{sum32}
+use Rattle.patterns.specs.Items.{readOn, openedOne}
 use Rattle.patterns.specs.declared.Walk.{Walk}
 use Rattle.theory.specs.Rules.{passed, skipped}
 use Rattle.theory_laws.specs.Reading.{Same, same-opening, same-closing, same-atom, Takes, Reads, Next, one-next, Walks}
-use Rattle.theory_laws.proofs.Items.{sum-small}
+use Rattle.words.proofs.Sums.{sum-small}
 
 module _ (text counted : List ℕ) (Before : Reader → Stream Token → Type 0) (reads : Reads text Before) where
   -- One token passed: k says how far it goes down.

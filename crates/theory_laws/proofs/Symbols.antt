@@ -24,13 +24,15 @@ use Rattle.sexp.specs.Flattening.{flatOne, countsOne}
 use Rattle.patterns.specs.Outcomes as outcomes
 use Rattle.patterns.specs.Leaving as leaving
 use Rattle.patterns.specs.Leaving.{_leaving_}
-use Rattle.patterns.specs.Items.{sum32, readOn, openedOne, withTop, declaredName, listDue, closingDue}
+use Rattle.words.specs.Sums.{sum32}
+use Rattle.patterns.specs.Items.{readOn, openedOne, withTop, declaredName, listDue, closingDue}
 use Rattle.patterns.specs.declared.Walk.{Walk}
 use Rattle.theory.specs.Symbols.{reserved, isNew, sortNamed, entered, described, sortDeclared, inputs, signature, symbolEntered, constructorDeclared, predicateDeclared}
 use Rattle.theory_laws.specs.Simulation.{Simulates, refuse, leave, bind, pure, test-then, paired, three}
 use Rattle.theory_laws.specs.Reading.{Reads, weight}
 use Rattle.theory_laws.specs.Representation.{Entries, sort-at, Declares, Holds}
-use Rattle.theory_laws.proofs.Items.{sum-small, atom-met, list-met, ClosingMet, closing-met}
+use Rattle.words.proofs.Sums.{sum-small}
+use Rattle.theory_laws.proofs.Items.{atom-met, list-met, ClosingMet, closing-met}
 use Rattle.theory_laws.proofs.Frames.{Grown, keeps-all, keeps-less, sort-kept, symbol-kept, rule-kept}
 use Rattle.theory_laws.proofs.Names.{NameRead, name-read, declared-name, SortRead, sort-read, sort-named, Midway, InputsRead, inputs-law}
 use Rattle.theory_laws.proofs.Adding.{Adds, adds-kept, others, newer}

@@ -15,7 +15,7 @@ use Rattle.theory.specs.Declarations.{counted, noCounts}
 use Rattle.theory.specs.declared.Counts.{Counts}
 use Rattle.theory.specs.declared.Form.{Form}
 use Rattle.theory.specs.declared.Form.the-variants as forms
-use Rattle.theory_laws.proofs.Items.{sum-small}
+use Rattle.words.proofs.Sums.{sum-small}
 
 abbrev pub tally : Theory → Counts
 tally th = record {

@@ -1,110 +1,18 @@
 -- The atoms of a text, with one byte for each to part it from the next, are at most one byte longer than the text.
 -- Assumes nothing.
-use Prim.Native.Nat.{ℕ, suc, _+_, _-_, _≤_, _<_}
-use mathlib.Core.Path.{_≡_, refl, ap, _∙_}
+use Prim.Native.Nat.{ℕ, suc, _+_, _≤_}
+use mathlib.Core.Path.{_≡_, refl}
 use mathlib.Core.List.{List, [], _∷_}
-use mathlib.Core.Option.{Option, none, some, Option·map}
 use native.Mathlib.Omega.{arith}
 use lib.Dec.{eqb}
 use lib.ListN.{length, length-append}
-use Rattle.horn.specs.Utf8.{Range, Sequence, sequence, sequences, Char, char, within, startedBy, resumed, decoded}
-use Rattle.horn.specs.Tokens.{Stream, end, bad, _▹_, before, onto, lines, characters, Kind, blank, opens, closes, comments, ordinary, kind}
+use Rattle.horn.specs.Utf8.{Char, char}
+use Rattle.horn.specs.Tokens.{Stream, end, bad, _▹_, before, lines, characters, Kind, blank, opens, closes, comments, ordinary, kind}
 use Rattle.horn.specs.Tokens.{Token, opening, closing, atom, Place, between, inComment, inAtom, Move, begins, continues, move, unended, tokensFrom, tokens}
 use Rattle.horn.proofs.Post.{either}
+use Rattle.capacity.specs.Costs.{wide}
+use Rattle.capacity.proofs.Characters.{wide-some, wide-all, streamBytes, characters-few}
 use Rattle.theory_laws.specs.Reading.{weight}
-
--- A character has a byte at least.
-unfoldable wide : List ℕ → ℕ
-wide [] = 1
-wide (b ∷ bs) = suc (length bs)
-
-wide-some : (bytes : List ℕ) → 1 ≤ wide bytes
-unfolding wide
-wide-some [] = omega arith
-wide-some (b ∷ bs) = omega arith
-
-wide-all : (bytes : List ℕ) → length bytes ≤ wide bytes
-unfolding wide
-wide-all [] = omega arith
-wide-all (b ∷ bs) = omega arith
-
-wide-is : (bytes : List ℕ) → 0 < length bytes → wide bytes ≡ length bytes
-unfolding wide
-wide-is [] h = absurd (omega arith)
-wide-is (b ∷ bs) h = refl
-
--- The bytes of characters.
-unfoldable charBytes : List Char → ℕ
-charBytes [] = 0
-charBytes (char bytes value ∷ cs) = wide bytes + charBytes cs
-
-unfoldable streamBytes : Stream Char → ℕ
-streamBytes end = 0
-streamBytes bad = 0
-streamBytes (char bytes value ▹ cs) = wide bytes + streamBytes cs
-
--- At most so many bytes, if they are decoded.
-data Within (n : ℕ) : Option (List Char) → Type 0 where
-  within-some : {cs : List Char} → charBytes cs ≤ n → Within n (some cs)
-  within-none : Within n none
-
-within-map : {n m : ℕ} {o : Option (List Char)} (taken : List ℕ) (value : ℕ) → 0 < length taken → m ≡ length taken + n → Within n o → Within m (Option·map (λ cs. char taken value ∷ cs) o)
-unfolding charBytes
-within-map taken value l e (within-some {cs} h) = let w = wide-is taken l in within-some {cs = char taken value ∷ cs} (omega arith)
-within-map taken value l e within-none = within-none
-
-within-next : (taken : List ℕ) (value b : ℕ) (bs : List ℕ) → 0 < length taken → ((v : ℕ) (rest : List Range) → Within (1 + length bs) (resumed (b ∷ []) v rest bs)) → (o : Option Sequence)
-    → Within (length taken + suc (length bs)) (elim o [ none ↦ none | some (sequence first mark rest) ↦ Option·map (λ cs. char taken value ∷ cs) (resumed (b ∷ []) (b - mark) rest bs) ])
-within-next taken value b bs l ih none = within-none
-within-next taken value b bs l ih (some (sequence first mark rest)) = within-map taken value l (omega arith) (ih _ rest)
-
-within-resumed : (taken : List ℕ) (value : ℕ) (rs : List Range) (bs : List ℕ) (n : ℕ) → 0 < length taken → n ≡ length taken + length bs → Within n (resumed taken value rs bs)
-unfolding resumed charBytes
-within-resumed taken value (r ∷ rs) [] n l e = within-none
-within-resumed taken value (r ∷ rs) (b ∷ bs) n l e =
-    either (Within n) (within r b) (within-resumed _ _ rs bs n (let h = length-append taken (b ∷ []) in omega arith) (let h = length-append taken (b ∷ []) in omega arith)) within-none
-within-resumed taken value [] [] n l e = let w = wide-is taken l in within-some {cs = char taken value ∷ []} (omega arith)
-within-resumed taken value [] (b ∷ bs) n l e = rw e (within-next taken value b bs l (λ v rest. within-resumed (b ∷ []) v rest bs (1 + length bs) (omega arith) (omega arith)) (startedBy b sequences))
-
-within-decoded : (bs : List ℕ) → Within (length bs) (decoded bs)
-unfolding decoded charBytes
-within-decoded [] = within-some {cs = []} (omega arith)
-within-decoded (b ∷ bs) = go (startedBy b sequences)
-  where
-    go : (o : Option Sequence) → Within (suc (length bs)) (elim o [ none ↦ none | some (sequence first mark rest) ↦ resumed (b ∷ []) (b - mark) rest bs ])
-    go none = within-none
-    go (some (sequence first mark rest)) = within-resumed (b ∷ []) _ rest bs (suc (length bs)) (omega arith) (omega arith)
-
-bytes-before : (cs : List Char) (s : Stream Char) → streamBytes (before cs s) ≡ charBytes cs + streamBytes s
-unfolding streamBytes charBytes before
-bytes-before [] s = omega arith
-bytes-before (char bytes value ∷ cs) s = let h = bytes-before cs s in omega arith
-
-lineBytes : List (List ℕ) → ℕ
-lineBytes [] = 0
-lineBytes (line ∷ rest) = length line + lineBytes rest
-
-bytes-onto : (b : ℕ) (ls : List (List ℕ)) → lineBytes (onto b ls) ≡ suc (lineBytes ls)
-unfolding lineBytes onto
-bytes-onto b [] = omega arith
-bytes-onto b (line ∷ rest) = omega arith
-
-bytes-lines : (text : List ℕ) → lineBytes (lines text) ≡ length text
-unfolding lineBytes lines
-bytes-lines [] = refl
-bytes-lines (b ∷ bs) =
-    let h = bytes-lines bs in
-    either (λ ls. lineBytes ls ≡ suc (length bs)) (eqb b 0x0A) {x = (b ∷ []) ∷ lines bs} {y = onto b (lines bs)} (omega arith) (bytes-onto b (lines bs) ∙ ap suc h)
-
-few-bytes : (ls : List (List ℕ)) → streamBytes (characters ls) ≤ lineBytes ls
-unfolding streamBytes lineBytes characters
-few-bytes [] = omega arith
-few-bytes (line ∷ rest) = go (decoded line) (few-bytes rest) (within-decoded line)
-  where
-    go : (o : Option (List Char)) → streamBytes (characters rest) ≤ lineBytes rest → Within (length line) o
-        → streamBytes (elim o [ none ↦ bad | some cs ↦ before cs (characters rest) ]) ≤ length line + lineBytes rest
-    go none r f = omega arith
-    go (some cs) r (within-some h) = let e = bytes-before cs (characters rest) in omega arith
 
 -- Where the reader stands: an atom's bytes so far are to be paid for.
 begun : Place → ℕ
@@ -166,6 +74,5 @@ pub light-tokens : (text : List ℕ) → weight (tokens text) ≤ suc (length te
 unfolding tokens begun
 light-tokens text =
     let t = light-tokensFrom between (characters (lines text)) in
-    let c = few-bytes (lines text) in
-    let b = bytes-lines text in
+    let c = characters-few text in
     omega arith

@@ -9,6 +9,7 @@ use Rattle.horn.specs.Rulebook.{Output, sort, judgment, Symbol, symbol, Variabl
 use Rattle.horn.specs.Rulebook.{Rule, rule, Theory, isConstructor, isPredicate, isRule}
 use Rattle.words.specs.Parts.{part}
 use Rattle.names.specs.Tables as tables
+use Rattle.patterns.specs.Places as places
 use Rattle.names.specs.Tables.{Entry, entry, Table, Stands}
 
 -- The four tables of names.
@@ -39,12 +40,12 @@ pub data SortsAt (heap : List ℕ) (es : Entries) : ℕ → List Name → Type 0
 
 -- The entry of a symbol: its name, its output, the number of its inputs and the inputs, all below `top`.
 pub record SymbolWords (heap : List ℕ) (es : Entries) (top a : ℕ) (name : Name) (ins : List Name) (out : Output) : Type 0 where
-  pub low : 1024 ≤ a
-  pub high : a + 5 + length ins ≤ top
+  pub low : places.entries ≤ a
+  pub high : a + places.inputs + length ins ≤ top
   pub called : List·Memᴰ (entry a name) (tableOf es out)
-  pub gives : OutputAt es (getD heap (a + 3) 0) out
-  pub arity : getD heap (a + 4) 0 ≡ length ins
-  pub takes : SortsAt heap es (a + 5) ins
+  pub gives : OutputAt es (getD heap (a + places.output) 0) out
+  pub arity : getD heap (a + places.arity) 0 ≡ length ins
+  pub takes : SortsAt heap es (a + places.inputs) ins
 
 pub data SymbolAt (heap : List ℕ) (es : Entries) (top a : ℕ) : Symbol → Type 0 where
   symbol-at : {name : Name} {ins : List Name} {out : Output} → SymbolWords heap es top a name ins out → SymbolAt heap es top a (symbol name ins out)
@@ -57,7 +58,7 @@ pub data Nth : List Variable → ℕ → Name → Type 0 where
 -- The words from one place up to another are a pattern in preorder: words between `low` and `top`, for symbols below `bound`.
 mutual
   pub data Flat (heap : List ℕ) (es : Entries) (bound low top : ℕ) (vs : List Variable) : ℕ → Pattern → ℕ → Type 0 where
-    flat-variable : {o o′ v : ℕ} {name : Name} → low ≤ o → o < top → getD heap o 0 ≡ 16384 + v → Nth vs v name → o′ ≡ o + 1
+    flat-variable : {o o′ v : ℕ} {name : Name} → low ≤ o → o < top → getD heap o 0 ≡ places.variable + v → Nth vs v name → o′ ≡ o + 1
         → Flat heap es bound low top vs o (var name) o′
     flat-symbol : {o o′ : ℕ} {c : Symbol} {ps : Patterns} → low ≤ o → o < top → SymbolAt heap es bound (getD heap o 0) c
         → Flats heap es bound low top vs (o + 1) ps o′
@@ -85,17 +86,19 @@ pub data VariablesAt (text area : List ℕ) (es : Entries) : ℕ → List Variab
 
 -- The entry of a rule.
 pub record RuleWords (text heap : List ℕ) (es : Entries) (top e : ℕ) (name : Name) (vs : List Variable) (premises : List Pattern) (conclusion : Pattern) : Type 0 where
-  pub low : 1024 ≤ e
+  pub low : places.entries ≤ e
   pub called : List·Memᴰ (entry e name) (es .rules)
-  pub premise-count : getD heap (e + 3) 0 ≡ length premises
-  pub variable-count : getD heap (e + 4) 0 ≡ length vs
-  pub premises-end : ℕ
-  pub conclusion-end : ℕ
-  pub at-premises : FlatList heap es top (e + 5) top vs (e + 5) premises premises-end
-  pub at-conclusion : Flat heap es top (e + 5) top vs premises-end conclusion conclusion-end
-  pub at-variables : VariablesAt text heap es conclusion-end vs
-  pub rising : e + 5 ≤ conclusion-end
-  pub high : conclusion-end + 3 * length vs ≤ top
+  pub premise-count : getD heap (e + places.premise-count) 0 ≡ length premises
+  pub variable-count : getD heap (e + places.variable-count) 0 ≡ length vs
+  pub conclusion-place : ℕ
+  pub variables-place : ℕ
+  pub to-conclusion : getD heap (e + places.conclusion) 0 ≡ conclusion-place
+  pub to-variables : getD heap (e + places.variables) 0 ≡ variables-place
+  pub at-premises : FlatList heap es top (e + places.patterns) top vs (e + places.patterns) premises conclusion-place
+  pub at-conclusion : Flat heap es top (e + places.patterns) top vs conclusion-place conclusion variables-place
+  pub at-variables : VariablesAt text heap es variables-place vs
+  pub rising : e + places.patterns ≤ variables-place
+  pub high : variables-place + 3 * length vs ≤ top
 
 pub data RuleAt (text heap : List ℕ) (es : Entries) (top e : ℕ) : Rule → Type 0 where
   rule-at : {name : Name} {vs : List Variable} {premises : List Pattern} {conclusion : Pattern}
@@ -104,14 +107,14 @@ pub data RuleAt (text heap : List ℕ) (es : Entries) (top e : ℕ) : Rule → T
 
 -- One kind of declared things: a table of their names below `top`, and what each address means.
 pub record Declares (text heap : List ℕ) (top buckets : ℕ) (entries : List Entry) {A : Type 0} (test : Name → A → Bool) (Means : ℕ → A → Type 0) (things : List A) : Type 0 where
-  pub table : Table heap buckets 256 1024 text entries
-  pub below : tables.top 1024 entries ≤ top
+  pub table : Table heap buckets places.buckets places.entries text entries
+  pub below : tables.top places.entries entries ≤ top
   pub stands : Stands test Means entries things
 
 -- The words of the theory's area below `top` hold the theory.
 pub record Holds (text heap : List ℕ) (es : Entries) (top : ℕ) (th : Theory) : Type 0 where
   pub long : length heap ≡ 16384
-  pub sorts : Declares text heap top 0 (es .sorts) named (SortAt es) (th .sorts)
-  pub constructors : Declares text heap top 256 (es .constructors) isConstructor (SymbolAt heap es top) (th .symbols)
-  pub predicates : Declares text heap top 512 (es .predicates) isPredicate (SymbolAt heap es top) (th .symbols)
-  pub rules : Declares text heap top 768 (es .rules) isRule (RuleAt text heap es top) (th .rules)
+  pub sorts : Declares text heap top places.sorts (es .sorts) named (SortAt es) (th .sorts)
+  pub constructors : Declares text heap top places.constructors (es .constructors) isConstructor (SymbolAt heap es top) (th .symbols)
+  pub predicates : Declares text heap top places.predicates (es .predicates) isPredicate (SymbolAt heap es top) (th .symbols)
+  pub rules : Declares text heap top places.rules (es .rules) isRule (RuleAt text heap es top) (th .rules)

@@ -4,6 +4,7 @@ ghost use Prim.Native.Nat.{_*_, _%_, _^_};
 ghost use lib.Bits.{bitXor};
 ghost use lib.ListN.{getD, set};
 ghost use Rattle.words.specs.Parts.{part, sameBytes, cleared};
+ghost use Rattle.words.specs.Sums.{sum32};
 ghost use Rattle.words.specs.Hash.{rotated, hashed, hash};
 
 // The word at a place.
@@ -106,6 +107,13 @@ pub fn clear(s: &mut [u32], n: usize)
         s[i] = 0;
         i += 1;
     }
+}
+
+// A sum in 32 bits. Those that a text asks for never wrap.
+pub fn plus(a: u32, b: u32) -> u32
+    ensures { λ r. ⌜ r ≡ sum32 a b ⌝ }
+{
+    ((a as u64 + b as u64) % 4294967296) as u32
 }
 
 // The low 64 bits of a product, from the products of its halves.

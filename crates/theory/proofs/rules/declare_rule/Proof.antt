@@ -32,8 +32,8 @@ enum-known-b c = search needs
 enum-told-2 : tie.Need-enum-told-2
 enum-told-2 c = search needs
 
-numbered-refusal-requires : tie.Need-numbered-refusal-requires
-numbered-refusal-requires c κs = search needs
+body-refusal-requires : tie.Need-body-refusal-requires
+body-refusal-requires c κs = search needs
 
 same-length : tie.Need-same-length
 same-length c = search needs
@@ -43,7 +43,7 @@ same-length-2 c = search needs
 
 returns-2 : tie.Need-returns-2
 unfolding ruleDeclared
-returns-2 c = rw (c .numbered-refusal .ensures, ← c .before .before .before .before .before .before .before .before .before .before .before .before .before .before .keep-name .ensures, c .before .before .before .before .before .before .before .before .before .before .before .before .k .given .1, ← c .before .before .before .before .before .before .before .before .begin .ensures, ← c .before .before .before .before .before .before .before .read-body .ensures, c .before .enum-told2 .given .1)
+returns-2 c = rw (c .body-refusal .ensures, ← c .before .before .before .before .before .before .before .before .before .before .before .before .before .before .keep-name .ensures, c .before .before .before .before .before .before .before .before .before .before .before .before .k .given .1, ← c .before .before .before .before .before .before .before .before .begin .ensures, ← c .before .before .before .before .before .before .before .read-body .ensures, c .before .enum-told2 .given .1)
 
 enum-known-name : tie.Need-enum-known-name
 enum-known-name c = search needs
@@ -100,7 +100,7 @@ declare-rule-spec =
     read-body-requires
     enum-known-b
     enum-told-2
-    numbered-refusal-requires
+    body-refusal-requires
     same-length
     same-length-2
     returns-2

@@ -23,8 +23,8 @@ returns : tie.Need-returns
 unfolding ruleEntered
 returns c = rw (c .walked-refusal .ensures, ← c .before .before .before .before .before .enter .ensures, c .before .enum-told .given .1)
 
-describe-requires : tie.Need-describe-requires
-describe-requires c κs = search needs
+describe-rule-requires : tie.Need-describe-rule-requires
+describe-rule-requires c κs = search needs
 
 store-variables-requires : tie.Need-store-variables-requires
 store-variables-requires c κs = search needs
@@ -37,7 +37,7 @@ same-length-2 c = search needs
 
 returns-2 : tie.Need-returns-2
 unfolding ruleEntered
-returns-2 c = rw (← c .before .before .before .before .before .before .before .before .before .before .before .before .before .before .enter .ensures, c .before .before .before .before .before .before .before .before .before .before .m .given .1, ← c .before .before .before .before .before .before .before .describe .ensures, ← c .before .before .before .store-variables .ensures, ← c .close .ensures)
+returns-2 c = rw (← c .before .before .before .before .before .before .before .before .before .before .before .before .before .before .enter .ensures, c .before .before .before .before .before .before .before .before .before .before .m .given .1, ← c .before .before .before .before .before .before .before .describe-rule .ensures, ← c .before .before .before .store-variables .ensures, ← c .close .ensures)
 
 pub enter-rule-spec : {M : Type 1} → statement M
 enter-rule-spec =
@@ -49,7 +49,7 @@ enter-rule-spec =
     walked-refusal-requires
     same-length
     returns
-    describe-requires
+    describe-rule-requires
     store-variables-requires
     close-requires
     same-length-2

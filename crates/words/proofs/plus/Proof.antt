@@ -1,8 +1,8 @@
--- `patterns::plus` meets its contract. Assumes nothing.
+-- `words::plus` meets its contract. Assumes nothing.
 use borrow.Author.Needs.{needs}
-use Rattle.patterns.specs.Items.{sum32}
-use Rattle.patterns.proofs.plus.Statement.{statement}
-use Rattle.patterns.proofs.plus.Tie as tie
+use Rattle.words.specs.Sums.{sum32}
+use Rattle.words.proofs.plus.Statement.{statement}
+use Rattle.words.proofs.plus.Tie as tie
 
 add-result : tie.Need-add-result
 add-result c = search needs

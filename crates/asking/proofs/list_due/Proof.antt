@@ -1,0 +1,41 @@
+-- `asking::list_due` meets its contract. Assumes nothing.
+use Rattle.asking.specs.Asking.{listDue}
+use borrow.Author.Needs.{needs}
+use Rattle.asking.proofs.list_due.Statement.{statement}
+use Rattle.asking.proofs.list_due.Tie as tie
+
+item-due-requires : tie.Need-item-due-requires
+item-due-requires c κs = search needs
+
+enum-known-answer : tie.Need-enum-known-answer
+enum-known-answer c = search needs
+
+enum-told : tie.Need-enum-told
+enum-told c = search needs
+
+enum-known-answer-2 : tie.Need-enum-known-answer-2
+enum-known-answer-2 c = search needs
+
+returns : tie.Need-returns
+unfolding listDue
+returns c = rw (← c .before .before .before .item-due .ensures, c .before .answer .given .1)
+
+returns-2 : tie.Need-returns-2
+unfolding listDue
+returns-2 c = rw (← c .before .before .item-due .ensures, c .enum-told .given .1)
+
+returns-3 : tie.Need-returns-3
+unfolding listDue
+returns-3 c = rw (← c .before .before .before .item-due .ensures, c .before .answer2 .given .1)
+
+pub list-due-spec : {M : Type 1} → statement M
+list-due-spec =
+    tie.close
+    (tie.spec
+    item-due-requires
+    enum-known-answer
+    enum-told
+    enum-known-answer-2
+    returns
+    returns-2
+    returns-3)

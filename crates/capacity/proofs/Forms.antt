@@ -1,0 +1,344 @@
+-- What one form takes: 11 bytes for a goal, 10 for an abbreviation, 12 for a step, at the least. So the budgets are kept. Assumes nothing.
+use Prim.Native.Nat.{ℕ, suc, _+_, _*_, _≤_}
+use mathlib.Core.Path.{_≡_, refl, ap, sym, _∙_}
+use mathlib.Core.Bool.{Bool, true, false, not, _&&_, true≢false}
+use mathlib.Core.List.{List, [], _∷_, _++_}
+use mathlib.Core.Option.{none}
+use native.Mathlib.Omega.{arith}
+use borrow.Author.Tests.{eqb-true}
+use lib.ListN.{length, length-append}
+use Rattle.horn.specs.Refusals.{ok}
+use Rattle.horn.specs.Refusals
+use Rattle.horn.specs.Setting.{Setting}
+use Rattle.horn.specs.Names.{Name, named, sameList, codes, questioned, bare}
+use Rattle.horn.specs.NestedLists.{Item, word, group, Items, closed, ended, badLine, _then_}
+use Rattle.horn.specs.Rulebook.{Theory, Rule}
+use Rattle.horn.specs.StoredTerms.{Term, Terms, Store}
+use Rattle.horn.specs.Matching.{step}
+use Rattle.horn.specs.Checker as checker
+use Rattle.horn.specs.Checker.{Def, def, Goal, goal}
+use Rattle.horn.specs.Certificate as certificate
+use Rattle.horn.specs.Certificate.{Progress, Given, given, Keyword, stepWord, resultWord, defWord, otherWord}
+use Rattle.horn.proofs.Equality.{case, both, not-true, named-decides}
+use Rattle.horn.proofs.Inversion.{not-ok, ok-equal, afterᵣ, after, given-is, afterₗ, afterNeed, afterFound}
+use Rattle.horn.proofs.SoundnessReading.{absent-not, lift-absent, lift-refused}
+use Rattle.capacity.specs.Costs.{wide, isWord, wordFirst, itemCost, itemsCost, gap, atomBytes, itemBytes, itemsBytes}
+use Rattle.capacity.specs.Budgets.{GoalBudget, Budget}
+use Rattle.capacity.proofs.Characters.{wide-some}
+
+-- What was asked for stands first.
+pub asked {ℓ} : {C : Type ℓ} (depth : ℕ) (is : Items) {p : Item × Items} → checker.ask depth is ≡ ok p → (is ≡ (p .0) then (p .1) → C) → C
+unfolding checker.ask
+asked depth closed e k = absent-not depth _ e
+asked depth ended e k = absent-not depth _ e
+asked depth badLine e k = absent-not depth _ e
+asked depth (item then rest) {p} e k =
+    afterᵣ _ e λ u e₁ e₂. let q = ok-equal e₂ in k (ap (λ (z : Item × Items). (z .0) then (z .1)) q)
+
+pub word-due {ℓ} : {C : Type ℓ} (item : Item) {name : Name} → checker.wordDue item ≡ ok name → (item ≡ word name → C) → C
+unfolding checker.wordDue
+word-due (word n) e k = k (ap word (ok-equal e))
+word-due (group inner) e k = not-ok e
+
+pub group-due {ℓ} : {C : Type ℓ} (item : Item) {inner : Items} → checker.groupDue item ≡ ok inner → (item ≡ group inner → C) → C
+unfolding checker.groupDue
+group-due (word n) e k = not-ok e
+group-due (group inner) e k = k (ap group (ok-equal e))
+
+pub asked-word {ℓ} : {C : Type ℓ} (depth : ℕ) (is : Items) {p : Name × Items} → checker.askWord depth is ≡ ok p → (is ≡ word (p .0) then (p .1) → C) → C
+unfolding checker.askWord
+asked-word depth is e k =
+    afterᵣ _ e λ q e₁ e₂. afterᵣ _ e₂ λ name e₃ e₄. word-due (q .0) e₃ λ w. asked depth is e₁ λ z.
+    let o = ok-equal e₄ in
+    k (z ∙ rw w (ap (λ (x : Name × Items). word (x .0) then (x .1)) o))
+
+pub asked-group {ℓ} : {C : Type ℓ} (depth : ℕ) (is : Items) {p : Items × Items} → checker.askGroup depth is ≡ ok p → (is ≡ group (p .0) then (p .1) → C) → C
+unfolding checker.askGroup
+asked-group depth is e k =
+    afterᵣ _ e λ q e₁ e₂. afterᵣ _ e₂ λ inner e₃ e₄. group-due (q .0) e₃ λ w. asked depth is e₁ λ z.
+    let o = ok-equal e₄ in
+    k (z ∙ rw w (ap (λ (x : Items × Items). group (x .0) then (x .1)) o))
+
+pub asked-number {ℓ} : {C : Type ℓ} (depth : ℕ) (is : Items) {p : ℕ × Items} → checker.askNumber depth is ≡ ok p
+    → ((name : Name) → is ≡ word name then (p .1) → C)
+    → C
+unfolding checker.askNumber checker.numberDue
+asked-number depth is e k =
+    afterᵣ _ e λ q e₁ e₂. afterᵣ _ e₂ λ n e₃ e₄. afterᵣ _ e₃ λ name e₅ e₆. word-due (q .0) e₅ λ w. asked depth is e₁ λ z.
+    let o = ok-equal e₄ in
+    k name (z ∙ rw w (ap (λ (x : ℕ × Items). word name then (x .1)) o))
+
+pub closing-due {ℓ} : {C : Type ℓ} (is : Items) {u : Unit {0}} → checker.closingDue is ≡ ok u → (is ≡ closed → C) → C
+unfolding checker.closingDue
+closing-due closed e k = k refl
+closing-due ended e k = not-ok e
+closing-due badLine e k = not-ok e
+closing-due (item then rest) e k = not-ok e
+
+-- An item has a byte at least, a list that was read to its closing too.
+pub item-some : (item : Item) (b : Bool) → 1 ≤ itemBytes item b
+unfolding itemCost atomBytes
+item-some (word bs) b = omega (arith, wide-some bs)
+item-some (group inner) b = omega arith
+
+pub more-some : (item : Item) (rest : Items) → 1 ≤ itemsBytes (item then rest)
+unfolding itemsCost
+more-some item rest = let h = item-some item (wordFirst rest) in omega arith
+
+module _ (limits : Setting) (th : Theory) where
+  pub arguments-some : (defs : List Def) (depth : ℕ) (is : Items) (s : Store) {s′ : Store} {ts : Terms} → checker.arguments limits th defs depth is s ≡ ok (ts, s′)
+      → 1 ≤ itemsBytes is
+  unfolding checker.arguments itemsCost
+  arguments-some defs depth closed s e = omega arith
+  arguments-some defs depth badLine s e = lift-refused _ _ e
+  arguments-some defs depth ended s e = lift-absent _ _ _ e
+  arguments-some defs depth (item then rest) s e = more-some item rest
+
+  pub references-some : (is : Items) {ns : List ℕ} → certificate.references is ≡ ok ns → 1 ≤ itemsBytes is
+  unfolding certificate.references itemsCost
+  references-some closed e = omega arith
+  references-some badLine e = not-ok e
+  references-some ended e = absent-not _ _ e
+  references-some (item then rest) e = more-some item rest
+
+  pub items-some : (defs : List Def) (r : Rule) (is : Items) (g : Given) (s : Store) {s′ : Store} {g′ : Given} → certificate.stepItems limits th defs r is g s ≡ ok (g′, s′)
+      → 1 ≤ itemsBytes is
+  unfolding certificate.stepItems itemsCost
+  items-some defs r closed g s e = omega arith
+  items-some defs r badLine g s e = lift-refused _ _ e
+  items-some defs r ended g s e = lift-absent _ _ _ e
+  items-some defs r (item then rest) g s e = more-some item rest
+
+  -- A term has two bytes at least where an atom stands before it, with the byte that parts them.
+  pub term-two : (defs : List Def) (depth : ℕ) (item : Item) (b : Bool) (s : Store) {s′ : Store} {t : Term} → checker.term limits th defs depth item s ≡ ok (t, s′)
+      → 2 ≤ gap (isWord item) + itemBytes item b
+  unfolding checker.term checker.compound itemCost isWord gap
+  term-two defs depth (word name) b s e = let h = item-some (word name) b in omega arith
+  term-two defs depth (group closed) b s e = lift-absent _ _ _ e
+  term-two defs depth (group ended) b s e = lift-absent _ _ _ e
+  term-two defs depth (group badLine) b s e = lift-absent _ _ _ e
+  term-two defs depth (group (item then rest)) b s e = let h = more-some item rest in omega arith
+
+  pub asked-term {ℓ} : {C : Type ℓ} (defs : List Def) (depth : ℕ) (is : Items) (s : Store) {s′ : Store} {q : Term × Items} → checker.askTerm limits th defs depth is s ≡ ok (q, s′)
+      → ((item : Item) → is ≡ item then (q .1) → ((b : Bool) → 2 ≤ gap (isWord item) + itemBytes item b) → C)
+      → C
+  unfolding checker.askTerm
+  asked-term defs depth is s e k =
+      afterₗ _ _ _ e λ p e₁ e₂. after _ e₂ λ t s₁ e₃ e₄. given-is e₄ λ same u. asked depth is e₁ λ z.
+      k (p .0) (z ∙ ap (λ (x : Term × Items). (p .0) then (x .1)) same) (λ b. term-two defs depth (p .0) b s e₃)
+
+  -- A judgment has three: brackets and a head.
+  pub asked-judgment {ℓ} : {C : Type ℓ} (defs : List Def) (depth : ℕ) (is : Items) (s : Store) {s′ : Store} {q : Term × Items} → checker.askJudgment limits th defs depth is s ≡ ok (q, s′)
+      → ((inner : Items) → is ≡ group inner then (q .1) → 2 ≤ itemsBytes inner → C)
+      → C
+  unfolding checker.askJudgment checker.headedJudgment itemsCost
+  asked-judgment defs depth is s e k =
+      afterₗ _ _ _ e λ p e₁ e₂. afterₗ _ _ _ e₂ λ h e₃ e₄. after _ e₄ λ j s₁ e₅ e₆. given-is e₆ λ same u.
+      afterₗ _ _ _ e₅ λ c e₇ e₈. after _ e₈ λ ts s₂ e₉ f.
+      asked-group depth is e₁ λ z. asked-word (suc depth) (p .0) e₃ λ w.
+      let a = arguments-some defs (suc depth) (h .1) s e₉ in
+      let b = item-some (word (h .0)) (wordFirst (h .1)) in
+      k (p .0) (z ∙ ap (λ (x : Term × Items). group (p .0) then (x .1)) same) (rw w (omega arith))
+
+-- The bytes of names.
+pub wide-name : (name : Name) (n : ℕ) (key : Name) → named name key ≡ true → wide key ≡ n → wide name ≡ n
+wide-name name n key h z = ap wide (named-decides .equal name key h) ∙ z
+
+pub wide-goal : wide (codes "goal") ≡ 4
+unfolding wide codes
+wide-goal = refl
+
+pub wide-def : wide (codes "def") ≡ 3
+unfolding wide codes
+wide-def = refl
+
+pub wide-step : wide (codes "step") ≡ 4
+unfolding wide codes
+wide-step = refl
+
+pub wide-variable : (name : Name) → (questioned name && not (bare name)) ≡ true → 2 ≤ wide name
+unfolding wide questioned bare codes named sameList
+wide-variable [] h = absurd (true≢false (sym h))
+wide-variable (b ∷ []) h =
+    let (p, q) = both (questioned (b ∷ [])) (not (bare (b ∷ []))) h in
+    let k : b ≡ 0x3F = eqb-true b 0x3F p in
+    let z : bare (b ∷ []) ≡ true = rw k refl in
+    absurd (true≢false (sym z ∙ not-true (bare (b ∷ [])) q))
+wide-variable (b ∷ c ∷ bs) h = omega arith
+
+-- Which head a form has.
+by-keyword {ℓ} : {C : Type ℓ} (name : Name) (k : Keyword) → certificate.keyword name ≡ k
+    → (k ≡ stepWord → wide name ≡ 4 → C)
+    → (k ≡ resultWord → C)
+    → (k ≡ defWord → wide name ≡ 3 → C)
+    → (k ≡ otherWord → C)
+    → C
+unfolding certificate.keyword
+by-keyword name k e a b c d =
+    case (named name (codes "step"))
+    (λ p. a (sym (sym (rw (p, certificate.keyword)) ∙ e)) (wide-name name 4 (codes "step") p wide-step))
+    (λ p. case (named name (codes "result"))
+    (λ q. b (sym (sym (rw (p, certificate.keyword, q)) ∙ e)))
+    (λ q. case (named name (codes "def"))
+    (λ r. c (sym (sym (rw (p, certificate.keyword, q, r)) ∙ e)) (wide-name name 3 (codes "def") r wide-def))
+    (λ r. d (sym (sym (rw (p, certificate.keyword, q, r)) ∙ e)))))
+
+other-keyword {ℓ} : {C : Type ℓ} (f : Keyword → Bool) {a b : Keyword} → a ≡ b → f a ≡ true → f b ≡ false → C
+other-keyword f e p q = absurd (true≢false (sym p ∙ ap f e ∙ q))
+
+isStep : Keyword → Bool
+isStep stepWord = true
+isStep resultWord = false
+isStep defWord = false
+isStep otherWord = false
+
+isDef : Keyword → Bool
+isDef stepWord = false
+isDef resultWord = false
+isDef defWord = true
+isDef otherWord = false
+
+pub is-step : (name : Name) → certificate.keyword name ≡ stepWord → wide name ≡ 4
+unfolding isStep
+is-step name e =
+    by-keyword name stepWord e (λ k w. w) (λ k. other-keyword isStep k refl refl) (λ k w. other-keyword isStep k refl refl) (λ k. other-keyword isStep k refl refl)
+
+pub is-def : (name : Name) → certificate.keyword name ≡ defWord → wide name ≡ 3
+unfolding isDef
+is-def name e =
+    by-keyword name defWord e (λ k w. other-keyword isDef k refl refl) (λ k. other-keyword isDef k refl refl) (λ k w. w) (λ k. other-keyword isDef k refl refl)
+
+-- The three forms by their shapes, for where the reading is followed item by item.
+pub goal-shape : (head name : Name) (inner : Items) (b : Bool) → wide head ≡ 4 → 2 ≤ itemsBytes inner
+    → 11 ≤ itemBytes (group (word head then word name then group inner then closed)) b
+unfolding itemCost itemsCost wordFirst isWord atomBytes gap
+goal-shape head name inner b h k = omega (arith, wide-some name)
+
+pub def-shape : (head name : Name) (item : Item) (b : Bool) → wide head ≡ 3 → 2 ≤ wide name → 2 ≤ gap (isWord item) + itemBytes item false
+    → 10 ≤ itemBytes (group (word head then word name then item then closed)) b
+unfolding itemCost itemsCost wordFirst isWord atomBytes gap
+def-shape head name item b h k l = omega arith
+
+pub step-shape : (head number name : Name) (refs left : Items) (b : Bool) → wide head ≡ 4 → 1 ≤ itemsBytes refs → 1 ≤ itemsBytes left
+    → 12 ≤ itemBytes (group (word head then word number then word name then group refs then left)) b
+unfolding itemCost itemsCost wordFirst isWord atomBytes gap
+step-shape head number name refs left b h k l = omega (arith, wide-some number, wide-some name)
+
+one-more : {A : Type 0} (xs : List A) (x : A) → length (xs ++ (x ∷ [])) ≡ length xs + 1
+one-more xs x = length-append xs (x ∷ [])
+
+module _ (limits : Setting) (th : Theory) where
+  -- "(goal N J)".
+  pub goal-takes : (goals : List Goal) (item : Item) (b : Bool) (s : Store) {s′ : Store} {more : List Goal} → checker.goalForm limits th goals item s ≡ ok (more, s′)
+      → (length more ≡ length goals + 1) × (11 ≤ itemBytes item b)
+  unfolding checker.goalForm itemCost itemsCost wordFirst isWord atomBytes gap
+  goal-takes goals item b s e =
+      afterₗ _ _ _ e λ inner e₁ e₂.
+      afterₗ _ _ _ e₂ λ p e₃ e₄.
+      afterNeed _ _ _ _ e₄ λ h e₅.
+      afterₗ _ _ _ e₅ λ p₁ e₆ e₇.
+      afterNeed _ _ _ _ e₇ λ h₁ e₈.
+      after _ e₈ λ p₂ s₁ e₉ f.
+      afterₗ _ _ _ f λ u f₁ f₂.
+      afterNeed _ _ _ _ f₂ λ new f₃.
+      given-is f₃ λ same q.
+      group-due item e₁ λ i₀. asked-word 1 inner e₃ λ i₁. asked-word 1 (p .1) e₆ λ i₂.
+      asked-judgment limits th [] 1 (p₁ .1) s e₉ λ j i₃ two. closing-due (p₂ .1) f₁ λ i₄.
+      let w = wide-name (p .0) 4 (codes "goal") h wide-goal in
+      let v = wide-some (p₁ .0) in
+      (ap length (sym same) ∙ one-more goals (goal (p₁ .0) (p₂ .0)), rw (i₀, i₁, i₂, i₃, i₄) (omega arith))
+
+  -- "(def ?a T)", behind its head.
+  pub def-takes : (now : Progress) (is : Items) (s : Store) {s′ : Store} {next : Progress} → certificate.defForm limits th now is s ≡ ok (next, s′)
+      → (length (next .defs) ≡ length (now .defs) + 1) × (length (next .steps) ≡ length (now .steps)) × (6 ≤ gap (wordFirst is) + itemsBytes is)
+  unfolding certificate.defForm itemCost itemsCost wordFirst isWord atomBytes gap
+  def-takes now is s e =
+      afterₗ _ _ _ e λ p e₁ e₂.
+      afterNeed _ _ _ _ e₂ λ h e₃.
+      after _ e₃ λ p₁ s₁ e₄ e₅.
+      afterNeed _ _ _ _ e₅ λ new e₆.
+      afterₗ _ _ _ e₆ λ u e₇ e₈.
+      given-is e₈ λ same q.
+      asked-word 1 is e₁ λ i₁. asked-term limits th (now .defs) 1 (p .1) s e₄ λ item i₂ two. closing-due (p₁ .1) e₇ λ i₃.
+      let w = wide-variable (p .0) h in
+      let t = two false in (
+        ap (λ (x : Progress). length (x .defs)) (sym same) ∙ one-more (now .defs) (def (p .0) (p₁ .0)),
+        ap (λ (x : Progress). length (x .steps)) (sym same),
+        rw (i₁, i₂, i₃) (omega arith),
+      )
+
+  -- "(step I R (I...) item...)", behind its head.
+  pub step-takes : (now : Progress) (is : Items) (s : Store) {s′ : Store} {next : Progress} → certificate.stepForm limits th now is s ≡ ok (next, s′)
+      → (length (next .defs) ≡ length (now .defs)) × (length (next .steps) ≡ length (now .steps) + 1) × (7 ≤ gap (wordFirst is) + itemsBytes is)
+  unfolding certificate.stepForm itemCost itemsCost wordFirst isWord atomBytes gap
+  step-takes now is s e =
+      afterₗ _ _ _ e λ p e₁ e₂.
+      afterNeed _ _ _ _ e₂ λ h e₃.
+      afterₗ _ _ _ e₃ λ p₁ e₄ e₅.
+      afterₗ _ _ _ e₅ λ r e₆ e₇.
+      afterₗ _ _ _ e₇ λ p₂ e₈ e₉.
+      afterₗ _ _ _ e₉ λ refs f f₁.
+      afterNeed _ _ _ _ f₁ λ n f₂.
+      after _ f₂ λ g s₁ f₃ f₄.
+      after _ f₄ λ j s₂ f₅ f₆.
+      given-is f₆ λ same q.
+      asked-number 1 is e₁ λ name i₁. asked-word 1 (p .1) e₄ λ i₂. asked-group 1 (p₁ .1) e₈ λ i₃.
+      let a = wide-some name in
+      let b = wide-some (p₁ .0) in
+      let c = references-some limits th (p₂ .0) f in
+      let d = items-some limits th (now .defs) r (p₂ .1) (given [] none) s f₃ in (
+        ap (λ (x : Progress). length (x .defs)) (sym same),
+        ap (λ (x : Progress). length (x .steps)) (sym same) ∙ one-more (now .steps) (step j r),
+        rw (i₁, i₂, i₃) (omega arith),
+      )
+
+  pub result-takes : (now : Progress) (is : Items) (s : Store) {s′ : Store} {next : Progress} → certificate.resultForm limits th now is s ≡ ok (next, s′)
+      → (length (next .defs) ≡ length (now .defs)) × (length (next .steps) ≡ length (now .steps))
+  unfolding certificate.resultForm
+  result-takes now is s e =
+      afterₗ _ _ _ e λ p e₁ e₂.
+      afterFound _ _ _ _ e₂ λ g f₁ e₃.
+      afterₗ _ _ _ e₃ λ n e₄ e₅.
+      afterFound _ _ _ _ e₅ λ st f₂ e₆.
+      afterNeed _ _ _ _ e₆ λ h e₇.
+      afterₗ _ _ _ e₇ λ u e₈ e₉.
+      given-is e₉ λ same q.
+      (ap (λ (x : Progress). length (x .defs)) (sym same), ap (λ (x : Progress). length (x .steps)) (sym same))
+
+  -- Any form of a certificate.
+  form-takes : (k : Keyword) (now : Progress) (name : Name) (is : Items) (s : Store) {s′ : Store} {next : Progress} → certificate.keyword name ≡ k
+      → certificate.headedForm limits th k now is s ≡ ok (next, s′)
+      → 10 * length (next .defs) + 12 * length (next .steps) ≤ 10 * length (now .defs) + 12 * length (now .steps) + (1 + (wide name + gap (wordFirst is) + itemsBytes is))
+  unfolding certificate.headedForm
+  form-takes stepWord now name is s k e =
+      let w = is-step name k in let (a, b, c) = step-takes now is s e in omega arith
+  form-takes defWord now name is s k e =
+      let w = is-def name k in let (a, b, c) = def-takes now is s e in omega arith
+  form-takes resultWord now name is s k e = let (a, b) = result-takes now is s e in omega arith
+  form-takes otherWord now name is s k e = lift-refused _ _ e
+
+  pub certificate-takes : (now : Progress) (item : Item) (b : Bool) (s : Store) {s′ : Store} {next : Progress} → certificate.certificateForm limits th now item s ≡ ok (next, s′)
+      → 10 * length (next .defs) + 12 * length (next .steps) ≤ 10 * length (now .defs) + 12 * length (now .steps) + itemBytes item b
+  unfolding certificate.certificateForm itemCost itemsCost atomBytes
+  certificate-takes now item b s e =
+      afterₗ _ _ _ e λ inner e₁ e₂.
+      afterₗ _ _ _ e₂ λ p e₃ e₄.
+      group-due item e₁ λ i₀. asked-word 1 inner e₃ λ i₁.
+      rw (i₀, i₁) (form-takes (certificate.keyword (p .0)) now (p .0) (p .1) s refl e₄)
+
+  -- So each form keeps the budget, whatever comes behind it.
+  pub goal-keeps : {limit : ℕ} (goals : List Goal) (item : Item) (rest : Items) (s : Store) {s′ : Store} {more : List Goal}
+      → checker.goalForm limits th goals item s ≡ ok (more, s′)
+      → GoalBudget limit goals (item then rest)
+      → GoalBudget limit more rest
+  unfolding itemsCost
+  goal-keeps goals item rest s e g =
+      let (a, b) = goal-takes goals item (wordFirst rest) s e in let h = g .bound in record { bound = omega arith }
+
+  pub certificate-keeps : {limit : ℕ} (now : Progress) (item : Item) (rest : Items) (s : Store) {s′ : Store} {next : Progress}
+      → certificate.certificateForm limits th now item s ≡ ok (next, s′)
+      → Budget limit now (item then rest)
+      → Budget limit next rest
+  unfolding itemsCost
+  certificate-keeps now item rest s e g =
+      let a = certificate-takes now item (wordFirst rest) s e in let h = g .bound in record { bound = omega arith }

@@ -1,0 +1,57 @@
+-- `matching::conclude` meets its contract. Assumes nothing.
+use borrow.Author.Tests.{eq-eqb, ne-eqb}
+use Rattle.matching.specs.Matching.{stepConcluded}
+use borrow.Author.Needs.{needs}
+use Rattle.matching.proofs.conclude.Statement.{statement}
+use Rattle.matching.proofs.conclude.Tie as tie
+
+conclude-built-requires : tie.Need-conclude-built-requires
+conclude-built-requires c κs = search needs
+
+same-length : tie.Need-same-length
+same-length c = search needs
+
+same-length-2 : tie.Need-same-length-2
+same-length-2 c = search needs
+
+same-length-3 : tie.Need-same-length-3
+same-length-3 c = search needs
+
+returns : tie.Need-returns
+unfolding stepConcluded
+returns c = rw (eq-eqb _ _ (c .before .before .before .before .before .before .before .before .before .before .if1 .taken)) (c .before .before .before .before .before .before .conclude-built .ensures)
+
+sub-conclude-stated : tie.Need-sub-conclude-stated
+sub-conclude-stated c = search needs
+
+conclude-stated-requires : tie.Need-conclude-stated-requires
+conclude-stated-requires c κs = search needs
+
+same-length-4 : tie.Need-same-length-4
+same-length-4 c = search needs
+
+same-length-5 : tie.Need-same-length-5
+same-length-5 c = search needs
+
+same-length-6 : tie.Need-same-length-6
+same-length-6 c = search needs
+
+returns-2 : tie.Need-returns-2
+unfolding stepConcluded
+returns-2 c = rw (ne-eqb _ _ (c .before .before .before .before .before .before .if1 .left), ← c .before .before .conclude-stated .ensures)
+
+pub conclude-spec : {M : Type 1} → statement M
+conclude-spec =
+    tie.close
+    (tie.spec
+    conclude-built-requires
+    same-length
+    same-length-2
+    same-length-3
+    returns
+    sub-conclude-stated
+    conclude-stated-requires
+    same-length-4
+    same-length-5
+    same-length-6
+    returns-2)

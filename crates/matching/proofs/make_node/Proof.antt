@@ -1,0 +1,57 @@
+-- `matching::make_node` meets its contract. Assumes nothing.
+use Rattle.matching.specs.Matching.{nodeMade}
+use borrow.Author.Needs.{needs}
+use Rattle.matching.proofs.make_node.Statement.{statement}
+use Rattle.matching.proofs.make_node.Tie as tie
+
+words-part-requires : tie.Need-words-part-requires
+words-part-requires c κs = search needs
+
+intern-requires : tie.Need-intern-requires
+intern-requires c κs = search needs
+
+enum-known-a : tie.Need-enum-known-a
+enum-known-a c = search needs
+
+enum-known-a-2 : tie.Need-enum-known-a-2
+enum-known-a-2 c = search needs
+
+enum-told : tie.Need-enum-told
+enum-told c = search needs
+
+same-length : tie.Need-same-length
+same-length c = search needs
+
+returns : tie.Need-returns
+unfolding nodeMade
+returns c = rw (← c .before .before .before .before .before .before .before .words-part .ensures, ← c .before .before .before .before .before .intern .ensures .0, ← c .before .before .before .before .before .intern .ensures .1 .0, c .before .a .given .1)
+
+same-length-2 : tie.Need-same-length-2
+same-length-2 c = search needs
+
+returns-2 : tie.Need-returns-2
+unfolding nodeMade
+returns-2 c = rw (← c .before .before .before .before .before .before .before .words-part .ensures, ← c .before .before .before .before .before .intern .ensures .0, ← c .before .before .before .before .before .intern .ensures .1 .0, c .before .a2 .given .1)
+
+same-length-3 : tie.Need-same-length-3
+same-length-3 c = search needs
+
+returns-3 : tie.Need-returns-3
+unfolding nodeMade
+returns-3 c = rw (← c .before .before .before .before .before .before .words-part .ensures, ← c .before .before .before .before .intern .ensures .0, ← c .before .before .before .before .intern .ensures .1 .0, c .enum-told .given .1)
+
+pub make-node-spec : {M : Type 1} → statement M
+make-node-spec =
+    tie.close
+    (tie.spec
+    words-part-requires
+    intern-requires
+    enum-known-a
+    enum-known-a-2
+    enum-told
+    same-length
+    returns
+    same-length-2
+    returns-2
+    same-length-3
+    returns-3)

@@ -1,0 +1,49 @@
+-- `matching::unbind` meets its contract. Assumes nothing.
+use mathlib.Core.Path.{_≡_, refl, sym, _∙_}
+use lib.ListN.{length}
+use Rattle.matching.specs.Matching.{unbound}
+use Rattle.matching.proofs.Turns.{unbound-on, unbound-end}
+use borrow.Author.Needs.{needs}
+use Rattle.matching.proofs.unbind.Statement.{statement}
+use Rattle.matching.proofs.unbind.Tie as tie
+
+abbrev Inv-loop : tie.InvT-loop
+Inv-loop heap₀ n v₀ heap v = (unbound n heap₀ ≡ unbound v heap) × (length heap ≡ length heap₀)
+
+abbrev μ-loop : tie.MeasureT-loop
+μ-loop heap₀ n v₀ heap v = v
+
+loop-holds : tie.Need-loop-holds Inv-loop μ-loop
+loop-holds c = (refl, search needs)
+
+sub-v : tie.Need-sub-v Inv-loop μ-loop
+sub-v c = search needs
+
+set-binding-requires : tie.Need-set-binding-requires Inv-loop μ-loop
+set-binding-requires c κs = search needs
+
+loop-less : tie.Need-loop-less Inv-loop μ-loop
+loop-less c = search needs
+
+loop-again : tie.Need-loop-again Inv-loop μ-loop
+loop-again c = (c .before .before .before .before .before .loop .inv .0 ∙ unbound-on _ _ (c .before .before .before .before .loop-test .taken) ∙ rw (← c .before .before .set-binding .ensures), search needs)
+
+same-length : tie.Need-same-length Inv-loop μ-loop
+same-length c = search needs
+
+returns : tie.Need-returns Inv-loop μ-loop
+returns c = sym (c .before .loop .inv .0 ∙ unbound-end _ _ (c .loop-test .left))
+
+pub unbind-spec : {M : Type 1} → statement M
+unbind-spec =
+    tie.close
+    (tie.spec
+    Inv-loop
+    μ-loop
+    loop-holds
+    sub-v
+    set-binding-requires
+    loop-less
+    loop-again
+    same-length
+    returns)

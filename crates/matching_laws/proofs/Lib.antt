@@ -1,0 +1,10 @@
+pub mod Relations
+pub mod Bindings
+pub mod References
+pub mod Matching
+pub mod Premises
+pub mod Building
+pub mod Formed
+pub mod Concluding
+pub mod Starting
+pub mod Whole

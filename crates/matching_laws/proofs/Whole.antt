@@ -1,0 +1,42 @@
+-- The matching of a step at 01's limits, where the table holds the goals, abbreviations and steps so far. Assumes nothing.
+use mathlib.Core.Path.{_≡_}
+use mathlib.Core.List.{List}
+use mathlib.Core.Option.{Option}
+use Prim.Native.Nat.{ℕ, _≤_}
+use native.Mathlib.Omega.{arith}
+use lib.ListN.{length}
+use Rattle.horn.specs.Setting.{document01}
+use Rattle.horn.specs.Rulebook.{Rule, Theory, premisesOf, variablesOf}
+use Rattle.horn.specs.StoredTerms.{Term}
+use Rattle.horn.specs.Checker.{Def, Goal}
+use Rattle.horn.specs.Matching.{Bind, Step, judgmentOf}
+use Rattle.horn.specs.Certificate.{given, conclude}
+use Rattle.arena.proofs.Settings.{limits-01}
+use Rattle.theory_laws.specs.Representation.{Entries, RuleAt, Holds}
+use Rattle.theory_laws.specs.Simulation.{Simulates}
+use Rattle.theory_laws.proofs.Frames.{Keeps}
+use Rattle.theory_reading.proofs.Stored.{Stored, Means}
+use Rattle.tables.specs.declared.Tally.{Tally}
+use Rattle.tables.specs.Representation.{Tables}
+use Rattle.matching.specs.Matching.{stepConcluded}
+use Rattle.matching_laws.proofs.Relations.{Bound, Binds, ReferencesAt}
+use Rattle.matching_laws.proofs.Formed.{RuleReady}
+use Rattle.matching_laws.proofs.Starting.{narrow-01, steps-at}
+use Rattle.matching_laws.proofs.Concluding.{ConcludedTo, step-concluded}
+
+-- `heap` is the theory's area as the rulebook left it, `now` the same with the bindings of the step.
+pub step-judged : {rules heap : List ℕ} {es : Entries} {top : ℕ} {th : Theory} → Holds rules heap es top th → top ≤ 11948
+    → {goalsText certificate table : List ℕ} {Recorded : ℕ → ℕ → ℕ → Step → Type 0} {tally : Tally} {goals openGoals : List Goal} {defs : List Def} {steps : List Step} {ts : List Term}
+    → Tables goalsText certificate table 128 (Means es th ts) Recorded tally goals openGoals defs steps
+    → ((j r p : ℕ) (s : Step) → Recorded j r p s → Means es th ts j (judgmentOf s))
+    → {store stack : List ℕ} → Stored es th document01 4096 store ts → length stack ≡ 16384
+    → {e : ℕ} {r : Rule} → RuleAt rules heap es top e r → RuleReady r
+    → {refs : List ℕ} → ReferencesAt stack 0 refs → length refs ≡ length (premisesOf r)
+    → {now : List ℕ} {binds : List Bind} → Keeps 12288 heap now → Binds es th ts (variablesOf r) now binds
+    → {word : ℕ} {stated : Option Term} → Bound es th ts word stated
+    → Simulates (ConcludedTo es th heap document01 4096 ts) (stepConcluded 2048 8192 4096 table (tally .steps) e word stack store now)
+    (conclude document01 th steps r refs (given binds stated) ts)
+unfolding document01
+step-judged h high t judged st long a ready at-refs count keep bs b =
+    rw (t .steps-is)
+    (step-concluded h (omega arith) document01 narrow-01 limits-01 st long (steps-at judged (t .small) (t .step-part)) at-refs keep a ready count bs b)

@@ -1,0 +1,73 @@
+-- What an entry with its value leaves of the area. Assumes nothing.
+use mathlib.Core.Path.{_≡_, refl, _∙_}
+use mathlib.Core.List.{List, [], _∷_, _++_}
+use mathlib.Core.Option.{none, some}
+use Prim.Native.Nat.{ℕ, zero, suc, _+_, _≤_, _<_}
+use native.Mathlib.Omega.{arith}
+use lib.ListN.{length, getD, set, getElem?, length-set, length-append}
+use lib.Seq.{getD-set-same, getD-set-other}
+use Rattle.names.specs.Chains.{added}
+use Rattle.names.proofs.Kept.{length-added, added-other}
+use Rattle.tables.specs.Words.{entered}
+
+-- The words of two areas are the same from one place up to another.
+pub record Same (table table′ : List ℕ) (low high : ℕ) : Type 0 where
+  pub words : (i : ℕ) → low ≤ i → i < high → getD table′ i 0 ≡ getD table i 0
+
+pub one-more : {A : Type 0} (xs : List A) (x : A) → length (xs ++ (x ∷ [])) ≡ length xs + 1
+one-more xs x = length-append xs (x ∷ [])
+
+module _ (table : List ℕ) (buckets count e : ℕ) (text : List ℕ) (s t value : ℕ) where
+  pub length-entered : length (entered buckets count e text s t value table) ≡ length table
+  unfolding entered
+  length-entered = length-set (added table buckets count e text s t) (e + 3) value ∙ length-added table buckets count e text s t
+
+  pub entered-other : 0 < count → (i : ℕ) → (buckets ≤ i → i < buckets + count → ⊥) → (e ≤ i → i < e + 4 → ⊥)
+      → getD (entered buckets count e text s t value table) i 0 ≡ getD table i 0
+  unfolding entered
+  entered-other p i n h =
+      getD-set-other (added table buckets count e text s t) (e + 3) i value 0 (λ q. h (omega arith) (omega arith))
+      ∙ added-other table buckets count e text s t p i n (λ q r. h q (omega arith))
+
+  pub entered-value : e + 4 ≤ length table → getD (entered buckets count e text s t value table) (e + 3) 0 ≡ value
+  unfolding entered
+  entered-value h =
+      getD-set-same (added table buckets count e text s t) (e + 3) value 0 (let k = length-added table buckets count e text s t in omega arith)
+
+  -- All words but those of the buckets and of the entry.
+  pub entered-same : 0 < count → (low high : ℕ) → buckets + count ≤ low → high ≤ e → Same table (entered buckets count e text s t value table) low high
+  entered-same p low high h k =
+      record { words = λ i l r. entered-other p i (λ x y. omega arith) (λ x y. omega arith) }
+
+  pub entered-above : 0 < count → (low high : ℕ) → buckets + count ≤ low → e + 4 ≤ low → Same table (entered buckets count e text s t value table) low high
+  entered-above p low high h k =
+      record { words = λ i l r. entered-other p i (λ x y. omega arith) (λ x y. omega arith) }
+
+  pub entered-below : 0 < count → (low high : ℕ) → high ≤ buckets → high ≤ e → Same table (entered buckets count e text s t value table) low high
+  entered-below p low high h k =
+      record { words = λ i l r. entered-other p i (λ x y. omega arith) (λ x y. omega arith) }
+
+-- One word written elsewhere.
+pub set-same : (table : List ℕ) (p v low high : ℕ) → (low ≤ p → p < high → ⊥) → Same table (set table p v) low high
+set-same table p v low high n =
+    record { words = λ i l r. getD-set-other table p i v 0 (λ q. n (omega arith) (omega arith)) }
+
+pub same-then : {one two three : List ℕ} {low high : ℕ} → Same one two low high → Same two three low high → Same one three low high
+same-then a b = record { words = λ i l r. b .words i l r ∙ a .words i l r }
+
+-- A list with one element more.
+pub last-is : {A : Type 0} (xs : List A) (x : A) (n : ℕ) → n ≡ length xs → getElem? (xs ++ (x ∷ [])) n ≡ some x
+last-is [] x zero h = refl
+last-is [] x (suc n) h = absurd (omega arith)
+last-is (y ∷ xs) x zero h = absurd (omega arith)
+last-is (y ∷ xs) x (suc n) h = last-is xs x n (omega arith)
+
+pub before-last : {A : Type 0} (xs : List A) (x : A) (n : ℕ) → n < length xs → getElem? (xs ++ (x ∷ [])) n ≡ getElem? xs n
+before-last [] x n h = absurd (omega arith)
+before-last (y ∷ xs) x zero h = refl
+before-last (y ∷ xs) x (suc n) h = before-last xs x n (omega arith)
+
+pub beyond : {A : Type 0} (xs : List A) (n : ℕ) → length xs ≤ n → getElem? xs n ≡ none
+beyond [] n h = refl
+beyond (x ∷ xs) zero h = absurd (omega arith)
+beyond (x ∷ xs) (suc n) h = beyond xs n (omega arith)

@@ -1,0 +1,291 @@
+-- Goals: what keeps them, and what adding, finding and closing one does. Assumes nothing.
+use mathlib.Core.Path.{_≡_, refl, ap, sym, _∙_}
+use mathlib.Core.Bool.{Bool, true, false, true≢false}
+use mathlib.Core.List.{List, [], _∷_, _++_, List·Memᴰ, List·Memᴰ·head, List·Memᴰ·tail}
+use mathlib.Core.Option.{Option, none, some}
+use Prim.Native.Nat.{ℕ, suc, _+_, _*_, _-_, _≤_, _<_}
+use native.Mathlib.Omega.{arith}
+use borrow.Author.Tests.{eqb-true, eqb-false}
+use lib.Dec.{eqb}
+use lib.ListN.{length, getD, set, length-set}
+use lib.Seq.{getD-set-same, getD-set-other}
+use Rattle.words.specs.Parts.{part}
+use Rattle.horn.specs.Names.{Name, named, first, some-of}
+use Rattle.horn.specs.StoredTerms.{Term}
+use Rattle.horn.specs.Checker.{Goal, goal, isGoal}
+use Rattle.horn.specs.Certificate.{without}
+use Rattle.horn.proofs.Equality.{case, named-decides, apart, differ, first-some}
+use Rattle.names.specs.Tables.{Entry, entry, top, Stands, other-kind, declared, Owns, bucket-word, entry-word, Agree, both-none, both-some, present}
+use Rattle.names.proofs.Kept.{kept-within, kept-put, kept-set, add-law}
+use Rattle.names.proofs.Declared.{stands-kept, find-agrees, find-present}
+use Rattle.tables.specs.Words.{entered, goalFound, openAt, goalOpen}
+use Rattle.tables.specs.Representation.{Sits, here, there, GoalsAt, no-goal, still-open, is-closed, Goals, OpenAt, OpenAgree, none-open as nothing-open, one-open}
+use Rattle.tables.proofs.Areas.{Same, one-more, length-entered, entered-value, entered-same}
+
+-- Addresses: bounds, and a list with one thing more.
+pub sits-bounds : {A : Type 0} {b e : ℕ} {things : List A} {a : A} → Sits b things e a → (b ≤ e) × (e + 4 ≤ b + 4 * length things)
+sits-bounds (here h) = (omega arith, omega arith)
+sits-bounds (there s) = let k = sits-bounds s in (omega arith, omega arith)
+
+pub sits-more : {A : Type 0} {b e : ℕ} {things : List A} {a : A} (more : List A) → Sits b things e a → Sits b (things ++ more) e a
+sits-more more (here h) = here h
+sits-more more (there s) = there (sits-more more s)
+
+pub sits-last : {A : Type 0} (b e : ℕ) (things : List A) (a : A) → e ≡ b + 4 * length things → Sits b (things ++ (a ∷ [])) e a
+sits-last b e [] a h = here {b = b} {e = e} (omega arith)
+sits-last b e (c ∷ things) a h = there (sits-last (b + 4) e things a (omega arith))
+
+at-same : (table : List ℕ) (i k : ℕ) → i ≡ k → getD table i 0 ≡ getD table k 0
+at-same table i k h = rw h
+
+-- Names that differ, either way round.
+other-name : (a b : Name) → named a b ≡ false → named b a ≡ false
+other-name a b h = apart named-decides b a (λ e. differ named-decides a b h (sym e))
+
+-- A test that some thing of a list passes.
+pub none-of-more : {A : Type 0} (test : A → Bool) (xs : List A) (a : A) → some-of test xs ≡ false → test a ≡ false → some-of test (xs ++ (a ∷ [])) ≡ false
+unfolding some-of
+none-of-more test [] a h k = rw (k, some-of)
+none-of-more test (x ∷ xs) a h k =
+    case (test x)
+    (λ p. absurd (true≢false (sym (rw (p, some-of)) ∙ h)))
+    (λ p. rw (p, some-of) (none-of-more test xs a (rw (p, some-of) at h) k))
+
+none-of-head : {A : Type 0} (test : A → Bool) (x : A) (xs : List A) → some-of test (x ∷ xs) ≡ false → (test x ≡ false) × (some-of test xs ≡ false)
+unfolding some-of
+none-of-head test x xs h =
+    case (test x)
+    (λ p. absurd (true≢false (sym (rw (p, some-of)) ∙ h)))
+    (λ p. (p, rw (p, some-of) at h))
+
+none-of-sitting : {A : Type 0} (test : A → Bool) {b e : ℕ} {things : List A} {a : A} → Sits b things e a → some-of test things ≡ false → test a ≡ false
+none-of-sitting test {a} (here {things} h) n = none-of-head test a things n .0
+none-of-sitting test (there {c} {things} s) n = none-of-sitting test s (none-of-head test c things n .1)
+
+module _ {Means : ℕ → Term → Type 0} where
+  -- What keeps the values of goals.
+  pub values-kept : {table table′ : List ℕ} {b : ℕ} {goals openGoals : List Goal} → GoalsAt table Means b goals openGoals
+      → ((i : ℕ) → b ≤ i → i < b + 4 * length goals → getD table′ i 0 ≡ getD table i 0)
+      → GoalsAt table′ Means b goals openGoals
+  values-kept no-goal k = no-goal
+  values-kept (still-open {b} v m n g) k =
+      still-open (k (b + 3) (omega arith) (omega arith) ∙ v) m n (values-kept g (λ i l h. k i (omega arith) (omega arith)))
+  values-kept (is-closed {b} v n g) k =
+      is-closed (k (b + 3) (omega arith) (omega arith) ∙ v) n (values-kept g (λ i l h. k i (omega arith) (omega arith)))
+
+  -- One goal more, whose name is new.
+  pub values-add : {table : List ℕ} {b : ℕ} {goals openGoals : List Goal} (w : ℕ) (name : Name) (j : Term) → GoalsAt table Means b goals openGoals
+      → getD table (b + 4 * length goals + 3) 0 ≡ w + 1
+      → Means w j
+      → some-of (isGoal name) goals ≡ false
+      → GoalsAt table Means b (goals ++ (goal name j ∷ [])) (openGoals ++ (goal name j ∷ []))
+  unfolding isGoal some-of
+  values-add {table} w name j (no-goal {b}) v m n = still-open {b = b} {w = w} (at-same table (b + 3) (b + 4 * 0 + 3) (omega arith) ∙ v) m refl no-goal
+  values-add {table} w name j (still-open {b} {name = other} {j = i} {goals} u k f g) v m n =
+      let (x, y) = none-of-head (isGoal name) (goal other i) goals n in
+      still-open u k (none-of-more (isGoal other) goals (goal name j) f (other-name name other x))
+      (values-add w name j g (at-same table (b + 4 + 4 * length goals + 3) (b + 4 * suc (length goals) + 3) (omega arith) ∙ v) m y)
+  values-add {table} w name j (is-closed {b} {name = other} {j = i} {goals} u f g) v m n =
+      let (x, y) = none-of-head (isGoal name) (goal other i) goals n in
+      is-closed u (none-of-more (isGoal other) goals (goal name j) f (other-name name other x))
+      (values-add w name j g (at-same table (b + 4 + 4 * length goals + 3) (b + 4 * suc (length goals) + 3) (omega arith) ∙ v) m y)
+
+  -- Where a name is no goal's, it is no open goal's.
+  pub none-open : {table : List ℕ} {b : ℕ} {goals openGoals : List Goal} (key : Name) → GoalsAt table Means b goals openGoals
+      → some-of (isGoal key) goals ≡ false
+      → first (isGoal key) openGoals ≡ none
+  unfolding first
+  none-open key no-goal n = refl
+  none-open key (still-open {name} {j} {goals} {openGoals} v m f g) n =
+      let (x, y) = none-of-head (isGoal key) (goal name j) goals n in rw (x, first) (none-open key g y)
+  none-open key (is-closed {name} {j} {goals} v f g) n = none-open key g (none-of-head (isGoal key) (goal name j) goals n .1)
+
+  -- A goal's value says whether it is open.
+  pub closed-is-none : {table : List ℕ} {b e : ℕ} {goals openGoals : List Goal} {name : Name} {j : Term} → GoalsAt table Means b goals openGoals
+      → Sits b goals e (goal name j)
+      → getD table (e + 3) 0 ≡ 0
+      → first (isGoal name) openGoals ≡ none
+  unfolding first isGoal
+  closed-is-none {table} {e} (still-open {b} {w} v m f g) (here h) z = let u = at-same table (e + 3) (b + 3) (omega arith) in absurd (omega arith)
+  closed-is-none {name} (still-open {name = other} v m f g) (there s) z =
+      let x : named name other ≡ false = other-name other name (none-of-sitting (isGoal other) s f) in
+      rw (x, first) (closed-is-none g s z)
+  closed-is-none {name} (is-closed {goals} v f g) (here h) z = none-open name g f
+  closed-is-none (is-closed v f g) (there s) z = closed-is-none g s z
+
+  pub open-is-some : {table : List ℕ} {b e : ℕ} (v : ℕ) {goals openGoals : List Goal} {name : Name} {j : Term} → GoalsAt table Means b goals openGoals
+      → Sits b goals e (goal name j)
+      → getD table (e + 3) 0 ≡ v + 1
+      → (first (isGoal name) openGoals ≡ some (goal name j)) × Means v j
+  unfolding first isGoal
+  open-is-some {table} {e} v {name} {j} (still-open {b} {w} u m f g) (here h) z =
+      let q = at-same table (e + 3) (b + 3) (omega arith) in
+      let k : w ≡ v = omega arith in
+      (rw (named-decides .same name, first), rw (← k) m)
+  open-is-some v {name} (still-open {name = other} u m f g) (there s) z =
+      let x : named name other ≡ false = other-name other name (none-of-sitting (isGoal other) s f) in
+      let (p, q) = open-is-some v g s z in
+      (rw (x, first) p, q)
+  open-is-some {table} {e} v (is-closed {b} u f g) (here h) z = let q = at-same table (e + 3) (b + 3) (omega arith) in absurd (omega arith)
+  open-is-some v (is-closed u f g) (there s) z = open-is-some v g s z
+
+  -- A name that no goal has is not taken out.
+  without-none : {table : List ℕ} {b : ℕ} {goals openGoals : List Goal} (key : Name) → GoalsAt table Means b goals openGoals
+      → some-of (isGoal key) goals ≡ false
+      → without key openGoals ≡ openGoals
+  unfolding without
+  without-none key no-goal n = refl
+  without-none key (still-open {name} {j} {goals} {openGoals} v m f g) n =
+      let (x, y) = none-of-head (isGoal key) (goal name j) goals n in
+      rw (x, without) (ap (λ (gs : List Goal). goal name j ∷ gs) (without-none key g y))
+  without-none key (is-closed {name} {j} {goals} v f g) n = without-none key g (none-of-head (isGoal key) (goal name j) goals n .1)
+
+  -- Closing an open goal: its value is 0 and it is taken out of the open ones, which are one fewer.
+  pub values-close : {table : List ℕ} {b e : ℕ} (v : ℕ) {goals openGoals : List Goal} {name : Name} {j : Term} → GoalsAt table Means b goals openGoals
+      → Sits b goals e (goal name j)
+      → getD table (e + 3) 0 ≡ v + 1
+      → e + 4 ≤ length table
+      → GoalsAt (set table (e + 3) 0) Means b goals (without name openGoals) × (length openGoals ≡ length (without name openGoals) + 1)
+  unfolding without isGoal
+  values-close {table} {e} v {name} {j} (still-open {b} {w} {goals} {openGoals} u m f g) (here h) z l =
+      rw (named-decides .same name, without, without-none name g f) (
+        is-closed (at-same (set table (e + 3) 0) (b + 3) (e + 3) (omega arith) ∙ getD-set-same table (e + 3) 0 0 (omega arith)) f
+            (values-kept g (λ i x y. getD-set-other table (e + 3) i 0 0 (λ q. omega arith))),
+        omega arith,
+      )
+  values-close {table} {e} v {name} {j} (still-open {b} {w} {name = other} {j = i} {goals} {openGoals} u m f g) (there s) z l =
+      let x : named name other ≡ false = other-name other name (none-of-sitting (isGoal other) s f) in
+      let (low, high) = sits-bounds s in
+      let (p, q) = values-close v g s z l in
+      rw (x, without)
+      (still-open {w = w} (getD-set-other table (e + 3) (b + 3) 0 0 (λ q. omega arith) ∙ u) m f p, omega arith)
+  values-close {table} {e} v (is-closed {b} u f g) (here h) z l = let q = at-same table (e + 3) (b + 3) (omega arith) in absurd (omega arith)
+  values-close {table} {e} v (is-closed {b} u f g) (there s) z l =
+      let (low, high) = sits-bounds s in
+      let (p, q) = values-close v g s z l in
+      (is-closed (getD-set-other table (e + 3) (b + 3) 0 0 (λ q. omega arith) ∙ u) f p, q)
+
+module _ {text table : List ℕ} {base : ℕ} {Means : ℕ → Term → Type 0} {goals openGoals : List Goal} where
+  -- Whatever keeps the buckets of goals and the goals' words keeps the goals.
+  pub goals-kept : (table′ : List ℕ) → Goals text table base Means goals openGoals
+      → length table′ ≡ length table
+      → Same table table′ 0 128
+      → Same table table′ base (base + 4 * length goals)
+      → Goals text table′ base Means goals openGoals
+  goals-kept table′ g l h k =
+      let b = g .below in
+      let n = g .inside in
+      record {
+        entries = g .entries;
+        names = kept-within table′ (g .names) l (λ i x y. h .words i x y) (λ i x y. k .words i x (omega arith));
+        below = b;
+        inside = omega arith;
+        stands = g .stands;
+        values = values-kept (g .values) (λ i x y. k .words i x y);
+      }
+
+  -- One goal more.
+  pub goals-add : (s t w v : ℕ) (j : Term) → Goals text table base Means goals openGoals
+      → base + 4 * length goals + 4 ≤ length table
+      → s < 4294967296
+      → t < 4294967296
+      → v ≡ w + 1
+      → Means w j
+      → some-of (isGoal (part s t text)) goals ≡ false
+      → Goals text (entered 0 128 (base + 4 * length goals) text s t v table) base Means
+      (goals ++ (goal (part s t text) j ∷ [])) (openGoals ++ (goal (part s t text) j ∷ []))
+  unfolding top isGoal entered
+  goals-add s t w v j g room x y z m n =
+      let e : ℕ = base + 4 * length goals in
+      let name : Name = part s t text in
+      let new : List Goal = goal name j ∷ [] in
+      let f = g .names .buckets-first in
+      let o = one-more goals (goal name j) in
+      let c = length-entered table 0 128 e text s t v in
+      record {
+        entries = entry e name ∷ g .entries;
+        names = kept-put (e + 3) v (add-law e s t (g .names) (g .below) (omega arith) x y) (omega arith);
+        below = omega arith;
+        inside = omega arith;
+        stands = declared refl (λ key. refl) (sits-last base e goals (goal name j) refl) n
+            (stands-kept isGoal (Sits base goals) (Sits base (goals ++ new)) (g .stands) (λ d other a p q. sits-more new q));
+        values =
+            values-add w name j
+            (values-kept (g .values) (λ i l h. entered-same table 0 128 e text s t v (omega arith) base e (omega arith) (omega arith) .words i l h))
+            (entered-value table 0 128 e text s t v (omega arith) ∙ z) m n;
+      }
+
+-- An address that stands for something.
+pub stands-means : {A : Type 0} {test : Name → A → Bool} {M : ℕ → A → Type 0} {entries : List Entry} {things : List A} {e : ℕ} {name : Name}
+    → Stands test M entries things
+    → List·Memᴰ (entry e name) entries
+    → (a : A) × M e a
+stands-means (other-kind q n s) m = stands-means s m
+stands-means {M} {e} (declared {a} {e = d} q n k f s) (List·Memᴰ·head m) = let h : e ≡ d = cc in (a, rw h k)
+stands-means (declared q n k f s) (List·Memᴰ·tail m) = stands-means s m
+
+-- Entries are four words apart.
+sits-apart : {A : Type 0} {b d e : ℕ} {things : List A} {a c : A} → Sits b things d a → Sits b things e c → d ≤ e + 3 → e + 3 < d + 3 → ⊥
+sits-apart (here h) (here k) l r = omega arith
+sits-apart (here h) (there k) l r = let (x, y) = sits-bounds k in omega arith
+sits-apart (there h) (here k) l r = let (x, y) = sits-bounds h in omega arith
+sits-apart (there h) (there k) l r = sits-apart h k l r
+
+-- The cases of an agreement, with what they equate.
+pub agreed {ℓ} : {A : Type 0} {C : Type ℓ} {M : ℕ → A → Type 0} {o : Option ℕ} {p : Option A} → Agree M o p
+    → (o ≡ none → p ≡ none → C)
+    → ((e : ℕ) (a : A) → o ≡ some e → p ≡ some a → M e a → C)
+    → C
+agreed both-none f g = f refl refl
+agreed (both-some {e} {a} m) f g = g e a refl refl m
+
+module _ {text table : List ℕ} {base : ℕ} {Means : ℕ → Term → Type 0} {goals openGoals : List Goal} (g : Goals text table base Means goals openGoals) where
+  -- The test for duplicates.
+  pub goal-known : (key : Name) → present (goalFound text key table) ≡ some-of (isGoal key) goals
+  unfolding goalFound
+  goal-known key = find-present isGoal (Sits base goals) key (g .names) (g .stands)
+
+  open-by : (key : Name) (e : ℕ) (a : Goal) → isGoal key a ≡ true → Sits base goals e a
+      → OpenAgree table base Means goals key (openAt table e) (first (isGoal key) openGoals)
+  unfolding openAt isGoal
+  open-by key e (goal name j) h s =
+      let k : key ≡ name = named-decides .equal key name h in
+      let s′ : Sits base goals e (goal key j) = rw k s in
+      case (eqb (getD table (e + 3) 0) 0)
+      (λ z. rw (z, openAt, closed-is-none (g .values) s′ (eqb-true _ _ z)) nothing-open)
+      (λ z.
+      let n = eqb-false (getD table (e + 3) 0) 0 z in
+      let v : getD table (e + 3) 0 ≡ (getD table (e + 3) 0 - 1) + 1 = omega arith in
+      let (p, m) = open-is-some (getD table (e + 3) 0 - 1) (g .values) s′ v in
+      rw (z, openAt, p) (one-open (record { judgment = j; is-goal = refl; sits = s′; value = v; means = m })))
+
+  -- The search for a goal still open is the definition's.
+  pub open-agrees : (key : Name) → OpenAgree table base Means goals key (goalOpen text key table) (first (isGoal key) openGoals)
+  unfolding goalOpen goalFound
+  open-agrees key =
+      agreed (find-agrees isGoal (Sits base goals) key (g .names) (g .stands))
+      (λ f n. rw (f, goalOpen, none-open key (g .values) (sym (goal-known key) ∙ ap present f)) nothing-open)
+      (λ e a f n s. rw (f, goalOpen) (open-by key e a (first-some (isGoal key) goals n .1) s))
+
+  -- Closing an open goal.
+  pub goals-close : (key : Name) (e w : ℕ) (a : Goal) → OpenAt table base Means goals key e w a
+      → Goals text (set table (e + 3) 0) base Means goals (without key openGoals) × (length openGoals ≡ length (without key openGoals) + 1)
+  goals-close key e w a o =
+      let s : Sits base goals e (goal key (o .judgment)) = rw (o .is-goal) at (o .sits) in
+      let (low, high) = sits-bounds s in
+      let inside = g .inside in
+      let f = g .names .buckets-first in
+      let (p, q) = values-close w (g .values) s (o .value) (omega arith) in (
+        record {
+          entries = g .entries;
+          names = kept-set (e + 3) 0 (g .names) (not-owned s);
+          below = g .below;
+          inside = rw (length-set table (e + 3) 0) (g .inside);
+          stands = g .stands;
+          values = p;
+        },
+        q,
+      ) where
+        not-owned : {j : Term} → Sits base goals e (goal key j) → Owns 0 128 (g .entries) (e + 3) → ⊥
+        not-owned s (bucket-word l h) = let (low, high) = sits-bounds s in let f = g .names .buckets-first in omega arith
+        not-owned s (entry-word m l h) = let (b, t) = stands-means (g .stands) m in sits-apart t s l h

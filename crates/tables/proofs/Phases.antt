@@ -1,0 +1,154 @@
+-- One form more, in each phase: no room is asked for. Assumes nothing.
+use mathlib.Core.Path.{_≡_, refl}
+use mathlib.Core.Bool.{false}
+use mathlib.Core.List.{List, [], _∷_, _++_}
+use Prim.Native.Nat.{ℕ, _+_, _≤_, _<_}
+use native.Mathlib.Omega.{arith}
+use lib.ListN.{length, length-set}
+use Rattle.words.specs.Parts.{part, cleared}
+use Rattle.horn.specs.Refusals.{ok}
+use Rattle.horn.specs.Setting.{Setting}
+use Rattle.horn.specs.Names.{Name, some-of}
+use Rattle.horn.specs.Tokens.{tokens}
+use Rattle.horn.specs.NestedLists.{Item, Items, _then_, items}
+use Rattle.horn.specs.Rulebook.{Theory}
+use Rattle.horn.specs.StoredTerms.{Term, Store}
+use Rattle.horn.specs.Checker.{def, isDef, Goal, goal, isGoal, goalForm}
+use Rattle.horn.specs.Matching.{Step}
+use Rattle.horn.specs.Certificate.{Progress, without, certificateForm}
+use Rattle.capacity.specs.Budgets.{Roomy}
+use Rattle.capacity.proofs.Forms.{goal-keeps, certificate-keeps}
+use Rattle.capacity.proofs.Rooms.{goals-start, certificate-start}
+use Rattle.tables.specs.declared.Tally.{Tally}
+use Rattle.words.specs.Sums.{sum32}
+use Rattle.tables.specs.Words.{noneYet, goalAdded, goalCounted, goalClosed, goalDone, defAdded, defCounted, stepAdded, stepCounted}
+use Rattle.tables.specs.Representation.{OpenAt}
+use Rattle.tables.specs.Phases.{Gathering, Between}
+use Rattle.tables.proofs.Areas.{one-more, length-entered}
+use Rattle.tables.proofs.Steps.{step-added-length}
+use Rattle.tables.proofs.Laws.{length-cleared, begin-holds, add-goal, add-def, add-step, close-goal, means-more}
+use Rattle.tables.proofs.Rooms.{goal-room, def-room, step-room}
+
+-- The same room in an area of the same length.
+same-room : {base goalsBytes certificateBytes words : ℕ} (words′ : ℕ) → words′ ≡ words → Roomy base goalsBytes certificateBytes words
+    → Roomy base goalsBytes certificateBytes words′
+same-room words′ e r = rw e r
+
+-- What numbers mean may grow, as the store does.
+module _ {goalsText certificate : List ℕ} {goalsBytes certificateBytes buckets : ℕ} {Means : ℕ → Term → Type 0} {Recorded : ℕ → ℕ → ℕ → Step → Type 0}
+    (Means′ : ℕ → Term → Type 0) (Recorded′ : ℕ → ℕ → ℕ → Step → Type 0)
+    (f : (w : ℕ) (t : Term) → Means w t → Means′ w t) (g : (j r p : ℕ) (s : Step) → Recorded j r p s → Recorded′ j r p s) where
+  pub gathering-more : {table : List ℕ} {tally : Tally} {goals : List Goal} {left : Items}
+      → Gathering goalsText certificate goalsBytes certificateBytes buckets Means Recorded table tally goals left
+      → Gathering goalsText certificate goalsBytes certificateBytes buckets Means′ Recorded′ table tally goals left
+  gathering-more x = record { tables = means-more (x .tables) Means′ Recorded′ f g; roomy = x .roomy; budget = x .budget }
+
+  pub between-more : {table : List ℕ} {tally : Tally} {goals : List Goal} {now : Progress} {left : Items}
+      → Between goalsText certificate goalsBytes certificateBytes buckets Means Recorded table tally goals now left
+      → Between goalsText certificate goalsBytes certificateBytes buckets Means′ Recorded′ table tally goals now left
+  between-more x = record { tables = means-more (x .tables) Means′ Recorded′ f g; roomy = x .roomy; few = x .few; budget = x .budget }
+
+module _ (goalsText certificate : List ℕ) (goalsBytes certificateBytes buckets : ℕ) (Means : ℕ → Term → Type 0) (Recorded : ℕ → ℕ → ℕ → Step → Type 0)
+    (limits : Setting) (th : Theory) where
+  abbrev Goals-so-far : List ℕ → Tally → List Goal → Items → Type 0
+  Goals-so-far = Gathering goalsText certificate goalsBytes certificateBytes buckets Means Recorded
+
+  abbrev So-far : List ℕ → Tally → List Goal → Progress → Items → Type 0
+  So-far = Between goalsText certificate goalsBytes certificateBytes buckets Means Recorded
+
+  -- Before the first goal.
+  pub first-goal : (table : List ℕ) → 0 < buckets → 128 + buckets ≤ length table → length table < 4294967296 → length goalsText ≤ goalsBytes
+      → Roomy (128 + buckets) goalsBytes certificateBytes (length table)
+      → Goals-so-far (cleared (128 + buckets) table) (noneYet buckets) [] (items (tokens goalsText))
+  first-goal table p f small short r =
+      record {
+        tables = begin-holds goalsText certificate table buckets Means Recorded p f small;
+        roomy = same-room _ (length-cleared (128 + buckets) table) r;
+        budget = goals-start goalsText goalsBytes short;
+      }
+
+  -- "(goal N J)".
+  pub next-goal : {table : List ℕ} {tally : Tally} {goals : List Goal} {item : Item} {rest : Items} (store : Store) {store′ : Store} (s t w : ℕ) (j : Term)
+      → Goals-so-far table tally goals (item then rest)
+      → goalForm limits th goals item store ≡ ok (goals ++ (goal (part s t goalsText) j ∷ []), store′)
+      → s < 4294967296
+      → t < 4294967296
+      → w + 1 < 4294967296
+      → Means w j
+      → some-of (isGoal (part s t goalsText)) goals ≡ false
+      → Goals-so-far (goalAdded goalsText s t w tally table) (goalCounted tally) (goals ++ (goal (part s t goalsText) j ∷ [])) rest
+  unfolding goalAdded
+  next-goal {table} {tally} {goals} {item} {rest} store s t w j g e x y z m n =
+      let b = goal-keeps limits th goals item rest store e (g .budget) in
+      let room = goal-room (g .roomy) (g .tables) b (one-more goals (goal (part s t goalsText) j)) in
+      record {
+        tables = add-goal s t w j (g .tables) room x y z m n;
+        roomy = same-room _ (length-entered table 0 128 (tally .top) goalsText s t (sum32 w 1)) (g .roomy);
+        budget = b;
+      }
+
+  -- Before the first form of the certificate.
+  pub first-form : {table : List ℕ} {tally : Tally} {goals : List Goal} {left : Items} → length certificate ≤ certificateBytes
+      → Goals-so-far table tally goals left
+      → So-far table tally goals (record { defs = []; openGoals = goals; steps = [] }) (items (tokens certificate))
+  first-form {goals} short g =
+      record {
+        tables = g .tables;
+        roomy = g .roomy;
+        few = let h = g .budget .bound in omega arith;
+        budget = certificate-start certificate certificateBytes goals short;
+      }
+
+  module _ {table : List ℕ} {tally : Tally} {goals : List Goal} {now : Progress} {item : Item} {rest : Items} (store : Store) {store′ : Store}
+      (g : So-far table tally goals now (item then rest)) where
+    -- "(def ?a T)".
+    pub next-def : (s t w : ℕ) (u : Term)
+        → certificateForm limits th now item store
+        ≡ ok (record { defs = now .defs ++ (def (part s t certificate) u ∷ []); openGoals = now .openGoals; steps = now .steps }, store′)
+        → s < 4294967296
+        → t < 4294967296
+        → Means w u
+        → some-of (isDef (part s t certificate)) (now .defs) ≡ false
+        → So-far (defAdded buckets certificate s t w tally table) (defCounted tally) goals
+        (record { defs = now .defs ++ (def (part s t certificate) u ∷ []); openGoals = now .openGoals; steps = now .steps }) rest
+    unfolding defAdded
+    next-def s t w u e x y m n =
+        let b = certificate-keeps limits th now item rest store e (g .budget) in
+        let room = def-room (g .roomy) (g .tables) (g .few) b (one-more (now .defs) (def (part s t certificate) u)) refl in
+        record {
+          tables = add-def (g .tables) s t w u room x y m n;
+          roomy = same-room _ (length-entered table 128 buckets (tally .top) certificate s t w) (g .roomy);
+          few = g .few;
+          budget = b;
+        }
+
+    -- "(step I R (I...) item...)".
+    pub next-step : (j r place : ℕ) (s : Step)
+        → certificateForm limits th now item store ≡ ok (record { defs = now .defs; openGoals = now .openGoals; steps = now .steps ++ (s ∷ []) }, store′)
+        → place < 4294967296
+        → Recorded j r place s
+        → So-far (stepAdded j r place tally table) (stepCounted tally) goals
+        (record { defs = now .defs; openGoals = now .openGoals; steps = now .steps ++ (s ∷ []) }) rest
+    next-step j r place s e x m =
+        let b = certificate-keeps limits th now item rest store e (g .budget) in
+        let room = step-room (g .roomy) (g .tables) (g .few) b refl (one-more (now .steps) s) in
+        record {
+          tables = add-step (g .tables) j r place s room x m;
+          roomy = same-room _ (step-added-length table j r place tally) (g .roomy);
+          few = g .few;
+          budget = b;
+        }
+
+    -- "(result N I)".
+    pub next-result : (key : Name) (e w : ℕ) (a : Goal)
+        → certificateForm limits th now item store ≡ ok (record { defs = now .defs; openGoals = without key (now .openGoals); steps = now .steps }, store′)
+        → OpenAt table (128 + buckets) Means goals key e w a
+        → So-far (goalClosed e table) (goalDone tally) goals (record { defs = now .defs; openGoals = without key (now .openGoals); steps = now .steps }) rest
+    unfolding goalClosed
+    next-result key e w a f o =
+        record {
+          tables = close-goal (g .tables) key e w a o;
+          roomy = same-room _ (length-set table (e + 3) 0) (g .roomy);
+          few = g .few;
+          budget = certificate-keeps limits th now item rest store f (g .budget);
+        }

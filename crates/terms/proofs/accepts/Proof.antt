@@ -1,0 +1,74 @@
+-- `terms::accepts` meets its contract. Assumes nothing.
+use Rattle.theory_reading.specs.Reading.{accepted, allFit}
+use Rattle.terms.specs.Terms.{headOn}
+use mathlib.Core.Path.{_≡_, sym, _∙_}
+use Prim.Native.Nat.{_≤_, _-_}
+use Rattle.terms.proofs.Turns.{not-true, not-false, accepted-first, not-accepted, fit-on, not-fit, fit-end}
+use borrow.Author.Needs.{needs}
+use Rattle.terms.proofs.accepts.Statement.{statement}
+use Rattle.terms.proofs.accepts.Tie as tie
+
+abbrev Inv-loop : tie.InvT-loop
+Inv-loop heap store stack c from n k₀ k = (k ≤ n) × (accepted (headOn store stack from) heap c n ≡ allFit (headOn store stack from) heap c (n - k) k)
+
+abbrev μ-loop : tie.MeasureT-loop
+μ-loop heap store stack c from n k₀ k = n - k
+
+arity-requires : tie.Need-arity-requires Inv-loop μ-loop
+arity-requires c κs = search needs
+
+returns : tie.Need-returns Inv-loop μ-loop
+returns c = sym (not-accepted _ _ _ _ (rw (← c .before .arity .ensures) (c .if1 .taken)))
+
+loop-holds : tie.Need-loop-holds Inv-loop μ-loop
+loop-holds c = (search needs, accepted-first _ _ _ _ (rw (← c .before .arity .ensures) (c .if1 .left)))
+
+cast-at : tie.Need-cast-at Inv-loop μ-loop
+cast-at c = search needs
+
+add-at : tie.Need-add-at Inv-loop μ-loop
+add-at c = search needs
+
+at-requires : tie.Need-at-requires Inv-loop μ-loop
+at-requires c κs = search needs
+
+node-head-requires : tie.Need-node-head-requires Inv-loop μ-loop
+node-head-requires c κs = search needs
+
+fits-input-requires : tie.Need-fits-input-requires Inv-loop μ-loop
+fits-input-requires c κs = search needs
+
+returns-2 : tie.Need-returns-2 Inv-loop μ-loop
+returns-2 c = sym (c .before .before .before .before .before .loop .inv .1 ∙ not-fit _ _ _ _ _ (c .before .before .before .before .loop-test .taken) (rw (← c .before .before .before .at .ensures, ← c .before .before .node-head .ensures, ← c .before .fits-input .ensures) (not-true _ (c .if2 .taken))))
+
+add-k : tie.Need-add-k Inv-loop μ-loop
+add-k c = search needs
+
+loop-less : tie.Need-loop-less Inv-loop μ-loop
+loop-less c = search needs
+
+loop-again : tie.Need-loop-again Inv-loop μ-loop
+loop-again c = (search needs, c .before .before .before .before .before .loop .inv .1 ∙ fit-on _ _ _ _ _ (c .before .before .before .before .loop-test .taken) (rw (← c .before .before .before .at .ensures, ← c .before .before .node-head .ensures, ← c .before .fits-input .ensures) (not-false _ (c .if2 .left))))
+
+returns-3 : tie.Need-returns-3 Inv-loop μ-loop
+returns-3 c = sym (c .before .loop .inv .1 ∙ fit-end _ _ _ _ _ (c .loop-test .left))
+
+pub accepts-spec : {M : Type 1} → statement M
+accepts-spec =
+    tie.close
+    (tie.spec
+    Inv-loop
+    μ-loop
+    arity-requires
+    returns
+    loop-holds
+    cast-at
+    add-at
+    at-requires
+    node-head-requires
+    fits-input-requires
+    returns-2
+    add-k
+    loop-less
+    loop-again
+    returns-3)

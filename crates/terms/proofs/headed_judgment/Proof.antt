@@ -1,0 +1,81 @@
+-- `terms::headed_judgment` meets its contract. Assumes nothing.
+use Rattle.terms.specs.Terms.{headedJudgment}
+use borrow.Author.Needs.{needs}
+use Rattle.terms.proofs.headed_judgment.Statement.{statement}
+use Rattle.terms.proofs.headed_judgment.Tie as tie
+
+predicate-due-requires : tie.Need-predicate-due-requires
+predicate-due-requires c κs = search needs
+
+enum-known-h : tie.Need-enum-known-h
+enum-known-h c = search needs
+
+enum-told : tie.Need-enum-told
+enum-told c = search needs
+
+numbered-refusal-requires : tie.Need-numbered-refusal-requires
+numbered-refusal-requires c κs = search needs
+
+returns : tie.Need-returns
+unfolding headedJudgment
+returns c = rw (c .numbered-refusal .ensures, ← c .before .before .before .predicate-due .ensures, c .before .enum-told .given .1)
+
+plus-requires : tie.Need-plus-requires
+plus-requires c κs = search needs
+
+arguments-requires : tie.Need-arguments-requires
+arguments-requires c κs = search needs
+
+enum-known-a : tie.Need-enum-known-a
+enum-known-a c = search needs
+
+enum-told-2 : tie.Need-enum-told-2
+enum-told-2 c = search needs
+
+numbered-refusal-requires-2 : tie.Need-numbered-refusal-requires-2
+numbered-refusal-requires-2 c κs = search needs
+
+same-length : tie.Need-same-length
+same-length c = search needs
+
+same-length-2 : tie.Need-same-length-2
+same-length-2 c = search needs
+
+returns-2 : tie.Need-returns-2
+unfolding headedJudgment
+returns-2 c = rw (← c .before .before .before .before .before .before .before .before .before .before .before .before .before .before .predicate-due .ensures, c .before .before .before .before .before .before .before .before .before .before .before .before .h .given .1, ← c .before .before .before .before .before .before .before .before .before .before .plus .ensures, ← c .before .before .before .before .before .before .before .arguments .ensures, c .numbered-refusal2 .ensures, c .before .enum-told2 .given .1)
+
+make-requires : tie.Need-make-requires
+make-requires c κs = search needs
+
+same-length-3 : tie.Need-same-length-3
+same-length-3 c = search needs
+
+same-length-4 : tie.Need-same-length-4
+same-length-4 c = search needs
+
+returns-3 : tie.Need-returns-3
+unfolding headedJudgment
+returns-3 c = rw (← c .before .before .before .before .before .before .before .before .before .before .before .before .before .before .before .before .before .before .before .before .before .predicate-due .ensures, c .before .before .before .before .before .before .before .before .before .before .before .before .before .before .before .before .before .before .before .h .given .1, ← c .before .before .before .before .before .before .before .before .before .before .before .before .before .before .before .before .before .plus .ensures, ← c .before .before .before .before .before .before .before .before .before .before .before .before .before .before .arguments .ensures, c .before .before .before .before .before .before .before .before .a .given .1) (c .before .before .before .before .make .ensures)
+
+pub headed-judgment-spec : {M : Type 1} → statement M
+headed-judgment-spec =
+    tie.close
+    (tie.spec
+    predicate-due-requires
+    enum-known-h
+    enum-told
+    numbered-refusal-requires
+    returns
+    plus-requires
+    arguments-requires
+    enum-known-a
+    enum-told-2
+    numbered-refusal-requires-2
+    same-length
+    same-length-2
+    returns-2
+    make-requires
+    same-length-3
+    same-length-4
+    returns-3)

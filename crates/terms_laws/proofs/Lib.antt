@@ -1,0 +1,6 @@
+pub mod Rows
+pub mod Making
+pub mod Atoms
+pub mod Reading
+pub mod Judgments
+pub mod Whole

@@ -1,0 +1,6 @@
+pub mod Turns
+pub mod Bridge
+pub mod Held
+pub mod Naming
+pub mod Terms
+pub mod Stored

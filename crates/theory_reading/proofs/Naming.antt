@@ -1,0 +1,60 @@
+-- The variables of a rule have different names, so that a name and a number say the same. Assumes nothing.
+use mathlib.Core.Path.{_≡_, refl, ap, sym, _∙_}
+use mathlib.Core.List.{List, _∷_}
+use mathlib.Core.Option.{none, some}
+use Prim.Native.Nat.{ℕ, suc}
+use Rattle.horn.specs.Refusals.{ok}
+use Rattle.horn.specs.Names.{Name, first}
+use Rattle.horn.specs.Rulebook.{Variable, variable, isVariable, Rule, Theory, variablesOf, isRule, ruleNamed, theory}
+use Rattle.horn.proofs.Equality.{named-decides, apart, first-some}
+use Rattle.horn.proofs.Inversion.{none-some, was-found}
+use Rattle.horn.proofs.SoundnessWords.{Apart, name-apart, WellFormed}
+use Rattle.horn.proofs.SoundnessRulebook.{theory-formed}
+use Rattle.names.proofs.Holds.{by-name}
+use Rattle.theory_laws.specs.Representation.{Nth, here, there}
+use Rattle.theory_laws.proofs.Readback.{Sorted, sorted-here, sorted-there}
+
+module _ (key name s : Name) (vs : List Variable) where
+  first-here : key ≡ name → first (isVariable key) (variable name s ∷ vs) ≡ some (variable name s)
+  unfolding first isVariable
+  first-here e = rw (e, named-decides .same name, first)
+
+  first-on : (key ≡ name → ⊥) → first (isVariable key) (variable name s ∷ vs) ≡ first (isVariable key) vs
+  unfolding first isVariable
+  first-on n = rw (apart named-decides key name n, first)
+
+-- A name that a variable has is found.
+nth-found : {vs : List Variable} {v : ℕ} {key : Name} → Nth vs v key → first (isVariable key) vs ≡ none → ⊥
+nth-found (here {name} {s} {vs}) e = none-some (sym e ∙ first-here name name s vs refl)
+nth-found {key} (there {x = variable name s} {vs} n) e =
+    by-name key name
+    (λ q. none-some (sym e ∙ first-here key name s vs q))
+    (λ q. nth-found n (sym (first-on key name s vs q) ∙ e))
+
+-- One name, one number.
+pub nth-one : {vs : List Variable} {v w : ℕ} {key : Name} → Apart vs → Nth vs v key → Nth vs w key → v ≡ w
+nth-one a here here = refl
+nth-one (name-apart f a) here (there n) = absurd (nth-found n f)
+nth-one (name-apart f a) (there n) here = absurd (nth-found n f)
+nth-one (name-apart f a) (there n) (there m) = ap suc (nth-one a n m)
+
+-- One number, one name.
+pub nth-name : {vs : List Variable} {v : ℕ} {m n : Name} → Nth vs v m → Nth vs v n → m ≡ n
+nth-name here here = refl
+nth-name (there x) (there y) = nth-name x y
+
+-- The variable that the definition finds by a name is the one with the number, and has its sort.
+pub nth-first : {vs : List Variable} {v : ℕ} {key s : Name} → Apart vs → Nth vs v key → Sorted vs v s → first (isVariable key) vs ≡ some (variable key s)
+nth-first (name-apart {vs} f a) (here {name}) (sorted-here {s}) = first-here name name s vs refl
+nth-first {key} (name-apart {name} {s = t} {vs} f a) (there n) (sorted-there m) =
+    by-name key name
+    (λ q. absurd (nth-found n (rw (← q) at f)))
+    (λ q. first-on key name t vs q ∙ nth-first a n m)
+
+-- Every rule of an accepted rulebook.
+pub rule-apart : {th : Theory} → WellFormed th → (key : Name) {r : Rule} → ruleNamed th key ≡ ok r → Apart (variablesOf r)
+unfolding ruleNamed
+rule-apart {th} w key {r} e = was-found _ _ e λ p. w .formed r (first-some (isRule key) (th .rules) p .0) .apart
+
+pub accepted-apart : (text : List ℕ) {th : Theory} → theory text ≡ ok th → (key : Name) {r : Rule} → ruleNamed th key ≡ ok r → Apart (variablesOf r)
+accepted-apart text e key f = rule-apart (theory-formed text e) key f
