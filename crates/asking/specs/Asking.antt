@@ -16,6 +16,8 @@ use Rattle.asking.specs.declared.Passed.{Passed}
 use Rattle.asking.specs.declared.Passed.the-variants as passes
 use Rattle.asking.specs.declared.Look.{Look}
 use Rattle.asking.specs.declared.Look.the-variants as looks
+use Rattle.asking.specs.declared.Begun.{Begun}
+use Rattle.asking.specs.declared.Begun.the-variants as begins
 
 -- An atom with its bounds, or a list, its opening taken; and the reader after it.
 pub data Met : Type 0 where
@@ -26,6 +28,11 @@ pub data Met : Type 0 where
 pub data Ahead : Type 0 where
   closing : Reader → Ahead
   member : Reader → Ahead
+
+-- At top level: the end of the text, or a form, its opening taken.
+pub data Top : Type 0 where
+  over : Top
+  form : Reader → Top
 
 -- What each case of an answer says: a value, or a refusal by its number.
 abbrev pub met : Item → Outcome Met
@@ -45,6 +52,11 @@ abbrev pub looked : Look → Outcome Ahead
 looked (looks.Closing r) = ok (closing r)
 looked (looks.Member r) = ok (member r)
 looked (looks.Refused n) = refused n
+
+abbrev pub begun : Begun → Outcome Top
+begun begins.Over = ok over
+begun (begins.Form r) = ok (form r)
+begun (begins.Refused n) = refused n
 
 -- The item that a token begins: "end of text is 5, a closing 6".
 abbrev pub itemFrom : Answer → Outcome Met
@@ -96,3 +108,14 @@ nextFrom text r (lex.refused n) = refused n
 
 unfoldable pub closingNext : List ℕ → Reader → Outcome Ahead
 closingNext text r = nextFrom text r (peeked text r)
+
+-- At top level the text may end; a form is a list.
+abbrev pub formFrom : Answer → Outcome Top
+formFrom (lex.token tokens.Opening r) = ok (form r)
+formFrom (lex.token tokens.Closing r) = refused 6
+formFrom (lex.token (tokens.Atom s t) r) = refused 7
+formFrom lex.ended = ok over
+formFrom (lex.refused n) = refused n
+
+unfoldable pub formDue : List ℕ → Reader → Outcome Top
+formDue text r = formFrom (taken text r)

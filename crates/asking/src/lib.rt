@@ -2,7 +2,7 @@
 // "All members are asked for as above." How deep an item may be is told by `left`: 257 less the depth that it is asked for at.
 ghost use mathlib.Core.Path.{_≡_};
 ghost use Rattle.patterns.specs.Outcomes.{refusal};
-ghost use Rattle.asking.specs.Asking.{met, named, passed, looked, itemDue, atomDue, listDue, closingDue, closingNext};
+ghost use Rattle.asking.specs.Asking.{met, named, passed, looked, begun, itemDue, atomDue, listDue, closingDue, closingNext, formDue};
 use lex::Read;
 use lex::Reader;
 use lex::Token;
@@ -33,6 +33,13 @@ pub enum Look {
     Refused(u32),
 }
 
+// At top level: a form with the reader after its opening, or the end of the text.
+pub enum Begun {
+    Form(Reader),
+    Over,
+    Refused(u32),
+}
+
 // "Asking for an item at depth 257 is refusal 4, before its token is taken; then end of text is 5, a closing 6."
 pub fn item_due(text: &[u8], left: u32, reader: Reader) -> Item
     ensures { λ r. ⌜ met r ≡ itemDue (now (text .entry)) left reader ⌝ }
@@ -57,11 +64,13 @@ pub fn atom_due(text: &[u8], left: u32, reader: Reader) -> Named
     ensures { λ r. ⌜ named r ≡ atomDue (now (text .entry)) left reader ⌝ }
 {
     let answer = item_due(text, left, reader);
-    match answer {
-        Item::Refused(n) => Named::Refused(n),
-        Item::List(_) => Named::Refused(7),
-        Item::Atom(s, t, next) => Named::Atom(s, t, next),
+    if let Item::Refused(n) = answer {
+        return Named::Refused(n);
     }
+    let Item::Atom(s, t, next) = answer else {
+        return Named::Refused(7);
+    };
+    Named::Atom(s, t, next)
 }
 
 // A list, where one is due: its opening is taken.
@@ -111,6 +120,22 @@ pub fn closing_next(text: &[u8], reader: Reader) -> Look
                     Passed::Refused(n) => Look::Refused(n),
                 }
             }
+        },
+    }
+}
+
+// The next form of goals or certificate, if there is one. At depth 0 an item may be asked for.
+pub fn form_due(text: &[u8], reader: Reader) -> Begun
+    ensures { λ r. ⌜ begun r ≡ formDue (now (text .entry)) reader ⌝ }
+{
+    let read = reader.token(text);
+    match read {
+        Read::End => Begun::Over,
+        Read::Bad => Begun::Refused(3),
+        Read::Got(token, next) => match token {
+            Token::Closing => Begun::Refused(6),
+            Token::Atom(_, _) => Begun::Refused(7),
+            Token::Opening => Begun::Form(next),
         },
     }
 }

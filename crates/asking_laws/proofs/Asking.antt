@@ -26,7 +26,7 @@ use Rattle.theory_laws.specs.Reading.{weight}
 use Rattle.theory_laws.specs.Simulation.{Answers, both-refuse, both-ok}
 use Rattle.theory_laws.proofs.Lookups.{part-length}
 use Rattle.asking.specs.Asking as asked
-use Rattle.asking.specs.Asking.{Met, Ahead, itemDue, atomDue, listDue, closingDue, closingNext}
+use Rattle.asking.specs.Asking.{Met, Ahead, Top, itemDue, atomDue, listDue, closingDue, closingNext, formDue}
 use Rattle.asking_laws.proofs.Places.{Begins, Comes, Left, At}
 
 -- What taking a token answers, by the tokens that come.
@@ -232,3 +232,25 @@ module _ (text : List ℕ) where
           → ((q : Reader) → Stands text q (opening ▹ u) → At text (Left (group inner then rest) K) n q)
           → Looked (group inner then rest) (asked.nextFrom text r b)
       go (see-opening st) g = look-item (g _ st)
+
+    -- The next form at top level.
+    pub data FormMet : Items → Outcome Top → Type 0 where
+      form-over : FormMet ended (outcomes.ok asked.over)
+      form-bad : FormMet badLine (outcomes.refused 3)
+      form-closing : FormMet closed (outcomes.refused 6)
+      form-atom : {name : Name} {rest : Items} → FormMet (word name then rest) (outcomes.refused 7)
+      form-list : {q : Reader} {inner rest : Items} → At text (Left inner (Left rest K)) n q → FormMet (group inner then rest) (outcomes.ok (asked.form q))
+
+    pub form-law : (is : Items) {r : Reader} → At text (Left is K) n r → FormMet is (formDue text r)
+    unfolding formDue Left Comes
+    form-law closed a = by (token-got closing a) where
+      by : {b : lexed.Answer} → Got K n closing b → FormMet closed (asked.formFrom b)
+      by (got-closing h) = form-closing
+    form-law ended a = rw (end-taken a) form-over
+    form-law badLine a = rw (bad-taken a) form-bad
+    form-law (word name then rest) a = by (token-got (atom name) a) where
+      by : {b : lexed.Answer} → Got (Left rest K) n (atom name) b → FormMet (word name then rest) (asked.formFrom b)
+      by (got-atom p l u h) = form-atom
+    form-law (group inner then rest) a = by (token-got opening a) where
+      by : {b : lexed.Answer} → Got (Left inner (Left rest K)) n opening b → FormMet (group inner then rest) (asked.formFrom b)
+      by (got-opening h) = form-list h

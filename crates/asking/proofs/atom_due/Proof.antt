@@ -1,5 +1,7 @@
 -- `asking::atom_due` meets its contract. Assumes nothing.
+use mathlib.Core.Path.{sym}
 use Rattle.asking.specs.Asking.{atomDue}
+use Rattle.asking.proofs.Tags.{no-atom}
 use borrow.Author.Needs.{needs}
 use Rattle.asking.proofs.atom_due.Statement.{statement}
 use Rattle.asking.proofs.atom_due.Tie as tie
@@ -10,32 +12,20 @@ item-due-requires c κs = search needs
 enum-known-answer : tie.Need-enum-known-answer
 enum-known-answer c = search needs
 
-enum-told : tie.Need-enum-told
-enum-told c = search needs
-
-enum-known-answer-2 : tie.Need-enum-known-answer-2
-enum-known-answer-2 c = search needs
-
 returns : tie.Need-returns
 unfolding atomDue
 returns c = rw (← c .before .before .before .item-due .ensures, c .before .answer .given .1)
 
+enum-known-answer-2 : tie.Need-enum-known-answer-2
+enum-known-answer-2 c = search needs
+
 returns-2 : tie.Need-returns-2
 unfolding atomDue
-returns-2 c = rw (← c .before .before .item-due .ensures, c .enum-told .given .1)
+returns-2 c = rw (← c .before .before .item-due .ensures) (sym (no-atom (c .before .before .item-due .result) (c .before .match .keys2) (c .match2 .keys2)))
 
 returns-3 : tie.Need-returns-3
 unfolding atomDue
-returns-3 c = rw (← c .before .before .before .item-due .ensures, c .before .answer2 .given .1)
+returns-3 c = rw (← c .before .before .before .before .item-due .ensures, c .before .answer2 .given .1)
 
 pub atom-due-spec : {M : Type 1} → statement M
-atom-due-spec =
-    tie.close
-    (tie.spec
-    item-due-requires
-    enum-known-answer
-    enum-told
-    enum-known-answer-2
-    returns
-    returns-2
-    returns-3)
+atom-due-spec = tie.close (tie.spec item-due-requires enum-known-answer returns enum-known-answer-2 returns-2 returns-3)
