@@ -1,7 +1,7 @@
 -- One goal: "(goal N J)". Assumes nothing.
 use Prim.Native.Nat.{ℕ, _+_, _≤_, _<_}
 use mathlib.Core.Path.{_≡_, refl, ap, sym, _∙_}
-use mathlib.Core.Bool.{Bool, true, false, not}
+use mathlib.Core.Bool.{false, not}
 use mathlib.Core.List.{List, [], _∷_, _++_}
 use native.Mathlib.Omega.{arith}
 use lib.ListN.{length}
@@ -29,6 +29,7 @@ use Rattle.tables.proofs.Laws.{known-goal}
 use Rattle.tables.proofs.Phases.{gathering-more, next-goal}
 use Rattle.asking_laws.proofs.Places.{Left, At, at-less}
 use Rattle.asking_laws.proofs.Asking.{closing-law}
+use Rattle.terms.proofs.Turns.{not-true}
 use Rattle.terms_laws.proofs.Judgments.{lifted, AskedRead}
 use Rattle.terms_laws.proofs.Whole.{goal-judgment}
 use Rattle.goals.specs.Goals as walk
@@ -63,10 +64,6 @@ record GoalMet (es : Entries) (th : Theory) (goalsText : List ℕ) (K : Stream T
   pub entered : left .1 ≡ goalAdded goalsText s t w tally table
   pub one-more : y .0 ≡ goals ++ (definition.goal (part s t goalsText) j ∷ [])
 
-none-such : (b : Bool) → not b ≡ true → b ≡ false
-none-such true e = sym e
-none-such false e = refl
-
 module _ {rules heap : List ℕ} {es : Entries} {bound : ℕ} {th : Theory} (h : Holds rules heap es bound th) (goalsText certificate : List ℕ)
     (Recorded : List Term → ℕ → ℕ → ℕ → Step → Type 0)
     (survives : (ts us : List Term) (j r p : ℕ) (s : Step) → Longer ts us → Recorded ts j r p s → Recorded us j r p s)
@@ -97,7 +94,7 @@ module _ {rules heap : List ℕ} {es : Entries} {bound : ℕ} {th : Theory} (h :
         before = before;
         inside = inside;
         means = m .means;
-        fresh = none-such _ e;
+        fresh = not-true _ e;
         counted = refl;
         entered = refl;
         one-more = refl;
