@@ -1,2 +1,4 @@
 pub mod Numbers
 pub mod References
+pub mod Given
+pub mod Items
