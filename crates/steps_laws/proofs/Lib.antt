@@ -1,4 +1,4 @@
 pub mod Numbers
 pub mod References
-pub mod Given
 pub mod Items
+pub mod Whole
