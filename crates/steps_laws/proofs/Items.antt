@@ -1,7 +1,7 @@
 -- One item of a step: a binding, or a stated conclusion. Assumes nothing.
-use Prim.Native.Nat.{ℕ, zero, suc, _+_, _*_, _≤_, _<_}
+use Prim.Native.Nat.{ℕ, zero, suc, _+_, _*_, _≤_}
 use mathlib.Core.Path.{_≡_, refl, ap, ap₂, sym, _∙_}
-use mathlib.Core.Bool.{Bool, true, false, not, _&&_, true≢false}
+use mathlib.Core.Bool.{true, false, not, _&&_, true≢false}
 use mathlib.Core.List.{List, [], _∷_, _++_}
 use mathlib.Core.Option.{Option, none, some}
 use native.Mathlib.Omega.{arith}
@@ -11,11 +11,11 @@ use lib.ListN.{length, set}
 use Rattle.horn.specs.Refusals as refusals
 use Rattle.horn.specs.Refusals.{Result, number, textEnds, unknown, badBinding, secondConclusion}
 use Rattle.horn.specs.Setting.{document01}
-use Rattle.horn.specs.Names.{Name, questioned, first}
+use Rattle.horn.specs.Names.{Name, questioned}
 use Rattle.horn.specs.Tokens.{Stream, Token}
 use Rattle.horn.specs.NestedLists.{Item, Items, closed, ended, badLine, _then_, absent}
 use Rattle.horn.specs.Rulebook as rulebook
-use Rattle.horn.specs.Rulebook.{Variable, variable, Rule, Theory, isVariable, variablesOf}
+use Rattle.horn.specs.Rulebook.{Variable, Rule, Theory, variablesOf}
 use Rattle.horn.specs.StoredTerms.{Term}
 use Rattle.horn.specs.Checker as definition
 use Rattle.horn.specs.Checker.{Def, hasSort}
@@ -37,7 +37,7 @@ use Rattle.patterns.specs.Items.{question}
 use Rattle.theory_laws.specs.Simulation.{Answers, both-refuse, both-ok, Simulates, refuse, leave, bind as bind-all, test, tests, giving}
 use Rattle.theory_laws.specs.Representation.{Entries, Nth, SortAt, RuleAt, Holds}
 use Rattle.theory_laws.proofs.Lookups.{part-question}
-use Rattle.theory_laws.proofs.Frames.{Keeps, keeps-then, keeps-set, keeps-less, rule-kept, grown-none}
+use Rattle.theory_laws.proofs.Frames.{Keeps, keeps-then, keeps-set, rule-kept, grown-none}
 use Rattle.theory_reading.specs.Reading.{sortOfVariable}
 use Rattle.theory_reading.specs.Storing.{Areas, before}
 use Rattle.theory_reading.proofs.Held.{VariableIs, variable-is, variable-found, bindings-fit, holds-now}
@@ -48,7 +48,6 @@ use Rattle.asking.specs.Asking.{Ahead}
 use Rattle.asking_laws.proofs.Places.{Left, At, at-less, at-within}
 use Rattle.asking_laws.proofs.Asking.{WordMet, word-met, word-law, GroupMet, closing-law, Looked, look-closed, look-bad, look-ended, look-item, look-law}
 use Rattle.terms.specs.Terms.{sortOf}
-use Rattle.terms_laws.proofs.Making.{TermRead}
 use Rattle.terms_laws.proofs.Reading.{asked-yes, Ready}
 use Rattle.terms_laws.proofs.Judgments.{lifted, AskedRead, ask-term-law, headed-law}
 use Rattle.matching.specs.Matching.{bindingOf, bindingAt}

@@ -5,9 +5,8 @@ use mathlib.Core.List.{List}
 use mathlib.Core.Option.{Option, none, some}
 use Rattle.horn.specs.Refusals as refusals
 use Rattle.horn.specs.Refusals.{Result, number, notNumber, textEnds}
-use Rattle.horn.specs.Names.{Name}
 use Rattle.horn.specs.Tokens.{Stream, Token}
-use Rattle.horn.specs.NestedLists.{Item, word, group, Items, ended, _then_, askedAt, absent}
+use Rattle.horn.specs.NestedLists.{Item, Items, ended, _then_, absent}
 use Rattle.horn.specs.Checker as definition
 use Rattle.horn.specs.Checker.{numeral}
 use Rattle.words.specs.Parts.{part}
@@ -16,7 +15,7 @@ use Rattle.patterns.specs.Outcomes as outcomes
 use Rattle.patterns.specs.Outcomes.{Outcome}
 use Rattle.theory_laws.specs.Simulation.{Answers, both-refuse, both-ok}
 use Rattle.asking.specs.Asking as asked
-use Rattle.asking.specs.Asking.{Met, itemDue, atomDue, listDue}
+use Rattle.asking.specs.Asking.{Met, atomDue, listDue}
 use Rattle.asking_laws.proofs.Places.{Left, At}
 use Rattle.asking_laws.proofs.Asking.{ItemMet, atom-met, list-met, item-law, GroupMet, group-met, group-law}
 use Rattle.terms_laws.proofs.Reading.{asked-yes}
@@ -24,8 +23,9 @@ use Rattle.steps.specs.Steps as walk
 
 module _ (text : List ℕ) (K : Stream Token → Type 0) (n : ℕ) where
   -- A number that was asked for.
-  pub data NumberMet : ℕ × Reader → ℕ × Items → Type 0 where
-    number-met : {i : ℕ} {r : Reader} {rest : Items} → At text (Left rest K) (n + 2) r → NumberMet (i, r) (i, rest)
+  pub record NumberMet (x : ℕ × Reader) (y : ℕ × Items) : Type 0 where
+    pub same : y .0 ≡ x .0
+    pub reader : At text (Left (y .1) K) (n + 2) (x .1)
 
   -- "I as a number, 18".
   pub number-law : (is : Items) (left depth : ℕ) {r : Reader} → depth + left ≡ 257 → At text (Left is K) n r
@@ -35,7 +35,7 @@ module _ (text : List ℕ) (K : Stream Token → Type 0) (n : ℕ) where
     numbered : {r : Reader} (rest : Items) (o : Option ℕ) → At text (Left rest K) (n + 2) r
         → Answers NumberMet (outcomes._>>=_ (outcomes.orElse o 18) (λ i. outcomes.ok (i, r))) (refusals._>>=_ (refusals.found o notNumber) (λ i. refusals.ok (i, rest)))
     numbered rest none there = both-refuse refl
-    numbered rest (some i) there = both-ok (number-met there)
+    numbered rest (some i) there = both-ok record { same = refl; reader = there }
 
     by : {o : Outcome Met} {m : Result (Item × Items)} → Answers (ItemMet text K n) o m
         → Answers NumberMet
@@ -61,7 +61,7 @@ module _ (text : List ℕ) (K : Stream Token → Type 0) (n : ℕ) where
     number-member = by (definition.numberDue item) (rw (asked-yes 254 2 refl) at (number-law (item then rest) 255 2 refl a)) where
       by : {o : Outcome (ℕ × Reader)} (m : Result ℕ) → Answers NumberMet o (refusals._>>=_ m (λ i. refusals.ok (i, rest)))
           → Answers (λ x i. (i ≡ x .0) × At text (Left rest K) (n + 2) (x .1)) o m
-      by (refusals.ok i) (both-ok (number-met there)) = both-ok (refl, there)
+      by (refusals.ok i) (both-ok k) = both-ok (k .same, k .reader)
       by (refusals.refused x) (both-refuse f) = both-refuse f
 
     pub list-member : Answers (λ q inner. At text (Left inner (Left rest K)) n q) (listDue text 256 r) (definition.groupDue item)

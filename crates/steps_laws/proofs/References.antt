@@ -16,7 +16,7 @@ use Rattle.patterns.specs.Leaving.{Did, _leaving_}
 use Rattle.words.specs.Sums.{sum32}
 use Rattle.words.proofs.Sums.{sum-small}
 use Rattle.numerals.specs.Numbers.{saturated}
-use Rattle.theory_laws.specs.Simulation.{Answers, both-refuse, both-ok, Simulates, refuse, leave, pure, after}
+use Rattle.theory_laws.specs.Simulation.{Answers, both-refuse, Simulates, refuse, leave, pure, after}
 use Rattle.asking.specs.Asking.{Ahead}
 use Rattle.asking_laws.proofs.Places.{Left, At, at-less, at-within}
 use Rattle.asking_laws.proofs.Asking.{Looked, look-closed, look-bad, look-ended, look-item, look-law}
