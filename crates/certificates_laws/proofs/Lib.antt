@@ -1,2 +1,4 @@
 pub mod Heads
+pub mod Asked
 pub mod Standing
+pub mod Defs
