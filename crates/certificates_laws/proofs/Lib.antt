@@ -2,3 +2,4 @@ pub mod Heads
 pub mod Asked
 pub mod Standing
 pub mod Defs
+pub mod Results
