@@ -25,7 +25,6 @@ use Rattle.theory_laws.proofs.Lookups.{part-question, part-length, bare-width}
 use Rattle.theory_reading.specs.Storing as storing
 use Rattle.asking_laws.proofs.Places.{Left, At}
 use Rattle.asking_laws.proofs.Asking.{WordMet, word-met, word-law}
-use Rattle.terms_laws.proofs.Judgments.{lifted}
 use Rattle.asking.specs.Asking.{atomDue}
 use Rattle.certificates.specs.Certificates.{defNamed}
 

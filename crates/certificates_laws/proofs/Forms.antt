@@ -1,23 +1,21 @@
 -- The forms of a certificate, in order. Assumes nothing.
-use Prim.Native.Nat.{ℕ, zero, suc, _+_, _≤_}
-use mathlib.Core.Path.{_≡_, refl, sym, _∙_}
-use mathlib.Core.List.{List, []}
+use Prim.Native.Nat.{ℕ, zero, suc, _≤_}
+use mathlib.Core.Path.{_≡_, refl}
+use mathlib.Core.List.{List}
 use native.Mathlib.Omega.{arith}
-use lib.Dec.{eqb}
 use lib.ListN.{length}
 use Rattle.horn.specs.Refusals as refusals
-use Rattle.horn.specs.Refusals.{Result, number, ok, form}
+use Rattle.horn.specs.Refusals.{Result, number, ok}
 use Rattle.horn.specs.Setting.{document01}
-use Rattle.horn.specs.NestedLists.{word, group, Items, closed, ended, badLine, _then_}
+use Rattle.horn.specs.NestedLists.{group, Items, _then_}
 use Rattle.horn.specs.Rulebook.{Theory}
 use Rattle.horn.specs.StoredTerms.{Term}
 use Rattle.horn.specs.Checker as checker
 use Rattle.horn.specs.Checker.{Goal}
 use Rattle.horn.specs.Certificate as definition
-use Rattle.horn.specs.Certificate.{Progress, keyword}
+use Rattle.horn.specs.Certificate.{Progress}
 use Rattle.horn.proofs.Counts.{itemCount}
 use Rattle.horn.proofs.SoundnessWords.{WellFormed}
-use Rattle.words.specs.Parts.{part}
 use Rattle.lex.specs.declared.Reader.{Reader}
 use Rattle.patterns.specs.Outcomes.{Outcome}
 use Rattle.patterns.specs.Leaving as leaving
@@ -33,11 +31,11 @@ use Rattle.asking_laws.proofs.Asking.{FormMet, form-over, form-bad, form-closin
 use Rattle.asking_laws.proofs.Asking as asking
 use Rattle.terms_laws.proofs.Judgments.{lifted}
 use Rattle.certificates.specs.Certificates as walk
-use Rattle.certificates.specs.Certificates.{keywordOf, AllAreas}
+use Rattle.certificates.specs.Certificates.{AllAreas}
 use Rattle.certificates.specs.declared.Keyword as walk-keyword
 use Rattle.certificates_laws.proofs.Heads.{Headed, is-step, is-result, is-def, is-other, headed}
 use Rattle.certificates_laws.proofs.Asked.{member-law}
-use Rattle.certificates_laws.proofs.Standing.{StepRecorded, SoFar, Standing}
+use Rattle.certificates_laws.proofs.Standing.{StepRecorded, Standing}
 use Rattle.certificates_laws.proofs.Defs.{def-law}
 use Rattle.certificates_laws.proofs.Results.{result-law}
 use Rattle.certificates_laws.proofs.Recording.{StepLaw, step-form-law}

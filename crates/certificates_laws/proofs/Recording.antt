@@ -1,6 +1,6 @@
 -- "(step I R (I...) item...)": the step that was read and judged is recorded. Assumes nothing.
 use Prim.Native.Nat.{ℕ, _<_}
-use mathlib.Core.Path.{_≡_, refl, ap, _∙_}
+use mathlib.Core.Path.{_≡_, ap, _∙_}
 use mathlib.Core.List.{List, [], _∷_, _++_}
 use lib.ListN.{length}
 use Rattle.horn.specs.Refusals.{Result, ok}

@@ -13,13 +13,12 @@ use Rattle.horn.specs.Names.{Name, first}
 use Rattle.horn.specs.Tokens.{Stream, Token}
 use Rattle.horn.specs.NestedLists.{Item, Items, _then_}
 use Rattle.horn.specs.Rulebook.{Theory}
-use Rattle.horn.specs.StoredTerms.{Term, sameTerm}
+use Rattle.horn.specs.StoredTerms.{Term}
 use Rattle.horn.specs.Checker as checker
 use Rattle.horn.specs.Checker.{Def, Goal, isGoal, goalJudgment}
 use Rattle.horn.specs.Matching.{Step, judgmentOf}
 use Rattle.horn.specs.Certificate as definition
 use Rattle.horn.specs.Certificate.{Progress, without}
-use Rattle.words.specs.Parts.{part}
 use Rattle.lex.specs.declared.Reader.{Reader}
 use Rattle.patterns.specs.Outcomes as outcomes
 use Rattle.patterns.specs.Outcomes.{Outcome}
