@@ -47,6 +47,15 @@ unfolding refusals._>>=_
 bind-before s f f′ (refuse e) k = refuse e
 bind-before s f f′ (leave q) k = k _ _ _ q
 
+-- The same where the definition has its value already.
+pub giving-before : {P S A B C : Type 0} {Q : A → P → B → Type 0} {R : C → P × S → B → Type 0} {m : Did P A} {m′ : Result B} (s : S)
+    (f : A × (P × S) → Did (P × S) C)
+    → Simulates Q m m′
+    → ((a : A) (p : P) (b : B) → Q a p b → Simulates R (f (a, (p, s))) (refusals.ok b))
+    → Simulates R (leaving._>>=_ (storing.before s m) f) m′
+giving-before s f (refuse e) k = refuse e
+giving-before s f (leave q) k = k _ _ _ q
+
 -- What was asked for and tested at once, where the definition does one after the other.
 pub lifted-tested : {S A B C D : Type 0} {Q : A → B → Type 0} {R : C → S → D → Type 0} {o : Outcome A} {s : S} (ts : List Term) (m : Result B) (g : B → Bool) (r : Refusal)
     (f : A × S → Did S C) (f′ : B → List Term → Result D)

@@ -3,7 +3,7 @@ use Prim.Native.Nat.{ℕ, _<_}
 use mathlib.Core.Path.{_≡_, ap, _∙_}
 use mathlib.Core.List.{List, [], _∷_, _++_}
 use lib.ListN.{length}
-use Rattle.horn.specs.Refusals.{Result, ok}
+use Rattle.horn.specs.Refusals.{ok}
 use Rattle.horn.specs.Setting.{document01}
 use Rattle.horn.specs.Tokens.{Stream, Token}
 use Rattle.horn.specs.NestedLists.{Item, Items, _then_}
@@ -15,12 +15,9 @@ use Rattle.horn.specs.Certificate as definition
 use Rattle.horn.specs.Certificate.{Progress}
 use Rattle.horn.proofs.SoundnessSteps.{ruleOf}
 use Rattle.lex.specs.declared.Reader.{Reader}
-use Rattle.patterns.specs.Leaving as leaving
-use Rattle.patterns.specs.Leaving.{Did}
-use Rattle.theory_laws.specs.Simulation.{Simulates, refuse, leave, knowing}
+use Rattle.theory_laws.specs.Simulation.{Simulates, leave, knowing}
 use Rattle.theory_laws.specs.Representation.{Entries, RuleAt}
 use Rattle.theory_laws.proofs.Frames.{Keeps}
-use Rattle.theory_reading.specs.Storing.{before}
 use Rattle.theory_reading.proofs.Stored.{Longer, Stored, Means}
 use Rattle.tables.specs.declared.Tally.{Tally}
 use Rattle.tables.specs.Representation.{Tables}
@@ -29,6 +26,7 @@ use Rattle.asking_laws.proofs.Places.{Left, Any, At}
 use Rattle.steps.specs.Steps as steps
 use Rattle.steps.specs.Steps.{Worked}
 use Rattle.certificates.specs.Certificates as walk
+use Rattle.certificates_laws.proofs.Asked.{giving-before}
 use Rattle.certificates_laws.proofs.Standing.{SoFar, Standing, StepRecorded, between-longer}
 
 pub record StepRead (rules heap certificate : List ℕ) (es : Entries) (bound : ℕ) (th : Theory) (K : Stream Token → Type 0) (now : Progress) (ts : List Term)
@@ -52,15 +50,6 @@ StepLaw rules heap es bound th goalsText certificate goals =
     → Stored es th document01 4096 store ts → length stack ≡ 16384 → Keeps 12288 heap live → At certificate (Left is (Left rest Any)) 0 r
     → Simulates (StepRead rules heap certificate es bound th (Left rest Any) now ts) (steps.step certificate rules table (tally .steps) r store stack live)
     (definition.stepForm document01 th now is ts)
-
--- What follows what leaves some areas, with another behind them, where the definition has its value already.
-giving-before : {P S A B C : Type 0} {Q : A → P → B → Type 0} {R : C → P × S → B → Type 0} {m : Did P A} {m′ : Result B} (s : S)
-    (f : A × (P × S) → Did (P × S) C)
-    → Simulates Q m m′
-    → ((a : A) (p : P) (b : B) → Q a p b → Simulates R (f (a, (p, s))) (ok b))
-    → Simulates R (leaving._>>=_ (before s m) f) m′
-giving-before s f (refuse e) k = refuse e
-giving-before s f (leave q) k = k _ _ _ q
 
 module _ {rules heap : List ℕ} {es : Entries} {bound : ℕ} {th : Theory} (goalsText certificate : List ℕ) {goals : List Goal} {tally : Tally} (now : Progress)
     {ts : List Term} {table : List ℕ} (store stack live : List ℕ) where
