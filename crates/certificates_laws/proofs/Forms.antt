@@ -22,47 +22,50 @@ use Rattle.patterns.specs.Leaving as leaving
 use Rattle.patterns.specs.Leaving.{_leaving_}
 use Rattle.theory_laws.specs.Simulation.{Answers, both-refuse, both-ok, Simulates, refuse, leave, bind}
 use Rattle.theory_laws.specs.Representation.{Entries, Holds}
-use Rattle.theory_reading.proofs.Stored.{Stored, Means}
 use Rattle.tables.specs.declared.Tally.{Tally}
-use Rattle.tables.specs.Representation.{Tables}
 use Rattle.asking.specs.Asking.{Top}
 use Rattle.asking_laws.proofs.Places.{Left, Any, At, at-less}
 use Rattle.asking_laws.proofs.Asking.{FormMet, form-over, form-bad, form-closing, form-atom, form-list}
 use Rattle.asking_laws.proofs.Asking as asking
 use Rattle.terms_laws.proofs.Judgments.{lifted}
+use Rattle.steps_laws.proofs.Whole.{step-law}
 use Rattle.certificates.specs.Certificates as walk
 use Rattle.certificates.specs.Certificates.{AllAreas}
 use Rattle.certificates.specs.declared.Keyword as walk-keyword
 use Rattle.certificates_laws.proofs.Heads.{Headed, is-step, is-result, is-def, is-other, headed}
 use Rattle.certificates_laws.proofs.Asked.{member-law}
-use Rattle.certificates_laws.proofs.Standing.{StepRecorded, Standing}
+use Rattle.certificates_laws.proofs.Standing.{StepRecorded, Standing, Finished}
 use Rattle.certificates_laws.proofs.Defs.{def-law}
 use Rattle.certificates_laws.proofs.Results.{result-law}
-use Rattle.certificates_laws.proofs.Recording.{StepLaw, step-form-law}
+use Rattle.certificates_laws.proofs.Recording.{step-form-law}
 
 -- What the definition was asked for is known.
 known : {A B : Type 0} {Q : A → B → Type 0} {o : Outcome A} {m : Result B} → Answers Q o m → Answers (λ a b. Q a b × (m ≡ ok b)) o m
 known (both-refuse e) = both-refuse e
 known (both-ok q) = both-ok (q, refl)
 
-module _ {rules heap : List ℕ} {es : Entries} {bound : ℕ} {th : Theory} (h : Holds rules heap es bound th) (high : bound ≤ 11948) (w : WellFormed th)
-    (goalsText certificate : List ℕ) (short : length certificate ≤ 32768) {goals : List Goal}
-    (step-law : StepLaw rules heap es bound th goalsText certificate goals) where
-  -- What stands before the next form.
-  abbrev Before : Items → Tally × Reader → AllAreas → Progress × List Term → Type 0
-  Before = Standing rules heap es bound th goalsText certificate goals
+-- From a reader before some forms, with so many turns.
+abbrev pub Reads : List ℕ → List ℕ → Entries → ℕ → Theory → List ℕ → List ℕ → List Goal → ℕ → Type 0
+Reads rules heap es bound th goalsText certificate goals fuel =
+    (is : Items) (tally : Tally) (r : Reader) (areas : AllAreas) (now : Progress) (ts : List Term) → suc (itemCount is) ≤ fuel
+    → Standing rules heap es bound th goalsText certificate goals is (tally, r) areas (now, ts)
+    → Simulates (Finished rules heap es bound th goalsText certificate goals) (walk.formsFrom fuel certificate goalsText rules tally r (areas .0 .0 .0) (areas .0 .0 .1) (areas .0 .1) (areas .1))
+    (definition.certificateForms document01 th now is ts)
 
+module _ {rules heap : List ℕ} {es : Entries} {bound : ℕ} {th : Theory} (h : Holds rules heap es bound th) (high : bound ≤ 11948) (w : WellFormed th)
+    (goalsText certificate : List ℕ) (short : length certificate ≤ 32768) {goals : List Goal} where
   module _ (inner rest : Items) {tally : Tally} {r : Reader} {areas : AllAreas} {now : Progress} {ts : List Term}
       (s : Standing rules heap es bound th goalsText certificate goals (group inner then rest) (tally, r) areas (now, ts)) where
     by-head : {k : walk-keyword.Keyword} {k′ : definition.Keyword} (is : Items) (q : Reader) → Headed k k′
         → definition.certificateForm document01 th now (group inner) ts ≡ definition.headedForm document01 th k′ now is ts
         → At certificate (Left is (Left rest Any)) 0 q
-        → Simulates (Before rest) (walk.headedForm k certificate goalsText rules tally q (areas .0 .0 .0) (areas .0 .0 .1) (areas .0 .1) (areas .1))
+        → Simulates (Standing rules heap es bound th goalsText certificate goals rest) (walk.headedForm k certificate goalsText rules tally q (areas .0 .0 .0) (areas .0 .0 .1) (areas .0 .1) (areas .1))
         (definition.headedForm document01 th k′ now is ts)
     unfolding definition.headedForm checker.lift refusals._>>=_ number
     by-head is q is-step e at-items =
         step-form-law goalsText certificate now (areas .0 .0 .0) (areas .0 .0 .1) (areas .0 .1) (group inner) rest is q (s .between) e
-        (step-law (areas .1) tally ts now rest is q (areas .0 .0 .0) (areas .0 .0 .1) (areas .0 .1) (s .between .tables) (s .stored) (s .long) (s .keeps) at-items)
+        (step-law h high w goalsText certificate short now (StepRecorded rules heap es bound th ts) (λ j e p c k. k .means) (s .between .tables) (Left rest Any) is q
+        (areas .0 .0 .1) (s .stored) (s .long) (s .keeps) at-items)
     by-head is q is-result e at-items =
         result-law h goalsText certificate now (areas .0 .0 .1) (s .stored) (s .long) (s .keeps) (group inner) rest is q (s .between) e at-items
     by-head is q is-def e at-items =
@@ -71,7 +74,7 @@ module _ {rules heap : List ℕ} {es : Entries} {bound : ℕ} {th : Theory} (h :
 
     -- A form, its opening taken.
     pub form-law : (q : Reader) → At certificate (Left inner (Left rest Any)) 0 q
-        → Simulates (Before rest) (walk.formRead certificate goalsText rules tally q (areas .0 .0 .0) (areas .0 .0 .1) (areas .0 .1) (areas .1))
+        → Simulates (Standing rules heap es bound th goalsText certificate goals rest) (walk.formRead certificate goalsText rules tally q (areas .0 .0 .0) (areas .0 .0 .1) (areas .0 .1) (areas .1))
         (definition.certificateForm document01 th now (group inner) ts)
     unfolding walk.formRead definition.certificateForm checker._>>=_ checker.lift checker.groupDue refusals._>>=_
     form-law q at-items =
@@ -79,23 +82,10 @@ module _ {rules heap : List ℕ} {es : Entries} {bound : ℕ} {th : Theory} (h :
         rw (p .0 .name)
         (by-head (y .1) (x .2) (headed (y .0)) (rw (p .1)) (at-less 0 (omega arith) (p .0 .reader))))
 
-  -- After the last form.
-  pub record Finished (tally : Tally) (areas : AllAreas) (y : Progress × List Term) : Type 0 where
-    pub tables : Tables goalsText certificate (areas .1) 128 (Means es th (y .1)) (StepRecorded rules heap es bound th (y .1)) tally goals (y .0 .openGoals) (y .0 .defs) (y .0 .steps)
-    pub stored : Stored es th document01 4096 (areas .0 .0 .0) (y .1)
-
-  -- From a reader before some forms, with so many turns.
-  abbrev Reads : ℕ → Type 0
-  Reads fuel =
-      (is : Items) (tally : Tally) (r : Reader) (areas : AllAreas) (now : Progress) (ts : List Term) → suc (itemCount is) ≤ fuel
-      → Before is (tally, r) areas (now, ts)
-      → Simulates Finished (walk.formsFrom fuel certificate goalsText rules tally r (areas .0 .0 .0) (areas .0 .0 .1) (areas .0 .1) (areas .1))
-      (definition.certificateForms document01 th now is ts)
-
-  one-turn : (fuel : ℕ) → Reads fuel → {is : Items} {o : Outcome Top} (tally : Tally) (r : Reader) (areas : AllAreas) (now : Progress) (ts : List Term) → itemCount is ≤ fuel
-      → Before is (tally, r) areas (now, ts)
+  one-turn : (fuel : ℕ) → Reads rules heap es bound th goalsText certificate goals fuel → {is : Items} {o : Outcome Top} (tally : Tally) (r : Reader) (areas : AllAreas) (now : Progress) (ts : List Term) → itemCount is ≤ fuel
+      → Standing rules heap es bound th goalsText certificate goals is (tally, r) areas (now, ts)
       → FormMet certificate Any 0 is o
-      → Simulates Finished
+      → Simulates (Finished rules heap es bound th goalsText certificate goals)
       (leaving._>>=_ (o leaving areas)
       (λ p. walk.oneForm (walk.formsFrom fuel certificate goalsText rules) certificate goalsText rules tally (p .0) (areas .0 .0 .0) (areas .0 .0 .1) (areas .0 .1) (areas .1)))
       (definition.certificateForms document01 th now is ts)
@@ -108,7 +98,7 @@ module _ {rules heap : List ℕ} {es : Entries} {bound : ℕ} {th : Theory} (h :
       bind _ _ (form-law inner rest s q there) (λ x left y k. on rest (x .0) (x .1) left (y .0) (y .1) l k)
 
   -- All forms, in order: a turn for each, and one that sees the end.
-  pub forms-law : (fuel : ℕ) → Reads fuel
+  pub forms-law : (fuel : ℕ) → Reads rules heap es bound th goalsText certificate goals fuel
   unfolding walk.formsFrom
   forms-law zero is tally r areas now ts l s = absurd (omega arith)
   forms-law (suc fuel) is tally r areas now ts l s =

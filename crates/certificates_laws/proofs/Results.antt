@@ -1,13 +1,13 @@
 -- "(result N I)". Assumes nothing.
-use Prim.Native.Nat.{ℕ, _+_}
-use mathlib.Core.Path.{_≡_, refl, _∙_}
+use Prim.Native.Nat.{ℕ}
+use mathlib.Core.Path.{_≡_, refl, sym, _∙_}
 use mathlib.Core.List.{List}
 use mathlib.Core.Option.{Option}
 use native.Mathlib.Omega.{arith}
 use lib.Dec.{eqb}
 use lib.ListN.{length, getElem?}
 use Rattle.horn.specs.Refusals as refusals
-use Rattle.horn.specs.Refusals.{Result, number, ok, unknown, noSuchStep, otherJudgment}
+use Rattle.horn.specs.Refusals.{number, ok, unknown, noSuchStep, otherJudgment}
 use Rattle.horn.specs.Setting.{document01}
 use Rattle.horn.specs.Names.{Name, first}
 use Rattle.horn.specs.Tokens.{Stream, Token}
@@ -21,7 +21,6 @@ use Rattle.horn.specs.Certificate as definition
 use Rattle.horn.specs.Certificate.{Progress, without}
 use Rattle.lex.specs.declared.Reader.{Reader}
 use Rattle.patterns.specs.Outcomes as outcomes
-use Rattle.patterns.specs.Outcomes.{Outcome}
 use Rattle.patterns.specs.Leaving.{beside}
 use Rattle.theory_laws.specs.Simulation.{Answers, both-refuse, both-ok, Simulates, leave, knowing, aside}
 use Rattle.theory_laws.specs.Representation.{Entries, Holds}
@@ -35,7 +34,7 @@ use Rattle.tables.proofs.Phases.{next-result}
 use Rattle.asking_laws.proofs.Places.{Left, Any, At, at-less}
 use Rattle.asking_laws.proofs.Asking.{closing-law}
 use Rattle.terms_laws.proofs.Judgments.{lifted}
-use Rattle.steps_laws.proofs.Numbers.{NumberMet, number-met, number-law}
+use Rattle.steps_laws.proofs.Numbers.{number-law}
 use Rattle.certificates.specs.Certificates as walk
 use Rattle.certificates_laws.proofs.Asked.{tested, member-law}
 use Rattle.certificates_laws.proofs.Standing.{SoFar, Standing, StepRecorded}
@@ -78,12 +77,6 @@ module _ {goalsText certificate table : List ℕ} {Means : ℕ → Term → Type
     by no-step = both-refuse refl
     by (one-step x) = both-ok (f _ _ _ _ x)
 
--- A number that was asked for.
-number-is : {text : List ℕ} {K : Stream Token → Type 0} {n : ℕ} {o : Outcome (ℕ × Reader)} {m : Result (ℕ × Items)} → Answers (NumberMet text K n) o m
-    → Answers (λ x y. (x .0 ≡ y .0) × At text (Left (y .1) K) (n + 2) (x .1)) o m
-number-is (both-refuse e) = both-refuse e
-number-is (both-ok (number-met a)) = both-ok (refl, a)
-
 module _ {rules heap : List ℕ} {es : Entries} {bound : ℕ} {th : Theory} (h : Holds rules heap es bound th)
     (goalsText certificate : List ℕ) {goals : List Goal} {tally : Tally} (now : Progress)
     {ts : List Term} {store live table : List ℕ} (stack : List ℕ) (stored : Stored es th document01 4096 store ts) (long : length stack ≡ 16384) (keep : Keeps 12288 heap live) where
@@ -95,10 +88,10 @@ module _ {rules heap : List ℕ} {es : Entries} {bound : ℕ} {th : Theory} (h :
   reads K is r t at-items =
       lifted ts _ _ (member-law certificate K 0 is at-items) (λ x y m.
       lifted ts _ _ (open-due t (m .name)) (λ z g a.
-      lifted ts _ _ (number-is (number-law certificate K 2 (y .1) 256 1 refl (m .reader))) (λ n v i.
-      lifted ts _ _ (step-due t {Says = λ j s. Means es th ts j (judgmentOf s)} (λ j e p s c. c .means) (i .0)) (λ k s b.
+      lifted ts _ _ (number-law certificate K 2 (y .1) 256 1 refl (m .reader)) (λ n v i.
+      lifted ts _ _ (step-due t {Says = λ j s. Means es th ts j (judgmentOf s)} (λ j e p s c. c .means) (sym (i .same))) (λ k s b.
       lifted ts _ _ (tested (eqb k (z .1)) 27 otherJudgment (means-same stored h b (open-means a)) refl) (λ c d same.
-      lifted ts _ _ (closing-law certificate K 4 (v .1) (i .1)) (λ q f there.
+      lifted ts _ _ (closing-law certificate K 4 (v .1) (i .reader)) (λ q f there.
       leave (result-read a (at-less 0 (omega arith) there))))))))
 
   -- From a reader behind the head of the form.

@@ -20,6 +20,7 @@ use Rattle.theory_laws.proofs.Frames.{Keeps}
 use Rattle.theory_reading.specs.Addresses.{symbolAt, Used}
 use Rattle.theory_reading.proofs.Stored.{Longer, Stored, Means, means-longer}
 use Rattle.tables.specs.declared.Tally.{Tally}
+use Rattle.tables.specs.Representation.{Tables}
 use Rattle.tables.specs.Phases.{Between}
 use Rattle.tables.proofs.Phases.{between-more}
 use Rattle.asking_laws.proofs.Places.{Left, Any, At}
@@ -46,6 +47,11 @@ module _ (rules heap : List ℕ) (es : Entries) (bound : ℕ) (th : Theory) wher
       pub stored : Stored es th document01 4096 (areas .0 .0 .0) (y .1)
       pub long : length (areas .0 .0 .1) ≡ 16384
       pub keeps : Keeps 12288 heap (areas .0 .1)
+
+    -- After the last form.
+    pub record Finished (tally : Tally) (areas : AllAreas) (y : Progress × List Term) : Type 0 where
+      pub tables : Tables goalsText certificate (areas .1) 128 (Means es th (y .1)) (StepRecorded (y .1)) tally goals (y .0 .openGoals) (y .0 .defs) (y .0 .steps)
+      pub stored : Stored es th document01 4096 (areas .0 .0 .0) (y .1)
 
 -- The store grew.
 pub between-longer : {rules heap : List ℕ} {es : Entries} {bound : ℕ} {th : Theory} {goalsText certificate : List ℕ} {goals : List Goal} {ts us : List Term}

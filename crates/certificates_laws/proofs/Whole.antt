@@ -32,7 +32,6 @@ use Rattle.certificates.specs.Certificates as walk
 use Rattle.certificates.specs.Certificates.{AllAreas}
 use Rattle.certificates_laws.proofs.Asked.{tested}
 use Rattle.certificates_laws.proofs.Standing.{StepRecorded}
-use Rattle.certificates_laws.proofs.Recording.{StepLaw}
 use Rattle.certificates_laws.proofs.Forms.{forms-law}
 
 -- The certificate was read: how many steps and goals there are, and the terms that the store holds.
@@ -44,16 +43,16 @@ pub record CertificateRead (es : Entries) (th : Theory) (goals : List Goal) (tal
 -- From where the goals were read.
 pub certificate-law : {rules heap : List ℕ} {es : Entries} {bound : ℕ} {th : Theory} → Holds rules heap es bound th → bound ≤ 11948 → WellFormed th
     → (goalsText certificate : List ℕ) → length certificate ≤ 32768
-    → {table : List ℕ} {tally : Tally} {goals : List Goal} {left : Items} {ts : List Term} → StepLaw rules heap es bound th goalsText certificate goals
+    → {table : List ℕ} {tally : Tally} {goals : List Goal} {left : Items} {ts : List Term}
     → Gathering goalsText certificate 8192 32768 128 (Means es th ts) (StepRecorded rules heap es bound th ts) table tally goals left
     → {store live : List ℕ} (stack : List ℕ) → Stored es th document01 4096 store ts → length stack ≡ 16384 → Keeps 12288 heap live
     → Simulates (CertificateRead es th goals) (walk.certificate certificate goalsText rules tally store stack live table)
     (definition.certificateOf document01 th goals certificate ts)
 unfolding walk.certificate definition.certificateOf checker._>>=_ checker.lift checker.give number
-certificate-law {rules} {heap} {es} {bound} {th} h high w goalsText certificate short {table} {tally} {goals} {ts} step-law gathered {store} {live} stack stored long keep =
+certificate-law {rules} {heap} {es} {bound} {th} h high w goalsText certificate short {table} {tally} {goals} {ts} gathered {store} {live} stack stored long keep =
     let few = few-items certificate in
     bind _ _
-    (forms-law h high w goalsText certificate short step-law (length certificate + 1) (items (tokens certificate)) tally start (((store, stack), live), table)
+    (forms-law h high w goalsText certificate short (length certificate + 1) (items (tokens certificate)) tally start (((store, stack), live), table)
     (record { defs = []; openGoals = goals; steps = [] }) ts (omega arith)
     record {
       reader = at-start certificate;
