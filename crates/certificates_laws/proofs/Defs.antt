@@ -60,6 +60,7 @@ data DefRead (es : Entries) (th : Theory) (certificate table : List ℕ) (tally 
       → DefRead es th certificate table tally now K ts (defCounted tally, r) ((store, stack), defAdded 128 certificate s t k tally table)
       (defined now (part s t certificate) u, us)
 
+-- "Duplicate 13".
 known : {goalsText certificate table : List ℕ} {Means : ℕ → Term → Type 0} {Recorded : ℕ → ℕ → ℕ → Step → Type 0} {tally : Tally} {goals openGoals : List Goal} {defs : List Def}
     {steps : List Step} {key name : Name} → Tables goalsText certificate table 128 Means Recorded tally goals openGoals defs steps → key ≡ name
     → present (defFound 128 certificate key table) ≡ some-of (isDef name) defs
@@ -76,6 +77,7 @@ beside-live live (leave q) k = leave (k _ _ _ q)
 module _ {rules heap : List ℕ} {es : Entries} {bound : ℕ} {th : Theory} (h : Holds rules heap es bound th) (high : bound ≤ 11948)
     (goalsText certificate : List ℕ) (short : length certificate ≤ 32768) {goals : List Goal} {tally : Tally} (now : Progress)
     {ts : List Term} {store live table : List ℕ} (stack : List ℕ) (stored : Stored es th document01 4096 store ts) (long : length stack ≡ 16384) (keep : Keeps 12288 heap live) where
+  -- The form is read whole before the table is written.
   reads : {Recorded : ℕ → ℕ → ℕ → Step → Type 0} (K : Stream Token → Type 0) (is : Items) (r : Reader)
       → Tables goalsText certificate table 128 (Means es th ts) Recorded tally goals (now .openGoals) (now .defs) (now .steps)
       → At certificate (Left is K) 0 r

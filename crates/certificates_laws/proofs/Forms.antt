@@ -56,6 +56,7 @@ module _ {rules heap : List ℕ} {es : Entries} {bound : ℕ} {th : Theory} (h :
     (goalsText certificate : List ℕ) (short : length certificate ≤ 32768) {goals : List Goal} where
   module _ (inner rest : Items) {tally : Tally} {r : Reader} {areas : AllAreas} {now : Progress} {ts : List Term}
       (s : Standing rules heap es bound th goalsText certificate goals (group inner then rest) (tally, r) areas (now, ts)) where
+    -- The form by its head.
     by-head : {k : walk-keyword.Keyword} {k′ : definition.Keyword} (is : Items) (q : Reader) → Headed k k′
         → definition.certificateForm document01 th now (group inner) ts ≡ definition.headedForm document01 th k′ now is ts
         → At certificate (Left is (Left rest Any)) 0 q
@@ -82,6 +83,7 @@ module _ {rules heap : List ℕ} {es : Entries} {bound : ℕ} {th : Theory} (h :
         rw (p .0 .name)
         (by-head (y .1) (x .2) (headed (y .0)) (rw (p .1)) (at-less 0 (omega arith) (p .0 .reader))))
 
+  -- One turn, by what comes at top level.
   one-turn : (fuel : ℕ) → Reads rules heap es bound th goalsText certificate goals fuel → {is : Items} {o : Outcome Top} (tally : Tally) (r : Reader) (areas : AllAreas) (now : Progress) (ts : List Term) → itemCount is ≤ fuel
       → Standing rules heap es bound th goalsText certificate goals is (tally, r) areas (now, ts)
       → FormMet certificate Any 0 is o

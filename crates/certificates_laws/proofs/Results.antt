@@ -51,6 +51,7 @@ data ResultRead (certificate table : List ℕ) (Means : ℕ → Term → Type 0)
       → At certificate K 0 r
       → ResultRead certificate table Means tally goals now K ts (goalDone tally, r) (goalClosed e table) (closed now key, ts)
 
+-- The number of an open goal's judgment.
 open-means : {table : List ℕ} {base : ℕ} {Means : ℕ → Term → Type 0} {goals : List Goal} {key : Name} {e w : ℕ} {g : Goal}
     → OpenAt table base Means goals key e w g → Means w (goalJudgment g)
 unfolding goalJudgment
