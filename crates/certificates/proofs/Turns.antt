@@ -1,14 +1,18 @@
--- One turn of the loop over the forms, on the side of the models.
+-- What a form leaves, and one turn of the loop over the forms, on the side of the models.
 use Prim.Native.Nat.{ℕ, zero, suc, _-_, _<_, _≤_}
 use mathlib.Core.Path.{_≡_, refl}
 use mathlib.Core.List.{List}
 use native.Mathlib.Omega.{arith}
 use Rattle.lex.specs.declared.Reader.{Reader}
 use Rattle.patterns.specs.Outcomes.{Outcome, ok, refused}
-use Rattle.patterns.specs.Leaving.{_leaving_}
+use Rattle.patterns.specs.Leaving.{Did, _leaving_}
 use Rattle.tables.specs.declared.Tally.{Tally}
 use Rattle.asking.specs.Asking.{over, form, formDue}
 use Rattle.certificates.specs.Certificates.{AllAreas, formRead, formsFrom}
+
+pub next-is : {tally next : Tally} {r : Reader} {table after : List ℕ} → tally ≡ next → table ≡ after
+    → _≡_ {A = Did (List ℕ) (Tally × Reader)} (ok (tally, r) leaving table) (ok (next, r) leaving after)
+next-is e h = rw (e, h)
 
 module _ (text goals rules : List ℕ) (tally : Tally) (r : Reader) (store stack heap table : List ℕ) where
   pub forms-over : (fuel : ℕ) → 0 < fuel → formDue text r ≡ ok over

@@ -1,4 +1,5 @@
 -- `certificates::def_form` meets its contract. Assumes nothing.
+use mathlib.Core.Path.{refl}
 use Rattle.certificates.specs.Certificates.{defForm}
 use borrow.Author.Needs.{needs}
 use Rattle.certificates.proofs.def_form.Statement.{statement}
@@ -33,13 +34,13 @@ numbered-refusal-requires : tie.Need-numbered-refusal-requires
 numbered-refusal-requires c κs = search needs
 
 same-length : tie.Need-same-length
-same-length c = search needs
+same-length c = refl
 
 same-length-2 : tie.Need-same-length-2
-same-length-2 c = search needs
+same-length-2 c = c .before .before .before .before .before .before .store .given
 
 same-length-3 : tie.Need-same-length-3
-same-length-3 c = search needs
+same-length-3 c = c .before .before .before .before .stack .given
 
 returns-2 : tie.Need-returns-2
 unfolding defForm
@@ -55,13 +56,13 @@ enum-told-4 : tie.Need-enum-told-4
 enum-told-4 c = search needs
 
 same-length-4 : tie.Need-same-length-4
-same-length-4 c = search needs
+same-length-4 c = refl
 
 same-length-5 : tie.Need-same-length-5
-same-length-5 c = search needs
+same-length-5 c = c .before .before .before .before .before .before .before .before .before .before .store .given
 
 same-length-6 : tie.Need-same-length-6
-same-length-6 c = search needs
+same-length-6 c = c .before .before .before .before .before .before .before .before .stack .given
 
 returns-3 : tie.Need-returns-3
 unfolding defForm
@@ -80,13 +81,13 @@ passed-refusal-requires : tie.Need-passed-refusal-requires
 passed-refusal-requires c κs = search needs
 
 same-length-7 : tie.Need-same-length-7
-same-length-7 c = search needs
+same-length-7 c = refl
 
 same-length-8 : tie.Need-same-length-8
-same-length-8 c = search needs
+same-length-8 c = c .before .before .before .before .before .before .before .before .before .before .before .before .before .before .store .given
 
 same-length-9 : tie.Need-same-length-9
-same-length-9 c = search needs
+same-length-9 c = c .before .before .before .before .before .before .before .before .before .before .before .before .stack .given
 
 returns-4 : tie.Need-returns-4
 unfolding defForm
@@ -96,13 +97,13 @@ add-def-requires : tie.Need-add-def-requires
 add-def-requires c κs = search needs
 
 same-length-10 : tie.Need-same-length-10
-same-length-10 c = search needs
+same-length-10 c = c .before .table .given
 
 same-length-11 : tie.Need-same-length-11
-same-length-11 c = search needs
+same-length-11 c = c .before .before .before .before .before .before .before .before .before .before .before .before .before .before .before .before .before .before .store .given
 
 same-length-12 : tie.Need-same-length-12
-same-length-12 c = search needs
+same-length-12 c = c .before .before .before .before .before .before .before .before .before .before .before .before .before .before .before .before .stack .given
 
 returns-5 : tie.Need-returns-5
 unfolding defForm

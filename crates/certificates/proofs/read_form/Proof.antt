@@ -1,4 +1,5 @@
 -- `certificates::read_form` meets its contract. Assumes nothing.
+use mathlib.Core.Path.{refl}
 use Rattle.certificates.specs.Certificates.{formRead}
 use borrow.Author.Needs.{needs}
 use Rattle.certificates.proofs.read_form.Statement.{statement}
@@ -45,39 +46,39 @@ enum-told-5 : tie.Need-enum-told-5
 enum-told-5 c = search needs
 
 same-length : tie.Need-same-length
-same-length c = search needs
+same-length c = c .before .before .before .before .before .before .before .table .given
 
 same-length-2 : tie.Need-same-length-2
-same-length-2 c = search needs
+same-length-2 c = c .before .before .before .before .before .store .given
 
 same-length-3 : tie.Need-same-length-3
-same-length-3 c = search needs
+same-length-3 c = c .before .before .before .stack .given
 
 same-length-4 : tie.Need-same-length-4
-same-length-4 c = search needs
+same-length-4 c = c .before .heap .given
 
 returns-2 : tie.Need-returns-2
 unfolding formRead
 returns-2 c = rw (← c .before .before .before .before .before .before .before .before .before .before .before .before .before .before .before .before .before .before .before .atom-due .ensures, c .before .before .before .before .before .before .before .before .before .before .before .before .before .before .before .before .before .a .given .1, ← c .before .before .before .before .before .before .before .before .before .before .before .before .before .before .before .keyword-of .ensures, c .before .before .before .before .before .before .before .before .before .before .before .before .before .enum-told2 .given .1) (c .before .before .before .before .before .before .before .before .step-form .ensures)
 
 same-length-5 : tie.Need-same-length-5
-same-length-5 c = search needs
+same-length-5 c = c .before .table2 .given
 
 returns-3 : tie.Need-returns-3
 unfolding formRead
 returns-3 c = rw (← c .before .before .before .before .before .before .before .before .before .before .atom-due .ensures, c .before .before .before .before .before .before .before .before .a .given .1, ← c .before .before .before .before .before .before .keyword-of .ensures, c .before .before .before .before .enum-told3 .given .1, ← c .before .before .result-form .ensures)
 
 same-length-6 : tie.Need-same-length-6
-same-length-6 c = search needs
+same-length-6 c = c .before .before .before .before .before .table3 .given
 
 same-length-7 : tie.Need-same-length-7
-same-length-7 c = search needs
+same-length-7 c = c .before .before .before .store2 .given
 
 same-length-8 : tie.Need-same-length-8
-same-length-8 c = search needs
+same-length-8 c = c .before .stack2 .given
 
 same-length-9 : tie.Need-same-length-9
-same-length-9 c = search needs
+same-length-9 c = refl
 
 returns-4 : tie.Need-returns-4
 unfolding formRead
