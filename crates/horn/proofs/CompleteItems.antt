@@ -9,26 +9,12 @@ use Rattle.horn.specs.Refusals.{ok}
 use Rattle.horn.specs.Utf8.{Char, char, decoded}
 use Rattle.horn.specs.Tokens.{Stream, end, bad, _▹_, before, lines, characters, Kind, blank, opens, closes, comments, ordinary, kind}
 use Rattle.horn.specs.Tokens.{Token, opening, closing, atom, Place, between, inComment, inAtom, Move, begins, continues, move, unended, tokensFrom, tokens}
-use Rattle.horn.specs.NestedLists.{Item, word, group, Items, closed, ended, badLine, _then_, Around, all, _inside_, innermost, outer, add, around, items}
-use Rattle.horn.specs.NestedLists.{Sexp, leaf, list, Sexps, []ₛ, _∷ₛ_, absent, askedAt, sexp, members, sexps}
+use Rattle.horn.specs.NestedLists.{Item, word, group, Items, closed, ended, badLine, _then_, Around, atEnd, atBadLine, _inside_, innermost, outer, add, around, items}
+use Rattle.horn.specs.NestedLists.{Sexp, leaf, list, Sexps, []ₛ, _∷ₛ_, asItem, asItems, topItems, absent, askedAt, sexp, members, sexps}
 use Rattle.horn.specs.Layout.{printedLines}
 use Rattle.horn.proofs.Inversion.{afterᵣ, not-ok, ok-equal}
 use Rattle.horn.proofs.CompleteUtf8.{All, All-append, Proper, decoded-append, decoded-proper}
 use Rattle.horn.proofs.CompleteTokens.{Ordinary, bytesOf, Word, WordsIn, leaf-word, list-words, AllWords, no-words, _and-words_, tok, toks, formTokens, tokens-printed}
-
--- A form as what stands in a text.
-unfoldable mutual
-  pub asItem : Sexp → Item
-  asItem (leaf name) = word name
-  asItem (list xs) = group (asItems xs)
-
-  pub asItems : Sexps → Items
-  asItems []ₛ = closed
-  asItems (x ∷ₛ xs) = asItem x then asItems xs
-
-unfoldable pub topItems : List Sexp → Items
-topItems [] = ended
-topItems (x ∷ xs) = asItem x then topItems xs
 
 mutual
   unfolding around add innermost outer tok asItem
@@ -161,24 +147,27 @@ mutual
 
 infixr 20 _then-words_
 data WordAround : Around → Type 0 where
-  all-words : {is : Items} → WordItems is → WordAround (all is)
+  end-words : WordAround atEnd
+  bad-words : WordAround atBadLine
   _inside-words_ : {is : Items} {a : Around} → WordItems is → WordAround a → WordAround (is inside a)
 
 infixr 20 _inside-words_
 innermost-words : {a : Around} → WordAround a → WordItems (innermost a)
 unfolding innermost
-innermost-words (all-words w) = w
+innermost-words end-words = at-ended
+innermost-words bad-words = at-bad
 innermost-words (w inside-words ws) = w
 
 outer-words : {a : Around} → WordAround a → WordAround (outer a)
 unfolding outer
-outer-words (all-words w) = all-words w
+outer-words end-words = end-words
+outer-words bad-words = bad-words
 outer-words (w inside-words ws) = ws
 
 around-words : (ts : Stream Token) → AllIn WordToken ts → WordAround (around ts)
 unfolding around add
-around-words end w = all-words at-ended
-around-words bad w = all-words at-bad
+around-words end w = end-words
+around-words bad w = bad-words
 around-words (closing ▹ ts) w = _inside-words_ at-closed (around-words ts (w .1))
 around-words (atom bs ▹ ts) w =
     let a = around-words ts (w .1) in
