@@ -1,14 +1,14 @@
 -- "Numbers of terms, symbols and steps fit 16 bits": of every theory, every store and every list of steps that arises in any
 -- run of either call, at any moment of it, whether the run is accepted or refused.
 use Prim.Native.Nat.{ℕ, _+_, _≤_, _<_, _^_}
-use mathlib.Core.Path.{_≡_, refl, sym, ap, subst}
-use mathlib.Core.Logic.{_⊎_, inl, inr}
-use mathlib.Core.Bool.{true, false, and-eq-true-iff}
-use mathlib.Core.List.{List, [], _∷_, _++_}
+use mathlib.Core.Path.{_≡_, refl, ap, subst}
+use mathlib.Core.Logic.{inl, inr}
+use mathlib.Core.Bool.{and-eq-true-iff}
+use mathlib.Core.List.{List, [], _∷_}
 use native.Mathlib.Omega.{arith}
 use lib.ListN.{length, length-append}
 use borrow.Author.Tests.{leb-true}
-use Rattle.horn.specs.Refusals.{Result, ok, refused}
+use Rattle.horn.specs.Refusals.{ok}
 use Rattle.horn.specs.Setting.{Setting, document01}
 use Rattle.horn.specs.NestedLists.{Sexp, Sexps, []ₛ, _∷ₛ_, Item, Items, closed, ended, badLine, _then_, items, sexps}
 use Rattle.horn.specs.Tokens.{tokens}

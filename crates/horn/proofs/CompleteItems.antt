@@ -4,6 +4,7 @@ use mathlib.Core.Path.{_≡_, refl, sym, ap, _∙_}
 use mathlib.Core.Bool.{Bool, true, false}
 use mathlib.Core.List.{List, [], _∷_, _++_, append-nil, append-assoc}
 use mathlib.Core.Option.{Option, none, some}
+use native.Mathlib.Omega.{arith}
 use lib.Dec.{eqb}
 use Rattle.horn.specs.Refusals.{ok}
 use Rattle.horn.specs.Utf8.{Char, char, decoded}
@@ -12,6 +13,7 @@ use Rattle.horn.specs.Tokens.{Token, opening, closing, atom, Place, betw
 use Rattle.horn.specs.NestedLists.{Item, word, group, Items, closed, ended, badLine, _then_, Around, atEnd, atBadLine, _inside_, innermost, outer, add, around, items}
 use Rattle.horn.specs.NestedLists.{Sexp, leaf, list, Sexps, []ₛ, _∷ₛ_, asItem, asItems, topItems, absent, askedAt, sexp, members, sexps}
 use Rattle.horn.specs.Layout.{printedLines}
+use Rattle.horn.proofs.Counts.{itemCount}
 use Rattle.horn.proofs.Inversion.{afterᵣ, not-ok, ok-equal}
 use Rattle.horn.proofs.CompleteUtf8.{All, All-append, Proper, decoded-append, decoded-proper}
 use Rattle.horn.proofs.CompleteTokens.{Ordinary, bytesOf, Word, WordsIn, leaf-word, list-words, AllWords, no-words, _and-words_, tok, toks, formTokens, tokens-printed}
@@ -146,6 +148,13 @@ mutual
     _then-words_ : {item : Item} {rest : Items} → WordItem item → WordItems rest → WordItems (item then rest)
 
 infixr 20 _then-words_
+no-item-words : (is : Items) → itemCount is ≡ 0 → WordItems is
+unfolding itemCount
+no-item-words closed e = at-closed
+no-item-words ended e = at-ended
+no-item-words badLine e = at-bad
+no-item-words (item then rest) e = absurd (omega arith)
+
 data WordAround : Around → Type 0 where
   end-words : WordAround atEnd
   bad-words : WordAround atBadLine
@@ -153,9 +162,9 @@ data WordAround : Around → Type 0 where
 
 infixr 20 _inside-words_
 innermost-words : {a : Around} → WordAround a → WordItems (innermost a)
-unfolding innermost
-innermost-words end-words = at-ended
-innermost-words bad-words = at-bad
+unfolding innermost itemCount
+innermost-words end-words = no-item-words (innermost atEnd) refl
+innermost-words bad-words = no-item-words (innermost atBadLine) refl
 innermost-words (w inside-words ws) = w
 
 outer-words : {a : Around} → WordAround a → WordAround (outer a)

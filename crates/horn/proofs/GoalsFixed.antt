@@ -2,16 +2,14 @@
 -- constructor and one predicate, so that a well-sorted judgment is told by its form.
 use Prim.Native.Nat.{ℕ}
 use mathlib.Core.Path.{_≡_, refl, sym, ap, ap₂, _∙_}
-use mathlib.Core.Bool.{true}
 use mathlib.Core.List.{List, [], _∷_, map, List·Memᴰ}
-use mathlib.Core.Option.{some}
 use Rattle.horn.specs.Refusals.{ok}
 use Rattle.horn.specs.Setting.{Setting}
-use Rattle.horn.specs.Names.{Name, codes, first}
+use Rattle.horn.specs.Names.{Name, first}
 use Rattle.horn.specs.NestedLists.{Item, word, group, Items, closed, ended, badLine, _then_, asItem, asItems, topItems}
 use Rattle.horn.specs.NestedLists.{Sexp, leaf, list, Sexps, []ₛ, _∷ₛ_}
-use Rattle.horn.specs.Rulebook.{Symbol, symbol, sort, judgment, Theory, theory, isConstructor, isPredicate}
-use Rattle.horn.specs.StoredTerms.{Term, node, Terms, []ₜ, _∷ₜ_, Store}
+use Rattle.horn.specs.Rulebook.{symbol, sort, judgment, Theory, theory, isConstructor, isPredicate}
+use Rattle.horn.specs.StoredTerms.{Term, node, Terms, _∷ₜ_, Store}
 use Rattle.horn.specs.Checker.{Goal, goal, goalJudgment, goalsOf}
 use Rattle.horn.specs.Written.{symbolName, constantOr, termForm, termForms, judgmentForm, goalForm}
 use Rattle.horn.specs.Forced.{Ground, ground, Grounds, none-left, and-then, WellSorted, well-sorted, Each, judgments, HasGoals}

@@ -2,15 +2,15 @@
 -- written out and well-sorted.
 use Prim.Native.Nat.{ℕ, suc, _≤_}
 use mathlib.Core.Path.{_≡_, refl, sym, ap, ap₂, subst, _∙_}
-use mathlib.Core.Bool.{true, false, not, true≢false}
+use mathlib.Core.Bool.{true, false, true≢false}
 use mathlib.Core.List.{List, [], _∷_, _++_, map, append-assoc, append-nil}
 use lib.ListN.{length}
 use Rattle.horn.specs.Refusals.{Result, ok, refused}
 use Rattle.horn.specs.Setting.{Setting}
-use Rattle.horn.specs.Names.{Name, named, codes, questioned, first}
+use Rattle.horn.specs.Names.{Name, codes, questioned, first}
 use Rattle.horn.specs.Tokens.{tokens}
 use Rattle.horn.specs.NestedLists.{Item, word, group, Items, closed, ended, badLine, _then_, items, asItem, asItems, topItems}
-use Rattle.horn.specs.Rulebook.{Symbol, symbol, sort, judgment, Theory, isConstructor, isPredicate, constructor, predicate}
+use Rattle.horn.specs.Rulebook.{Symbol, symbol, sort, judgment, Theory, isConstructor, isPredicate}
 use Rattle.horn.specs.StoredTerms.{Term, node, Terms, []ₜ, _∷ₜ_, Store}
 use Rattle.horn.specs.Checker
 use Rattle.horn.specs.Checker.{Goal, goal, goalJudgment, make, isNil, wordDue, groupDue, ask, askWord, askGroup, closingDue}

@@ -13,10 +13,10 @@ use Rattle.horn.specs.Rulebook.{symbol, judgment, Variable, variable, is
 use Rattle.horn.specs.Rulebook.{variablesOf, premisesOf, conclusionOf}
 use Rattle.horn.specs.StoredTerms.{Term, node, []ₜ, Store}
 use Rattle.horn.specs.Checker.{Def, hasSort}
-use Rattle.horn.specs.Matching.{Step, step, judgmentOf, ruleOf, Bind, bind, lookup, matchPremises}
+use Rattle.horn.specs.Matching.{Step, judgmentOf, ruleOf, Bind, bind, lookup, matchPremises}
 use Rattle.horn.specs.Certificate
 use Rattle.horn.specs.Certificate.{Given, given}
-use Rattle.horn.specs.Forced.{Ground, WellSorted, Assignment, substitute, Instance, IsInstance, premises, conclusion, Derivable}
+use Rattle.horn.specs.Forced.{Ground, WellSorted, Assignment, substitute, premises, conclusion, Derivable}
 use Rattle.horn.specs.Forced.{derive, Derivables, all-derived, derived, Concluded}
 use Rattle.horn.proofs.Equality.{both, case, named-decides, first-some}
 use Rattle.horn.proofs.Inversion.{not-ok, none-some, ok-equal, some-equal, after, given-is, was-found, afterₗ, afterNeed, afterFound, afterFoundᵣ}

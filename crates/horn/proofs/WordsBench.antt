@@ -4,11 +4,9 @@ use Prim.Native.Nat.{ℕ, _<_, _^_}
 use mathlib.Core.Path.{_≡_, refl, sym, ap, subst, _∙_}
 use mathlib.Core.List.{List, [], _∷_}
 use native.Mathlib.Omega.{arith}
-use lib.ListN.{length}
-use Rattle.horn.specs.Refusals.{ok}
 use Rattle.horn.specs.Setting.{document01}
-use Rattle.horn.specs.Names.{Name, codes}
-use Rattle.horn.specs.Tokens.{Stream, end, bad, _▹_, opening, closing, atom, tokens}
+use Rattle.horn.specs.Names.{codes}
+use Rattle.horn.specs.Tokens.{end, bad, _▹_, opening, closing, atom, tokens}
 use Rattle.horn.specs.NestedLists.{Item, word, group, Items, closed, ended, _then_, items, around, writtenOut}
 use Rattle.horn.specs.Rulebook.{Theory}
 use Rattle.horn.specs.StoredTerms.{node, []ₜ, _∷ₜ_}
@@ -20,7 +18,7 @@ use Rattle.horn.specs.Arising
 use Rattle.horn.specs.Arising.{TheoryArises, Proceeds, StoreArises, ProgressArises}
 use Rattle.horn.specs.Forced.{Accepted}
 use Rattle.horn.proofs.Run.{release}
-use Rattle.horn.proofs.Firings.{R, G, C, firings}
+use Rattle.horn.proofs.Firings.{R, G, firings}
 use Rattle.horn.proofs.Inversion.{ok-equal}
 use Rattle.horn.proofs.Cut.{cut}
 use Rattle.horn.proofs.Accepting.{gives-accepted, answer-gives, accepted-gives}

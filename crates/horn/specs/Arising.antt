@@ -21,7 +21,7 @@ pub data Declares : Theory → Sexps → Theory → Type 0 where
   one-more : {th next later : Theory} {x : Sexp} {xs : Sexps} → declaration th x ≡ ok next → Declares next xs later
       → Declares th (x ∷ₛ xs) later
 
--- A theory that arises in judging a rulebook. A longer rulebook is refused before any arises.
+-- A theory that arises in judging a rulebook, in either call. A longer rulebook is refused before any arises.
 pub record TheoryArises (limits : Setting) (rulebook : List ℕ) (th : Theory) : Type 0 where
   pub short : length rulebook ≤ limits .rulebookBytes
   pub forms : Sexps
@@ -30,7 +30,7 @@ pub record TheoryArises (limits : Setting) (rulebook : List ℕ) (th : Theory) :
 
 module _ (limits : Setting) where
   -- How a reading is put together: a value, a result that does not touch the store, a term that is stored, and one reading
-  -- after another.
+  -- after another. All reading of goals and certificate is put together so (proofs/Made).
   pub data Made : (A : Type 0) → Reading A → Type 1 where
     made-give : {A : Type 0} (a : A) → Made A (give a)
     made-lift : {A : Type 0} (r : Result A) → Made A (lift r)

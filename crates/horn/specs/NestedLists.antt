@@ -62,9 +62,9 @@ unfoldable mutual
   written badLine ts = bad
   written (item then rest) ts = writtenItem item (written rest ts)
 
--- All that stands around a reader as tokens. Of any tokens, `writtenOut (around ts) ≡ ts` (proofs/Cut): the first item, its
--- absence or its closing is the next token, what is behind it follows in order, and nothing is lost or added. So what is
--- read by items is what is read token by token.
+-- All that stands around a reader as tokens. For all tokens `writtenOut (around ts) ≡ ts` is proved (`cut` in proofs/Cut): what comes
+-- first in the items is the next token, what follows are the tokens behind it, and nothing is lost or added. So nothing that is
+-- read by items differs from reading token by token.
 unfoldable pub writtenOut : Around → Stream Token
 writtenOut atEnd = end
 writtenOut atBadLine = bad
