@@ -1,20 +1,20 @@
 -- Soundness on the bench set, with its conclusions computed: its hypothesis can be met, its goals and its steps are what
 -- they are.
 use mathlib.Core.Path.{_≡_, refl, sym, ap, subst, _∙_}
-use mathlib.Core.List.{List, [], _∷_, List·Memᴰ, List·Memᴰ·head, List·Memᴰ·tail}
+use mathlib.Core.List.{List, [], _∷_, map, List·Memᴰ, List·Memᴰ·head, List·Memᴰ·tail}
 use Rattle.horn.specs.Refusals.{ok}
 use Rattle.horn.specs.Setting.{document01}
 use Rattle.horn.specs.Names.{codes}
 use Rattle.horn.specs.Tokens.{tokens}
 use Rattle.horn.specs.NestedLists.{word, group, closed, ended, _then_, items, asItem, topItems}
-use Rattle.horn.specs.Rulebook.{Symbol, symbol, sort, judgment, variable, var, app, []ₚ, _∷ₚ_, Rule, rule, Theory, theory}
+use Rattle.horn.specs.Rulebook.{Symbol, symbol, sort, judgment, variable, var, app, []ₚ, _∷ₚ_, Rule, rule, Theory, theory, premisesOf, conclusionOf}
 use Rattle.horn.specs.StoredTerms.{Term, node, []ₜ, _∷ₜ_, Store}
 use Rattle.horn.specs.Checker.{Goal, goal, goalJudgment, goalsOf}
 use Rattle.horn.specs.Matching.{Step, step, judgmentOf, ruleOf}
 use Rattle.horn.specs.Certificate.{certificateOf}
 use Rattle.horn.specs.Calls.{releaseCall}
 use Rattle.horn.specs.Written.{symbolName, constantOr, termForm, judgmentForm, goalForm}
-use Rattle.horn.specs.Forced.{Derivable, Forced, ForcedAmongSorted, Concluded, HasGoals}
+use Rattle.horn.specs.Forced.{substitute, Instance, premises, conclusion, Derivable, Derivables, Forced, ForcedAmongSorted, Concluded, HasGoals}
 use Rattle.horn.proofs.Inversion.{ok-equal}
 use Rattle.horn.proofs.Run.{release}
 use Rattle.horn.proofs.Firings.{R, G, C}
@@ -132,3 +132,16 @@ bench-step =
     let x = release-steps document01 16_384 16_384 16_384 16_384 R G C bench-zero in
     of-run (x .run .th) (ok-equal (sym bench-gives ∙ x .run .gives)) (x .run .goals) (x .run .store) (x .run .read) (x .run .steps) (x .run .final) (x .run .taken)
     (x .each)
+
+-- Its only premise is `(hold z)`.
+of-more : (i : Instance) → i .byRule ≡ more → bench-judgment ≡ conclusion i → Derivables bench-theory (premises i)
+    → Derivables bench-theory (node hold (node z []ₜ ∷ₜ []ₜ) ∷ [])
+unfolding premises conclusion premisesOf conclusionOf substitute
+of-more i e c d =
+    let c′ : bench-judgment ≡ substitute (i .assignment) (conclusionOf more) = c ∙ ap (λ r. substitute (i .assignment) (conclusionOf r)) e in
+    let same : node z []ₜ ≡ i .assignment (codes "?x") = cc in
+    subst (λ t. Derivables bench-theory (node hold (t ∷ₜ []ₜ) ∷ [])) (sym same)
+    (subst (λ r. Derivables bench-theory (map (substitute (i .assignment)) (premisesOf r))) e d)
+
+pub bench-premises : Derivables bench-theory (node hold (node z []ₜ ∷ₜ []ₜ) ∷ [])
+bench-premises = of-more (bench-step .by) (bench-step .own) (bench-step .equal) (bench-step .from)
