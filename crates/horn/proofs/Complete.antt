@@ -19,6 +19,7 @@ use Rattle.horn.specs.Calls.{report, releaseJudged, releaseAnswer, relea
 use Rattle.horn.specs.Forced.{Instance, premises, conclusion, Each, judgments, Accepted, ReadWithoutRefusal, HasGoals}
 use Rattle.horn.specs.Layout
 use Rattle.horn.specs.Layout.{stepForms, forms, laidOut, height, depth, subterms, allSubterms, distinct, spread, WithinLimits, Supported, none-left, and-then, Proves}
+use Rattle.horn.specs.Demand3.{Complete}
 use Rattle.horn.proofs.Inversion.{onᵣ, on, need-on}
 use Rattle.horn.proofs.Accepting.{areas-long, accepted-gives}
 use Rattle.horn.proofs.GoalsWritten.{read-has, reading-gives}
@@ -208,3 +209,11 @@ complete-01 a b c d rulebook text is acc e r has p w =
   where
     short : document01 .certificateBytes ≤ 2 ^ 64
     short = unfold document01 in omega arith
+
+-- The same as a call's contract says it.
+pub laid-out-accepted : (a b c d : ℕ) (rulebook text certificate : List ℕ)
+    → Complete document01 a b c d rulebook text certificate (releaseCall document01 a b c d rulebook text certificate)
+laid-out-accepted a b c d rulebook text certificate =
+    record {
+      accepts = λ th goals is acc e r has p w same. rw same (complete-01 a b c d rulebook text is acc e r has p w);
+    }

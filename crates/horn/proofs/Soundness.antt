@@ -16,6 +16,7 @@ use Rattle.horn.specs.Matching.{Step}
 use Rattle.horn.specs.Certificate.{certificateOf}
 use Rattle.horn.specs.Calls.{Report, report, releaseJudged, releaseAnswer, releaseCall}
 use Rattle.horn.specs.Forced.{WellSorted, Derivable, Forced, ForcedAmongSorted, IsClosed, Accepted, ReadWithoutRefusal, HasGoals}
+use Rattle.horn.specs.Demand3.{Established, Sound}
 use Rattle.horn.proofs.Inversion.{ok-equal, afterᵣ, afterNeedᵣ}
 use Rattle.horn.proofs.Limits.{number-positive}
 use Rattle.horn.proofs.Accepting.{gives-accepted}
@@ -24,18 +25,6 @@ use Rattle.horn.proofs.SoundnessRulebook.{theory-formed}
 use Rattle.horn.proofs.SoundnessReading.{goals-read}
 use Rattle.horn.proofs.SoundnessCertificate.{certificate-sound}
 use Rattle.horn.proofs.GoalsWritten.{read-has, given-reading}
-
--- What is said of a rulebook and a goals text: the rulebook is accepted and gives a theory; the goals text is read without
--- refusal and has goals, at least one, and each goal's judgment is such as is said.
-pub record Established {ℓ} (limits : Setting) (rulebook text : List ℕ) (Said : Theory → Term → Type ℓ) : Type ℓ where
-  pub th : Theory
-  pub gives : theory rulebook ≡ ok th
-  pub accepted : Accepted limits rulebook
-  pub read : ReadWithoutRefusal limits th text
-  pub goals : List Goal
-  pub has : HasGoals th text goals
-  pub some-goal : 1 ≤ length goals
-  pub each : (g : Goal) → List·Memᴰ g goals → Said th (goalJudgment g)
 
 -- What an accepted release has met on its way.
 pub record AcceptedRun (limits : Setting) (rulebook text certificate : List ℕ) (answer : Report) : Type 0 where
@@ -104,6 +93,10 @@ soundness limits a b c d rulebook text certificate zero-number =
       some-goal = not-empty (x .goals) some;
       each = certificate-sound limits (x .th) (theory-formed rulebook (x .gives)) (x .goals) certificate (x .store) one (x .taken);
     }
+
+-- The same as a call's contract says it.
+pub sound : (limits : Setting) (a b c d : ℕ) (rulebook text certificate : List ℕ) → Sound limits rulebook text (releaseCall limits a b c d rulebook text certificate)
+sound limits a b c d rulebook text certificate = record { established = soundness limits a b c d rulebook text certificate }
 
 -- What is said may be weakened.
 pub established-by {ℓ κ} : {limits : Setting} {rulebook text : List ℕ} {Said : Theory → Term → Type ℓ} {Less : Theory → Term → Type κ}

@@ -19,7 +19,8 @@ use Rattle.horn.proofs.Inversion.{ok-equal}
 use Rattle.horn.proofs.Run.{release}
 use Rattle.horn.proofs.Firings.{R, G, C}
 use Rattle.horn.proofs.GoalsFixed.{read-exactly}
-use Rattle.horn.proofs.Soundness.{Established, soundness, soundness-forced, soundness-among-sorted}
+use Rattle.horn.specs.Demand3.{Established}
+use Rattle.horn.proofs.Soundness.{soundness, soundness-forced, soundness-among-sorted}
 use Rattle.horn.proofs.SoundnessOfSteps.{release-steps}
 
 abbrev pub z : Symbol

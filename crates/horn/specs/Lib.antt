@@ -14,3 +14,4 @@ pub mod Written
 pub mod Arising
 pub mod Forced
 pub mod Layout
+pub mod Demand3
