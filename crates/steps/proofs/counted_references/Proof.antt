@@ -18,7 +18,7 @@ numbered-refusal-requires : tie.Need-numbered-refusal-requires
 numbered-refusal-requires c κs = search needs
 
 same-length : tie.Need-same-length
-same-length c = search needs
+same-length c = c .before .before .before .before .stack .given
 
 returns : tie.Need-returns
 unfolding countedReferences
@@ -28,14 +28,14 @@ premise-count-requires : tie.Need-premise-count-requires
 premise-count-requires c κs = search needs
 
 same-length-2 : tie.Need-same-length-2
-same-length-2 c = search needs
+same-length-2 c = c .before .before .before .before .before .before .stack .given
 
 returns-2 : tie.Need-returns-2
 unfolding countedReferences
 returns-2 c = rw (← c .before .before .before .before .before .before .before .references .ensures, c .before .before .before .a .given .1, ← c .before .premise-count .ensures, ne-eqb _ _ (c .if1 .taken))
 
 same-length-3 : tie.Need-same-length-3
-same-length-3 c = search needs
+same-length-3 c = c .before .before .before .before .before .before .stack .given
 
 returns-3 : tie.Need-returns-3
 unfolding countedReferences

@@ -40,13 +40,13 @@ headed-item-requires : tie.Need-headed-item-requires
 headed-item-requires c κs = search needs
 
 same-length : tie.Need-same-length
-same-length c = search needs
+same-length c = c .before .before .before .before .before .store .given
 
 same-length-2 : tie.Need-same-length-2
-same-length-2 c = search needs
+same-length-2 c = c .before .before .before .stack .given
 
 same-length-3 : tie.Need-same-length-3
-same-length-3 c = search needs
+same-length-3 c = c .before .heap .given
 
 returns-3 : tie.Need-returns-3
 unfolding item

@@ -20,7 +20,7 @@ add-fuel : tie.Need-add-fuel Inv-loop μ-loop
 add-fuel c = search needs
 
 loop-holds : tie.Need-loop-holds Inv-loop μ-loop
-loop-holds c = (refl, search needs)
+loop-holds c = (refl, refl)
 
 closing-next-requires : tie.Need-closing-next-requires Inv-loop μ-loop
 closing-next-requires c κs = search needs
@@ -29,7 +29,7 @@ enum-known-next : tie.Need-enum-known-next Inv-loop μ-loop
 enum-known-next c = search needs
 
 same-length : tie.Need-same-length Inv-loop μ-loop
-same-length c = search needs
+same-length c = c .before .before .before .before .before .loop .inv .1
 
 returns : tie.Need-returns Inv-loop μ-loop
 unfolding references
@@ -39,7 +39,7 @@ enum-known-next-2 : tie.Need-enum-known-next-2 Inv-loop μ-loop
 enum-known-next-2 c = search needs
 
 same-length-2 : tie.Need-same-length-2 Inv-loop μ-loop
-same-length-2 c = search needs
+same-length-2 c = c .before .before .before .before .before .loop .inv .1
 
 returns-2 : tie.Need-returns-2 Inv-loop μ-loop
 unfolding references
@@ -61,7 +61,7 @@ indexed-refusal-requires : tie.Need-indexed-refusal-requires Inv-loop μ-loop
 indexed-refusal-requires c κs = search needs
 
 same-length-3 : tie.Need-same-length-3 Inv-loop μ-loop
-same-length-3 c = search needs
+same-length-3 c = c .before .before .before .before .before .before .before .before .before .loop .inv .1
 
 returns-3 : tie.Need-returns-3 Inv-loop μ-loop
 unfolding references
@@ -80,10 +80,10 @@ loop-less : tie.Need-loop-less Inv-loop μ-loop
 loop-less c = search needs
 
 loop-again : tie.Need-loop-again Inv-loop μ-loop
-loop-again c = (c .before .before .before .before .before .before .before .before .before .before .before .before .before .before .loop .inv .0 ∙ references-on _ _ _ _ _ (c .before .before .before .before .before .before .before .before .before .before .before .before .before .loop-test .taken) (sym (c .before .before .before .before .before .before .before .before .before .before .before .before .closing-next .ensures) ∙ ap looked (c .before .before .before .before .before .before .before .before .before .before .next3 .given .1)) (sym (c .before .before .before .before .before .before .before .before .number-due .ensures) ∙ ap indexed (c .before .before .before .before .before .before .a .given .1)) (c .before .before .before .saturate .ensures) (c .before .before .push .ensures .0) (c .before .before .push .ensures .1), search needs)
+loop-again c = (c .before .before .before .before .before .before .before .before .before .before .before .before .before .before .loop .inv .0 ∙ references-on _ _ _ _ _ (c .before .before .before .before .before .before .before .before .before .before .before .before .before .loop-test .taken) (sym (c .before .before .before .before .before .before .before .before .before .before .before .before .closing-next .ensures) ∙ ap looked (c .before .before .before .before .before .before .before .before .before .before .next3 .given .1)) (sym (c .before .before .before .before .before .before .before .before .number-due .ensures) ∙ ap indexed (c .before .before .before .before .before .before .a .given .1)) (c .before .before .before .saturate .ensures) (c .before .before .push .ensures .0) (c .before .before .push .ensures .1), c .before .stack .given ∙ c .before .before .before .before .before .before .before .before .before .before .before .before .before .before .loop .inv .1)
 
 same-length-4 : tie.Need-same-length-4 Inv-loop μ-loop
-same-length-4 c = search needs
+same-length-4 c = c .before .loop .inv .1
 
 returns-4 : tie.Need-returns-4 Inv-loop μ-loop
 unfolding references

@@ -18,20 +18,20 @@ numbered-refusal-requires : tie.Need-numbered-refusal-requires
 numbered-refusal-requires c κs = search needs
 
 same-length : tie.Need-same-length
-same-length c = search needs
+same-length c = c .before .before .before .before .before .before .store .given
 
 same-length-2 : tie.Need-same-length-2
-same-length-2 c = search needs
+same-length-2 c = c .before .before .before .before .stack .given
 
 returns : tie.Need-returns
 unfolding stated
 returns c = rw (← c .before .before .before .before .before .before .before .headed-judgment .ensures, c .numbered-refusal .ensures, c .before .enum-told .given .1)
 
 same-length-3 : tie.Need-same-length-3
-same-length-3 c = search needs
+same-length-3 c = c .before .before .before .before .before .before .before .store .given
 
 same-length-4 : tie.Need-same-length-4
-same-length-4 c = search needs
+same-length-4 c = c .before .before .before .before .before .stack .given
 
 returns-2 : tie.Need-returns-2
 unfolding stated
@@ -41,10 +41,10 @@ plus-requires : tie.Need-plus-requires
 plus-requires c κs = search needs
 
 same-length-5 : tie.Need-same-length-5
-same-length-5 c = search needs
+same-length-5 c = c .before .before .before .before .before .before .before .before .store .given
 
 same-length-6 : tie.Need-same-length-6
-same-length-6 c = search needs
+same-length-6 c = c .before .before .before .before .before .before .stack .given
 
 returns-3 : tie.Need-returns-3
 unfolding stated

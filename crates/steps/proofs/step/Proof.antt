@@ -1,4 +1,5 @@
 -- `steps::step` meets its contract. Assumes nothing.
+use mathlib.Core.Path.{refl, _∙_}
 use Rattle.steps.specs.Steps.{step}
 use borrow.Author.Needs.{needs}
 use Rattle.steps.proofs.step.Statement.{statement}
@@ -17,7 +18,7 @@ numbered-refusal-requires : tie.Need-numbered-refusal-requires
 numbered-refusal-requires c κs = search needs
 
 same-length : tie.Need-same-length
-same-length c = search needs
+same-length c = refl
 
 returns : tie.Need-returns
 unfolding step
@@ -36,10 +37,10 @@ numbered-refusal-requires-2 : tie.Need-numbered-refusal-requires-2
 numbered-refusal-requires-2 c κs = search needs
 
 same-length-2 : tie.Need-same-length-2
-same-length-2 c = search needs
+same-length-2 c = c .before .before .before .before .stack .given
 
 same-length-3 : tie.Need-same-length-3
-same-length-3 c = search needs
+same-length-3 c = refl
 
 returns-2 : tie.Need-returns-2
 unfolding step
@@ -58,26 +59,26 @@ numbered-refusal-requires-3 : tie.Need-numbered-refusal-requires-3
 numbered-refusal-requires-3 c κs = search needs
 
 same-length-4 : tie.Need-same-length-4
-same-length-4 c = search needs
+same-length-4 c = c .before .before .before .before .before .before .before .before .store .given
 
 same-length-5 : tie.Need-same-length-5
-same-length-5 c = search needs
+same-length-5 c = c .before .before .before .before .before .before .stack2 .given ∙ c .before .before .before .before .before .before .before .before .before .before .before .before .before .before .before .before .before .stack .given
 
 same-length-6 : tie.Need-same-length-6
-same-length-6 c = search needs
+same-length-6 c = c .before .before .before .before .heap .given
 
 returns-3 : tie.Need-returns-3
 unfolding step
 returns-3 c = rw (← c .before .before .before .before .before .before .before .before .before .before .before .before .before .before .before .before .before .before .before .before .before .before .before .before .rule-due .ensures, c .before .before .before .before .before .before .before .before .before .before .before .before .before .before .before .before .before .before .before .before .before .before .h .given .1, ← c .before .before .before .before .before .before .before .before .before .before .before .before .before .before .before .before .before .before .counted-references .ensures, c .before .before .before .before .before .before .before .before .before .before .before .before .before .before .c .given .1, ← c .before .before .before .before .before .before .before .before .before .items-judged .ensures, c .numbered-refusal3 .ensures, c .before .enum-told3 .given .1)
 
 same-length-7 : tie.Need-same-length-7
-same-length-7 c = search needs
+same-length-7 c = c .before .before .before .before .before .before .before .before .store .given
 
 same-length-8 : tie.Need-same-length-8
-same-length-8 c = search needs
+same-length-8 c = c .before .before .before .before .before .before .stack2 .given ∙ c .before .before .before .before .before .before .before .before .before .before .before .before .before .before .before .before .before .stack .given
 
 same-length-9 : tie.Need-same-length-9
-same-length-9 c = search needs
+same-length-9 c = c .before .before .before .before .heap .given
 
 returns-4 : tie.Need-returns-4
 unfolding step
