@@ -8,13 +8,13 @@ use Rattle.steps.proofs.binding.Statement.{statement}
 use Rattle.steps.proofs.binding.Tie as tie
 
 find-variable-requires : tie.Need-find-variable-requires
-find-variable-requires c κs = search needs
+find-variable-requires c κs = tt
 
 enum-known-found : tie.Need-enum-known-found
-enum-known-found c = search needs
+enum-known-found c = c .match .keys1
 
 enum-told : tie.Need-enum-told
-enum-told c = search needs
+enum-told c = c .match .keys2
 
 same-length : tie.Need-same-length
 same-length c = refl
@@ -24,16 +24,16 @@ unfolding binding bindingOf
 returns c = rw (← c .before .before .find-variable .ensures, c .enum-told .given .1)
 
 term-requires : tie.Need-term-requires
-term-requires c κs = search needs
+term-requires c κs = tt
 
 enum-known-a : tie.Need-enum-known-a
-enum-known-a c = search needs
+enum-known-a c = c .match2 .keys1
 
 enum-told-2 : tie.Need-enum-told-2
-enum-told-2 c = search needs
+enum-told-2 c = c .match2 .keys2
 
 numbered-refusal-requires : tie.Need-numbered-refusal-requires
-numbered-refusal-requires c κs = search needs
+numbered-refusal-requires c κs = tt
 
 same-length-2 : tie.Need-same-length-2
 same-length-2 c = c .before .before .before .before .before .before .store .given
@@ -49,16 +49,16 @@ unfolding binding bindingOf
 returns-2 c = rw (← c .before .before .before .before .before .before .before .before .before .before .before .before .before .before .find-variable .ensures, c .before .before .before .before .before .before .before .before .before .before .before .before .found .given .1, ← c .before .before .before .before .before .before .before .term .ensures, c .numbered-refusal .ensures, c .before .enum-told2 .given .1)
 
 closing-due-requires : tie.Need-closing-due-requires
-closing-due-requires c κs = search needs
+closing-due-requires c κs = tt
 
 enum-known-c : tie.Need-enum-known-c
-enum-known-c c = search needs
+enum-known-c c = c .match3 .keys1
 
 enum-told-3 : tie.Need-enum-told-3
-enum-told-3 c = search needs
+enum-told-3 c = c .match3 .keys2
 
 passed-refusal-requires : tie.Need-passed-refusal-requires
-passed-refusal-requires c κs = search needs
+passed-refusal-requires c κs = tt
 
 same-length-5 : tie.Need-same-length-5
 same-length-5 c = c .before .before .before .before .before .before .before .before .before .before .store .given
@@ -80,7 +80,7 @@ add-at : tie.Need-add-at
 add-at c = search needs
 
 at-requires : tie.Need-at-requires
-at-requires c κs = search needs
+at-requires c κs = tt
 
 same-length-8 : tie.Need-same-length-8
 same-length-8 c = c .before .before .before .before .before .before .before .before .before .before .before .before .before .store .given
@@ -96,10 +96,10 @@ unfolding binding bindingOf
 returns-4 c = rw (← c .before .before .before .before .before .before .before .before .before .before .before .before .before .before .before .before .before .before .before .before .before .find-variable .ensures, c .before .before .before .before .before .before .before .before .before .before .before .before .before .before .before .before .before .before .before .found .given .1, ← c .before .before .before .before .before .before .before .before .before .before .before .before .before .before .term .ensures, c .before .before .before .before .before .before .before .before .a .given .1, ← c .before .before .before .before .before .before .closing-due .ensures, c .before .before .before .before .c .given .1, ← c .before .at .ensures, ne-eqb _ _ (c .if1 .taken))
 
 sort-of-requires : tie.Need-sort-of-requires
-sort-of-requires c κs = search needs
+sort-of-requires c κs = tt
 
 variable-sort-requires : tie.Need-variable-sort-requires
-variable-sort-requires c κs = search needs
+variable-sort-requires c κs = tt
 
 same-length-11 : tie.Need-same-length-11
 same-length-11 c = c .before .before .before .before .before .before .before .before .before .before .before .before .before .before .before .before .before .before .before .store .given
@@ -115,10 +115,10 @@ unfolding binding bindingOf
 returns-5 c = rw (← c .before .before .before .before .before .before .before .before .before .before .before .before .before .before .before .before .before .before .before .before .before .before .before .before .before .before .before .find-variable .ensures, c .before .before .before .before .before .before .before .before .before .before .before .before .before .before .before .before .before .before .before .before .before .before .before .before .before .found .given .1, ← c .before .before .before .before .before .before .before .before .before .before .before .before .before .before .before .before .before .before .before .before .term .ensures, c .before .before .before .before .before .before .before .before .before .before .before .before .before .before .a .given .1, ← c .before .before .before .before .before .before .before .before .before .before .before .before .closing-due .ensures, c .before .before .before .before .before .before .before .before .before .before .c .given .1, ← c .before .before .before .before .before .before .before .at .ensures, eq-eqb _ _ (c .before .before .before .before .before .before .if1 .left), ← c .before .before .before .sort-of .ensures, ← c .before .variable-sort .ensures, ne-eqb _ _ (c .if2 .taken))
 
 plus-requires : tie.Need-plus-requires
-plus-requires c κs = search needs
+plus-requires c κs = tt
 
 set-binding-requires : tie.Need-set-binding-requires
-set-binding-requires c κs = search needs
+set-binding-requires c κs = tt
 
 same-length-14 : tie.Need-same-length-14
 same-length-14 c = c .before .before .before .before .before .before .before .before .before .before .before .before .before .before .before .before .before .before .before .before .before .before .before .before .store .given

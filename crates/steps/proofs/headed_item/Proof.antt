@@ -1,24 +1,23 @@
 -- `steps::headed_item` meets its contract. Assumes nothing.
 use mathlib.Core.Path.{refl}
 use Rattle.steps.specs.Steps.{headedItem}
-use borrow.Author.Needs.{needs}
 use Rattle.steps.proofs.headed_item.Statement.{statement}
 use Rattle.steps.proofs.headed_item.Tie as tie
 
 is-question-requires : tie.Need-is-question-requires
-is-question-requires c κs = search needs
+is-question-requires c κs = tt
 
 binding-requires : tie.Need-binding-requires
-binding-requires c κs = search needs
+binding-requires c κs = tt
 
 enum-known-b : tie.Need-enum-known-b
-enum-known-b c = search needs
+enum-known-b c = c .match .keys1
 
 enum-told : tie.Need-enum-told
-enum-told c = search needs
+enum-told c = c .match .keys2
 
 passed-refusal-requires : tie.Need-passed-refusal-requires
-passed-refusal-requires c κs = search needs
+passed-refusal-requires c κs = tt
 
 same-length : tie.Need-same-length
 same-length c = c .before .before .before .before .before .before .before .before .store .given
@@ -47,7 +46,7 @@ unfolding headedItem
 returns-2 c = rw (← c .before .before .before .before .before .before .before .before .before .before .before .before .before .before .is-question .ensures, c .before .before .before .before .before .before .before .before .before .before .before .before .before .if1 .taken, ← c .before .before .before .before .before .before .before .before .before .binding .ensures, c .before .b .given .1)
 
 stated-requires : tie.Need-stated-requires
-stated-requires c κs = search needs
+stated-requires c κs = tt
 
 same-length-7 : tie.Need-same-length-7
 same-length-7 c = c .before .before .before .store2 .given

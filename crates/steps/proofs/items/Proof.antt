@@ -25,10 +25,10 @@ loop-holds : tie.Need-loop-holds Inv-loop μ-loop
 loop-holds c = (refl, refl, refl, refl)
 
 closing-next-requires : tie.Need-closing-next-requires Inv-loop μ-loop
-closing-next-requires c κs = search needs
+closing-next-requires c κs = tt
 
 enum-known-next : tie.Need-enum-known-next Inv-loop μ-loop
-enum-known-next c = search needs
+enum-known-next c = c .match .keys1
 
 same-length : tie.Need-same-length Inv-loop μ-loop
 same-length c = c .before .before .before .before .before .loop .inv .1
@@ -44,7 +44,7 @@ unfolding items
 returns c = sym (c .before .before .before .before .before .loop .inv .0 ∙ items-bad _ _ _ _ _ _ _ _ _ _ _ (c .before .before .before .before .loop-test .taken) (rw (← c .before .before .before .closing-next .ensures, c .before .next .given .1)))
 
 enum-known-next-2 : tie.Need-enum-known-next-2 Inv-loop μ-loop
-enum-known-next-2 c = search needs
+enum-known-next-2 c = c .match .keys2
 
 same-length-4 : tie.Need-same-length-4 Inv-loop μ-loop
 same-length-4 c = c .before .before .before .before .before .loop .inv .1
@@ -60,19 +60,19 @@ unfolding items
 returns-2 c = sym (c .before .before .before .before .before .loop .inv .0 ∙ items-closed _ _ _ _ _ _ _ _ _ _ _ (c .before .before .before .before .loop-test .taken) (rw (← c .before .before .before .closing-next .ensures, c .before .next2 .given .1)))
 
 enum-known-next-3 : tie.Need-enum-known-next-3 Inv-loop μ-loop
-enum-known-next-3 c = search needs
+enum-known-next-3 c = c .match .keys3
 
 item-requires : tie.Need-item-requires Inv-loop μ-loop
-item-requires c κs = search needs
+item-requires c κs = tt
 
 enum-known-a : tie.Need-enum-known-a Inv-loop μ-loop
-enum-known-a c = search needs
+enum-known-a c = c .match2 .keys1
 
 enum-told : tie.Need-enum-told Inv-loop μ-loop
-enum-told c = search needs
+enum-told c = c .match2 .keys2
 
 numbered-refusal-requires : tie.Need-numbered-refusal-requires Inv-loop μ-loop
-numbered-refusal-requires c κs = search needs
+numbered-refusal-requires c κs = tt
 
 same-length-7 : tie.Need-same-length-7 Inv-loop μ-loop
 same-length-7 c = c .before .before .before .before .before .before .before .before .store .given ∙ c .before .before .before .before .before .before .before .before .before .before .before .before .before .before .before .before .before .before .loop .inv .1

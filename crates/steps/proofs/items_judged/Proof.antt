@@ -1,27 +1,26 @@
 -- `steps::items_judged` meets its contract. Assumes nothing.
 use mathlib.Core.Path.{_∙_}
 use Rattle.steps.specs.Steps.{itemsJudged}
-use borrow.Author.Needs.{needs}
 use Rattle.steps.proofs.items_judged.Statement.{statement}
 use Rattle.steps.proofs.items_judged.Tie as tie
 
 variable-count-requires : tie.Need-variable-count-requires
-variable-count-requires c κs = search needs
+variable-count-requires c κs = tt
 
 unbind-requires : tie.Need-unbind-requires
-unbind-requires c κs = search needs
+unbind-requires c κs = tt
 
 items-requires : tie.Need-items-requires
-items-requires c κs = search needs
+items-requires c κs = tt
 
 enum-known-i : tie.Need-enum-known-i
-enum-known-i c = search needs
+enum-known-i c = c .match .keys1
 
 enum-told : tie.Need-enum-told
-enum-told c = search needs
+enum-told c = c .match .keys2
 
 numbered-refusal-requires : tie.Need-numbered-refusal-requires
-numbered-refusal-requires c κs = search needs
+numbered-refusal-requires c κs = tt
 
 same-length : tie.Need-same-length
 same-length c = c .before .before .before .before .before .before .before .before .store .given
@@ -37,13 +36,13 @@ unfolding itemsJudged
 returns c = rw (← c .before .before .before .before .before .before .before .before .before .before .before .before .before .before .before .before .before .variable-count .ensures, ← c .before .before .before .before .before .before .before .before .before .before .before .before .before .before .before .unbind .ensures, ← c .before .before .before .before .before .before .before .before .before .items .ensures, c .numbered-refusal .ensures, c .before .enum-told .given .1)
 
 conclude-requires : tie.Need-conclude-requires
-conclude-requires c κs = search needs
+conclude-requires c κs = tt
 
 enum-known-c : tie.Need-enum-known-c
-enum-known-c c = search needs
+enum-known-c c = c .match2 .keys1
 
 enum-known-c-2 : tie.Need-enum-known-c-2
-enum-known-c-2 c = search needs
+enum-known-c-2 c = c .match2 .keys2
 
 same-length-4 : tie.Need-same-length-4
 same-length-4 c = c .before .before .before .before .before .before .before .before .store2 .given ∙ c .before .before .before .before .before .before .before .before .before .before .before .before .before .before .before .before .before .before .before .before .before .store .given
