@@ -28,34 +28,6 @@ use Rattle.asking_laws.proofs.Asking.{WordMet, word-met, word-law}
 use Rattle.asking.specs.Asking.{atomDue}
 use Rattle.certificates.specs.Certificates.{defNamed}
 
--- A test.
-pub tested : (b : Bool) {b′ : Bool} (n : ℕ) (r : Refusal) → b ≡ b′ → n ≡ number r
-    → Answers (λ (x y : Unit {0}). b′ ≡ true) (outcomes.need b n) (refusals.need b′ r)
-unfolding refusals.need
-tested true {b′ = true} n r e q = both-ok refl
-tested false {b′ = false} n r e q = both-refuse q
-tested true {b′ = false} n r e q = absurd (true≢false e)
-tested false {b′ = true} n r e q = absurd (true≢false (sym e))
-
--- What leaves some areas, with another behind them, and what follows.
-pub bind-before : {P S A B C D : Type 0} {Q : A → P → B → Type 0} {R : C → P × S → D → Type 0} {m : Did P A} {m′ : Result B} (s : S)
-    (f : A × (P × S) → Did (P × S) C) (f′ : B → Result D)
-    → Simulates Q m m′
-    → ((a : A) (p : P) (b : B) → Q a p b → Simulates R (f (a, (p, s))) (f′ b))
-    → Simulates R (leaving._>>=_ (storing.before s m) f) (refusals._>>=_ m′ f′)
-unfolding refusals._>>=_
-bind-before s f f′ (refuse e) k = refuse e
-bind-before s f f′ (leave q) k = k _ _ _ q
-
--- The same where the definition has its value already.
-pub giving-before : {P S A B C : Type 0} {Q : A → P → B → Type 0} {R : C → P × S → B → Type 0} {m : Did P A} {m′ : Result B} (s : S)
-    (f : A × (P × S) → Did (P × S) C)
-    → Simulates Q m m′
-    → ((a : A) (p : P) (b : B) → Q a p b → Simulates R (f (a, (p, s))) (refusals.ok b))
-    → Simulates R (leaving._>>=_ (storing.before s m) f) m′
-giving-before s f (refuse e) k = refuse e
-giving-before s f (leave q) k = k _ _ _ q
-
 -- What was asked for and tested at once, where the definition does one after the other.
 pub lifted-tested : {S A B C D : Type 0} {Q : A → B → Type 0} {R : C → S → D → Type 0} {o : Outcome A} {s : S} (ts : List Term) (m : Result B) (g : B → Bool) (r : Refusal)
     (f : A × S → Did S C) (f′ : B → List Term → Result D)

@@ -17,7 +17,7 @@ use Rattle.horn.specs.Checker.{Goal, Def, def, isDef, askWord}
 use Rattle.horn.specs.Matching.{Step}
 use Rattle.horn.specs.Certificate as definition
 use Rattle.horn.specs.Certificate.{Progress}
-use Rattle.horn.proofs.Equality.{not-true}
+use borrow.Author.Tests.{not-true}
 use Rattle.words.specs.Parts.{part}
 use Rattle.lex.specs.declared.Reader.{Reader}
 use Rattle.names.specs.Tables.{present}
@@ -38,7 +38,8 @@ use Rattle.asking_laws.proofs.Asking.{closing-law}
 use Rattle.terms_laws.proofs.Judgments.{lifted, AskedRead}
 use Rattle.terms_laws.proofs.Whole.{certificate-term}
 use Rattle.certificates.specs.Certificates as walk
-use Rattle.certificates_laws.proofs.Asked.{tested, bind-before, lifted-tested, def-named}
+use Rattle.terms_laws.proofs.Following.{tested, bind-before}
+use Rattle.certificates_laws.proofs.Asked.{lifted-tested, def-named}
 use Rattle.certificates_laws.proofs.Standing.{SoFar, Standing, StepRecorded, between-longer}
 
 -- The progress with one abbreviation more.

@@ -21,7 +21,7 @@ use Rattle.asking_laws.proofs.Places.{Left, Any}
 use Rattle.steps.specs.Steps as steps
 use Rattle.steps_laws.proofs.Whole.{StepRead}
 use Rattle.certificates.specs.Certificates as walk
-use Rattle.certificates_laws.proofs.Asked.{giving-before}
+use Rattle.terms_laws.proofs.Following.{giving-before}
 use Rattle.certificates_laws.proofs.Standing.{SoFar, Standing, StepRecorded, between-longer}
 
 module _ {rules heap : List ℕ} {es : Entries} {bound : ℕ} {th : Theory} (goalsText certificate : List ℕ) {goals : List Goal} {tally : Tally} (now : Progress)

@@ -36,7 +36,8 @@ use Rattle.asking_laws.proofs.Asking.{closing-law}
 use Rattle.terms_laws.proofs.Judgments.{lifted}
 use Rattle.steps_laws.proofs.Numbers.{number-law}
 use Rattle.certificates.specs.Certificates as walk
-use Rattle.certificates_laws.proofs.Asked.{tested, member-law}
+use Rattle.terms_laws.proofs.Following.{tested}
+use Rattle.certificates_laws.proofs.Asked.{member-law}
 use Rattle.certificates_laws.proofs.Standing.{SoFar, Standing, StepRecorded}
 
 -- The progress with a goal closed.

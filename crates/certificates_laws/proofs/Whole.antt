@@ -30,7 +30,7 @@ use Rattle.asking_laws.proofs.Places.{at-start}
 use Rattle.terms_laws.proofs.Judgments.{lifted}
 use Rattle.certificates.specs.Certificates as walk
 use Rattle.certificates.specs.Certificates.{AllAreas}
-use Rattle.certificates_laws.proofs.Asked.{tested}
+use Rattle.terms_laws.proofs.Following.{tested}
 use Rattle.certificates_laws.proofs.Standing.{StepRecorded}
 use Rattle.certificates_laws.proofs.Forms.{forms-law}
 

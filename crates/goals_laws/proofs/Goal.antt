@@ -29,12 +29,13 @@ use Rattle.tables.proofs.Laws.{known-goal}
 use Rattle.tables.proofs.Phases.{gathering-more, next-goal}
 use Rattle.asking_laws.proofs.Places.{Left, At, at-less}
 use Rattle.asking_laws.proofs.Asking.{closing-law}
-use Rattle.terms.proofs.Turns.{not-true}
+use borrow.Author.Tests.{not-true}
 use Rattle.terms_laws.proofs.Judgments.{lifted, AskedRead}
 use Rattle.terms_laws.proofs.Whole.{goal-judgment}
 use Rattle.goals.specs.Goals as walk
 use Rattle.goals.specs.Goals.{Gathered}
-use Rattle.goals_laws.proofs.Following.{tested, first-of, word-first, bind-before}
+use Rattle.terms_laws.proofs.Following.{tested, bind-before, first-of}
+use Rattle.goals_laws.proofs.Following.{word-first}
 
 -- A goal was read: the reader stands behind it, the store and the table hold what the definition has, the stack is as long as before.
 pub record GoalRead (es : Entries) (th : Theory) (goalsText certificate : List ℕ) (Recorded : List Term → ℕ → ℕ → ℕ → Step → Type 0)

@@ -39,7 +39,7 @@ use Rattle.asking_laws.proofs.Asking.{FormMet, form-over, form-bad, form-closin
 use Rattle.terms_laws.proofs.Judgments.{lifted}
 use Rattle.goals.specs.Goals as walk
 use Rattle.goals.specs.Goals.{Gathered}
-use Rattle.goals_laws.proofs.Following.{tested}
+use Rattle.terms_laws.proofs.Following.{tested}
 use Rattle.goals_laws.proofs.Goal.{goal-law}
 
 -- The goals were read: the store and the table hold what the definition has, the stack is as long as before.

@@ -2,7 +2,7 @@
 use Prim.Native.Nat.{ℕ, _≤_, _<_}
 use mathlib.Core.Path.{_≡_, refl, sym, ap, _∙_}
 use mathlib.Core.Logic.{_≢_}
-use mathlib.Core.Bool.{Bool, true, false, not, true≢false}
+use mathlib.Core.Bool.{true, false}
 use mathlib.Core.List.{List, [], _∷_, _++_}
 use lib.Dec.{leb}
 use lib.ListN.{length, take, drop, replicate}
@@ -14,10 +14,6 @@ use Rattle.horn.specs.Calls.{areasLong, areaAfter, called, leaving}
 use Rattle.horn.proofs.Equality.{case, both}
 use Rattle.words.specs.Parts.{cleared}
 use Rattle.kernel.specs.Lengths.{longEnough}
-
-pub not-false : (b : Bool) → not b ≡ false → b ≡ true
-not-false true e = refl
-not-false false e = absurd (true≢false e)
 
 -- Four tests with one refusal are one.
 pub areas-long : (a b c d : ℕ) → areasLong document01 a b c d ≡ need (longEnough a b c d) areaShort

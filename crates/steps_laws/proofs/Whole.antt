@@ -48,6 +48,7 @@ use Rattle.matching_laws.proofs.Bindings.{binds-none, keeps-unbound}
 use Rattle.matching_laws.proofs.Formed.{RuleReady}
 use Rattle.matching_laws.proofs.Starting.{named-ready}
 use Rattle.matching_laws.proofs.Whole.{step-judged}
+use Rattle.terms_laws.proofs.Following.{tested, first-of}
 use Rattle.steps.specs.Steps as walk
 use Rattle.steps.specs.Steps.{Worked}
 use Rattle.steps_laws.proofs.Numbers.{number-law}
@@ -79,23 +80,6 @@ module _ {text : List ℕ} {K : Stream Token → Type 0} {n : ℕ} where
 
   group-at : {q : Reader} {y : Items × Items} → GroupMet text K n q y → At text (Left (y .0) (Left (y .1) K)) n q
   group-at (group-met a) = a
-
--- What leaves the areas as they are, in front of something that does so too.
-into : {S A B C D E : Type 0} {Q : A → B → Type 0} {R : C → S → D → Type 0} {o : Outcome A} {m : Result B} (s : S) (ts : List Term)
-    (k : A → Outcome E) (f : E × S → Did S C) (g : B × List Term → Result D)
-    → Answers Q o m
-    → ((a : A) (b : B) → Q a b → Simulates R (leaving._>>=_ (k a leaving s) f) (g (b, ts)))
-    → Simulates R (leaving._>>=_ (outcomes._>>=_ o k leaving s) f) (refusals._>>=_ {A = B × List Term} (refusals._>>=_ m (λ b. refusals.ok (b, ts))) g)
-unfolding refusals._>>=_
-into s ts k f g (both-refuse e) on = refuse e
-into s ts k f g (both-ok q) on = on _ _ q
-
-needs : (b : Bool) {b′ : Bool} (n : ℕ) (r : Refusal) → b ≡ b′ → n ≡ number r → Answers (λ (x y : Unit {0}). Unit {0}) (outcomes.need b n) (refusals.need b′ r)
-unfolding refusals.need
-needs true {b′ = true} n r e q = both-ok tt
-needs false {b′ = false} n r e q = both-refuse q
-needs true {b′ = false} n r e q = absurd (true≢false e)
-needs false {b′ = true} n r e q = absurd (true≢false (sym e))
 
 -- What is read and tested without the other areas, and what follows.
 counted : {S P U A C D E : Type 0} {Q : A → S → C → Type 0} {R : E → (P × S) × U → D → Type 0} {m : Did S A} (p : P) (u : U) (m′ : Result C) (c : C → Bool) (r : Refusal) (ts : List Term)
@@ -204,15 +188,15 @@ module _ {rules heap : List ℕ} {es : Entries} {bound : ℕ} {th : Theory} (h :
         (certificates.stepForm document01 th now is ts)
     unfolding walk.step walk.ruleDue certificates.stepForm definition._>>=_ definition.lift definition.give number
     step-law =
-        into ((store, stack), live) ts _ _ _ (number-law certificate K 0 is 256 1 refl at-items)
+        first-of ((store, stack), live) ts _ _ _ (number-law certificate K 0 is 256 1 refl at-items)
         (λ x y m.
-        into ((store, stack), live) ts _ _ _ (needs (eqb (x .0) (tally .steps)) 19 stepOrder (ap₂ eqb (sym (m .same)) (t .steps-is)) refl)
+        first-of ((store, stack), live) ts _ _ _ (tested (eqb (x .0) (tally .steps)) 19 stepOrder (ap₂ eqb (sym (m .same)) (t .steps-is)) refl)
         (λ _ _ _.
-        into ((store, stack), live) ts _ _ _ (word-law certificate K 2 (y .1) 256 1 refl (m .reader))
+        first-of ((store, stack), live) ts _ _ _ (word-law certificate K 2 (y .1) 256 1 refl (m .reader))
         (λ a b n.
-        into ((store, stack), live) ts _ _ _ (rule-named (part (a .0) (a .1) certificate) (word-is n))
+        first-of ((store, stack), live) ts _ _ _ (rule-named (part (a .0) (a .1) certificate) (word-is n))
         (λ e c k.
-        into ((store, stack), live) ts _ _ _ (group-law certificate K 4 (b .1) 256 1 refl (word-at n))
+        first-of ((store, stack), live) ts _ _ _ (group-law certificate K 4 (b .1) 256 1 refl (word-at n))
         (λ q g l.
         let p = never-past certificate q (group-at l .coming) (group-at l .stands) in
         counted store live (certificates.references (g .0)) _ referenceCount ts _ _

@@ -16,14 +16,6 @@ use Rattle.asking.specs.Asking.{closing, member, list, itemDue, listDue, atomDu
 use Rattle.theory_reading.specs.Storing.{Areas}
 use Rattle.terms.specs.Terms.{make, headDue, Reading, argumentsFrom, termOf, term, arguments, headedJudgment, judgment}
 
-pub not-true : (b : Bool) → not b ≡ true → b ≡ false
-not-true true e = sym e
-not-true false e = refl
-
-pub not-false : (b : Bool) → not b ≡ false → b ≡ true
-not-false true e = refl
-not-false false e = sym e
-
 module _ (head : ℕ → ℕ) (heap : List ℕ) (c n : ℕ) where
   pub accepted-first : arityOf heap c ≡ n → accepted head heap c n ≡ allFit head heap c (n - 0) 0
   unfolding accepted

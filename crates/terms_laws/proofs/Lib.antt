@@ -4,3 +4,4 @@ pub mod Atoms
 pub mod Reading
 pub mod Judgments
 pub mod Whole
+pub mod Following

@@ -1,7 +1,7 @@
 -- `goals::goal_name` meets its contract. Assumes nothing.
 use mathlib.Core.Path.{sym, _∙_}
 use Rattle.words.specs.Parts.{part}
-use Rattle.terms.proofs.Turns.{not-true, not-false}
+use borrow.Author.Tests.{not-true, not-false}
 use Rattle.goals.specs.Goals.{goalName}
 use borrow.Author.Needs.{needs}
 use Rattle.goals.proofs.goal_name.Statement.{statement}

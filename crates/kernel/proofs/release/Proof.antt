@@ -2,8 +2,8 @@
 use mathlib.Core.Path.{sym, _∙_}
 use lib.Seq.{length-take-le}
 use denote.Ref.{now}
-use Rattle.horn.proofs.Equality.{not-true}
-use Rattle.kernel.proofs.Areas.{not-false, long}
+use borrow.Author.Tests.{not-true, not-false}
+use Rattle.kernel.proofs.Areas.{long}
 use Rattle.kernel.proofs.ReleaseCall.{area-short, rulebook-long, goals-long, certificate-long, release-judged}
 use borrow.Author.Needs.{needs}
 use Rattle.kernel.proofs.release.Statement.{statement}

@@ -1,9 +1,10 @@
 -- `terms::accepts` meets its contract. Assumes nothing.
+use borrow.Author.Tests.{not-true, not-false}
 use Rattle.theory_reading.specs.Reading.{accepted, allFit}
 use Rattle.terms.specs.Terms.{headOn}
 use mathlib.Core.Path.{_≡_, sym, _∙_}
 use Prim.Native.Nat.{_≤_, _-_}
-use Rattle.terms.proofs.Turns.{not-true, not-false, accepted-first, not-accepted, fit-on, not-fit, fit-end}
+use Rattle.terms.proofs.Turns.{accepted-first, not-accepted, fit-on, not-fit, fit-end}
 use borrow.Author.Needs.{needs}
 use Rattle.terms.proofs.accepts.Statement.{statement}
 use Rattle.terms.proofs.accepts.Tie as tie

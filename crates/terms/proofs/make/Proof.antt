@@ -1,6 +1,6 @@
 -- `terms::make` meets its contract. Assumes nothing.
 use mathlib.Core.Path.{sym, _∙_}
-use Rattle.terms.proofs.Turns.{not-true, not-false}
+use borrow.Author.Tests.{not-true, not-false}
 use Rattle.terms.specs.Terms.{make, interned}
 use borrow.Author.Needs.{needs}
 use Rattle.terms.proofs.make.Statement.{statement}
