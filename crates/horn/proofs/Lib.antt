@@ -1,5 +1,6 @@
 pub mod Run
 pub mod Firings
+pub mod Against
 pub mod Post
 pub mod Cut
 pub mod Counts
