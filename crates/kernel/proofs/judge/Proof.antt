@@ -11,7 +11,7 @@ use Rattle.kernel.proofs.judge.Tie as tie
 use Rattle.kernel.proofs.judge.Reads as reads
 use Rattle.kernel.proofs.judge.Lts as lts
 use Rattle.kernel.proofs.clear.Reads as clear-reads
-use Rattle.kernel.proofs.report.Reads as report-reads
+use Rattle.kernel.proofs.declared.Reads as declared-reads
 use Rattle.theory.proofs.theory.Reads as theory-reads
 
 -- src/lib.rt:71:9
@@ -35,8 +35,8 @@ clear-requires-4 : tie.Need-clear-requires-4
 clear-requires-4 c κs = search needs
 
 -- src/lib.rt:76:5
-report-requires : tie.Need-report-requires
-report-requires c κs = search needs
+declared-requires : tie.Need-declared-requires
+declared-requires c κs = search needs
 
 -- src/lib.rt:58:1
 same-length : tie.Need-same-length
@@ -60,7 +60,7 @@ returns c =
     let long-vars = c .before .before .before .before .before .before .before .before .before .before .before .before .before .before .before .before .before .before .before .before .before .before .before .theory .kept .1 .0 in
     let long-counts = c .before .before .before .before .before .before .before .before .before .before .before .before .before .before .before .before .before .before .before .before .before .before .before .theory .kept .1 .1 .0 in
     let long-heap = c .before .before .before .before .before .before .before .before .before .before .before .before .before .before .before .before .before .before .before .before .before .before .before .theory .kept .1 .1 .1 .0 in (
-      c .report .ensures ∙ ap (λ (m : Did AllAreas Counts). reportedBy m) (c .before .before .before .before .before .before .before .before .before .before .before .before .before .before .before .before .before .before .before .before .before .before .before .theory .ensures),
+      c .declared .ensures ∙ ap (λ (m : Did AllAreas Counts). reportedBy m) (c .before .before .before .before .before .before .before .before .before .before .before .before .before .before .before .before .before .before .before .before .before .before .before .theory .ensures),
       (
         c .before .before .before .before .before .before .before .before .before .before .before .before .before .before .before .clear .ensures,
         (
@@ -82,7 +82,7 @@ judge-spec =
     clear-requires-2
     clear-requires-3
     clear-requires-4
-    report-requires
+    declared-requires
     same-length
     same-length-2
     same-length-3

@@ -1,8 +1,8 @@
 use borrow.Author.Needs.{needs}
-use Rattle.kernel.proofs.report.Statement.{statement}
-use Rattle.kernel.proofs.report.Tie as tie
-use Rattle.kernel.proofs.report.Reads as reads
-use Rattle.kernel.proofs.report.Lts as lts
+use Rattle.kernel.proofs.declared.Statement.{statement}
+use Rattle.kernel.proofs.declared.Tie as tie
+use Rattle.kernel.proofs.declared.Reads as reads
+use Rattle.kernel.proofs.declared.Lts as lts
 use Rattle.kernel.proofs.refused.Reads as refused-reads
 
 -- src/lib.rt:38:25
@@ -25,6 +25,6 @@ returns c = rw (c .refused .ensures, c .before .before .judged .given .1)
 returns-2 : tie.Need-returns-2
 returns-2 c = rw (c .before .judged2 .given .1)
 
-pub report-spec : {M : Type 1} → statement M
-report-spec =
+pub declared-spec : {M : Type 1} → statement M
+declared-spec =
     tie.close (tie.spec enum-known-judged refused-requires enum-known-judged-2 returns returns-2)
