@@ -1,12 +1,11 @@
 //! The static library's call with the rulebook alone, beside the Rust: number, counts, and every word of the areas.
 use crate::cases::{Answer, hex};
-use crate::oracle::{self, RULEBOOK_BYTES};
+use crate::oracle::{self, AREA, RULEBOOK_BYTES};
 use crate::random::Random;
 use crate::rulebooks::{self, NUMBERS};
 use std::collections::BTreeMap;
 use std::io::Write;
 
-const AREA: usize = 16_384;
 /// Words behind each lent area, which no call may write.
 const BEHIND: usize = 64;
 const LONGER: usize = 2_000;
