@@ -13,6 +13,8 @@ mod messages;
 mod names;
 mod oracle;
 mod random;
+#[cfg(library)]
+mod releases;
 mod rulebook;
 #[cfg(library)]
 mod rulebooks;
@@ -34,6 +36,7 @@ const USAGE: &str = "usage: compare/run COMMAND
   fixed | rulebooks   the fixed lists
   readings | by-hand  cases written for people (standard input) as case lines, checked
   rulebook-call N SEED  N generated rulebooks: the static library's call beside the Rust
+  release-call N SEED   N generated cases: the static library's call with three texts beside the Rust
   keep [DIR]          all four files of compare/cases, written anew";
 
 fn fail(message: &str) -> ! {
@@ -82,7 +85,9 @@ fn main() {
         ["readings"] => readings(&mut out),
         ["by-hand"] => by_hand(&mut out),
         #[cfg(library)]
-        ["rulebook-call", n, seed] => rulebook_call(number(n) as usize, number(seed), &mut out),
+        ["rulebook-call", n, seed] => call::<call::RulebookAlone>(number(n) as usize, number(seed), &mut out),
+        #[cfg(library)]
+        ["release-call", n, seed] => call::<call::Release>(number(n) as usize, number(seed), &mut out),
         _ => fail(USAGE),
     };
     if let Err(e) = result.and_then(|()| out.flush()) {
@@ -101,8 +106,8 @@ fn generated(n: usize, seed: u64, out: &mut impl Write) -> Io {
 }
 
 #[cfg(library)]
-fn rulebook_call(n: usize, seed: u64, out: &mut impl Write) -> Io {
-    if call::compare(n, seed, out)? {
+fn call<C: call::Call>(n: usize, seed: u64, out: &mut impl Write) -> Io {
+    if call::compare::<C>(n, seed, out)? {
         return Ok(());
     }
     out.flush()?;
