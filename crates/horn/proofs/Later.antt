@@ -14,17 +14,17 @@ pub data Later {A : Type 0} : Result A → Type 0 where
   later-ok : {a : A} → Later (ok a)
   later-refused : (r : Refusal) → 3 ≤ number r → Later (refused r)
 
-later-bind : {A B : Type 0} {m : Result A} (f : A → Result B) → Later m → ((a : A) → Later (f a)) → Later (m >>= f)
+pub later-bind : {A B : Type 0} {m : Result A} (f : A → Result B) → Later m → ((a : A) → Later (f a)) → Later (m >>= f)
 unfolding _>>=_
 later-bind f (later-ok {a}) k = k a
 later-bind f (later-refused r h) k = later-refused r h
 
-later-need : (b : Bool) (r : Refusal) → 3 ≤ number r → Later (need b r)
+pub later-need : (b : Bool) (r : Refusal) → 3 ≤ number r → Later (need b r)
 unfolding need
 later-need true r h = later-ok
 later-need false r h = later-refused r h
 
-later-asked : (depth : ℕ) → Later (askedAt depth)
+pub later-asked : (depth : ℕ) → Later (askedAt depth)
 unfolding askedAt number
 later-asked depth = later-need _ Refusal.nesting (omega arith)
 

@@ -6,6 +6,7 @@ pub mod Kept
 pub mod Limits
 pub mod Refusing
 pub mod Later
+pub mod LaterReading
 pub mod Equality
 pub mod Inversion
 pub mod SoundnessWords

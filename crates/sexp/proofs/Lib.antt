@@ -8,3 +8,4 @@ pub mod Reading
 pub mod Whole
 pub mod Ahead
 pub mod Law
+pub mod Lengths

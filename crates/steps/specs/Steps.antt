@@ -19,11 +19,18 @@ use Rattle.terms.specs.Terms.{term, headedJudgment, sortOf}
 use Rattle.matching.specs.Matching.{bindingOf, bindingAt, unbound, stepConcluded}
 use Rattle.steps.specs.declared.Stepped.{Stepped}
 use Rattle.steps.specs.declared.Stepped.the-variants as stepped
+use Rattle.steps.specs.declared.Indexed.{Indexed}
+use Rattle.steps.specs.declared.Indexed.the-variants as numbers
 
 -- What a step answers: its judgment's number, its rule's address, the place of its references in the text, and the reader after its items.
 abbrev pub judged : Stepped → Outcome (ℕ × ℕ × ℕ × Reader)
 judged (stepped.Judged j e place r) = ok (j, e, place, r)
 judged (stepped.Refused n) = refused n
+
+-- What a number answers: itself and the reader after it.
+abbrev pub indexed : Indexed → Outcome (ℕ × Reader)
+indexed (numbers.Got i r) = ok (i, r)
+indexed (numbers.Refused n) = refused n
 
 -- The store and the stack, then the theory's area with its bindings.
 abbrev pub Worked : Type 0

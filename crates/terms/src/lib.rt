@@ -186,7 +186,7 @@ pub fn term(
                 return Numbered::Refused(numbered_refusal(h));
             };
             let above = words::plus(top, 1);
-            let a = arguments(text, rules, heap, table, store, stack, above, left - 1, p);
+            let a = args(text, rules, heap, table, store, stack, above, left - 1, p);
             let Numbered::Got(n, o) = a else {
                 return Numbered::Refused(numbered_refusal(a));
             };
@@ -199,7 +199,7 @@ pub fn term(
 }
 
 // "A term reads its arguments, and each argument is a term": asked for until a closing is next, and left on the stack from `top` on.
-pub fn arguments(
+pub fn args(
     text: &[u8],
     rules: &[u8],
     heap: &[u32],
@@ -257,7 +257,7 @@ pub fn headed_judgment(
         return Numbered::Refused(numbered_refusal(h));
     };
     let above = words::plus(top, 1);
-    let a = arguments(text, rules, heap, table, store, stack, above, left, q);
+    let a = args(text, rules, heap, table, store, stack, above, left, q);
     let Numbered::Got(n, p) = a else {
         return Numbered::Refused(numbered_refusal(a));
     };

@@ -61,7 +61,7 @@ unfolding definition.askTerm definition.ask definition._>>=_ definition.lift def
 asked-term th defs depth ts item rest = case (leb depth 256) (λ t. rw t) (λ t. rw t)
 
 -- What was asked for is followed by what is left of the list.
-pub AskedRead : Entries → Theory → List ℕ → (Stream Token → Type 0) → ℕ → ℕ → List ℕ → List Term → ℕ × Reader → Areas → (Term × Items) × List Term → Type 0
+unfoldable pub AskedRead : Entries → Theory → List ℕ → (Stream Token → Type 0) → ℕ → ℕ → List ℕ → List Term → ℕ × Reader → Areas → (Term × Items) × List Term → Type 0
 AskedRead es th text K top spent stack ts x left y = TermRead es th (At text (Left (y .0 .1) K) (spent + 2)) top stack ts x left (y .0 .0, y .1)
 
 module _ (text : List ℕ) (table : List ℕ) {rules heap : List ℕ} {es : Entries} {bound : ℕ} {th : Theory} (h : Holds rules heap es bound th)

@@ -176,6 +176,7 @@ module _ (text member-counts : List ℕ) (Before : Reader → Stream Token → T
     pub holds : Holds text (areas .1) entries top th
     pub low : 1024 ≤ top
     pub high : top ≤ 11948
+    pub long : length (areas .0) ≡ 16384
 
   pub declarations-law : (xs : Sexps) (fuel : ℕ) (th : Theory) (es : Entries) {w : Walk} (vars : List ℕ) {heap : List ℕ}
       → Mid th es (w .top) 0 (flat xs end) (countsAll xs []) w heap
@@ -191,7 +192,7 @@ module _ (text member-counts : List ℕ) (Before : Reader → Stream Token → T
   declarations-law []ₛ (suc fuel) th es {w} vars r long s₀ s₁ enough few small =
       let c = r .room in
       rw (none-met (r .walks))
-      (leave record { tallied = refl; entries = es; top = w .top; holds = r .holds; low = r .base-low; high = omega arith })
+      (leave record { tallied = refl; entries = es; top = w .top; holds = r .holds; low = r .base-low; high = omega arith; long = long })
   declarations-law (x ∷ₛ xs) (suc fuel) th es {w} vars r long (shallow-more h₀ s₀) (shallow-more h₁ s₁) enough few small =
       let m = more-met x (flat xs end) (r .walks) in
       let long-rest = longer x (flat xs end) in

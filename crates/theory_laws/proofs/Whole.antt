@@ -21,6 +21,7 @@ use Rattle.lex.specs.Answers as lexed
 use Rattle.lex.proofs.Standing.{Stands}
 use Rattle.sexp.specs.Flattening.{flattened, countsAll, counts}
 use Rattle.sexp.specs.Walk.{walked}
+use Rattle.sexp.proofs.Lengths.{walked-length}
 use Rattle.sexp.proofs.Whole.{few-lists}
 use Rattle.sexp.proofs.Ahead.{Ahead, ahead-start}
 use Rattle.sexp.proofs.Law.{walk-cases}
@@ -84,7 +85,7 @@ holds-nothing text heap long =
       };
     }
 
--- An accepted rulebook: its counts, and its theory in the words below `top`.
+-- An accepted rulebook: its counts, and its theory in the words below `top`. The other two areas are as long as before.
 pub record Judged (text : List ℕ) (c : Counts) (areas : AllAreas) (th : Theory) : Type 0 where
   pub tallied : c ≡ tally th
   pub entries : Entries
@@ -92,14 +93,25 @@ pub record Judged (text : List ℕ) (c : Counts) (areas : AllAreas) (th : Theory
   pub holds : Holds text (areas .2) entries top th
   pub low : 1024 ≤ top
   pub high : top ≤ 11948
+  pub vars-long : length (areas .0) ≡ 16384
+  pub counts-long : length (areas .1) ≡ 16384
 
 module _ (text : List ℕ) (short : length text ≤ 8192) where
-  with-counts : (area : List ℕ) {m : Did Areas Counts} {m′ : Result Theory}
+  with-counts : (area : List ℕ) → length area ≡ 16384 → {m : Did Areas Counts} {m′ : Result Theory}
       → Simulates (Accepted text area (Stands text) (reads text) short) m m′
       → Simulates (Judged text) (withCounts area m) m′
-  with-counts area (refuse e) = refuse e
-  with-counts area (leave q) =
-      leave record { tallied = q .tallied; entries = q .entries; top = q .top; holds = q .holds; low = q .low; high = q .high }
+  with-counts area l (refuse e) = refuse e
+  with-counts area l (leave q) =
+      leave record {
+        tallied = q .tallied;
+        entries = q .entries;
+        top = q .top;
+        holds = q .holds;
+        low = q .low;
+        high = q .high;
+        vars-long = q .long;
+        counts-long = l;
+      }
 
   second-walk : (vars area heap : List ℕ) (xs : Sexps) → length vars ≡ 16384 → length heap ≡ 16384
       → sexps (items (tokens text)) ≡ ok xs
@@ -139,7 +151,7 @@ module _ (text : List ℕ) (short : length text ≤ 8192) where
       walk-cases text member-counts short (omega arith)
       (λ r e a. rw (a, e) (refuse refl))
       (λ xs e whole a found.
-      rw (a, e) (with-counts (walked text member-counts .area) (second-walk vars (walked text member-counts .area) heap xs long-vars long e whole found)))
+      rw (a, e) (with-counts (walked text member-counts .area) (walked-length text member-counts ∙ long-counts) (second-walk vars (walked text member-counts .area) heap xs long-vars long e whole found)))
 
 -- The report of both walks: number and counts.
 abbrev pub reported : Did AllAreas Counts → RulebookReport

@@ -23,8 +23,8 @@ returns c = rw (c .numbered-refusal .ensures, ← c .before .before .before .pre
 plus-requires : tie.Need-plus-requires
 plus-requires c κs = search needs
 
-arguments-requires : tie.Need-arguments-requires
-arguments-requires c κs = search needs
+args-requires : tie.Need-args-requires
+args-requires c κs = search needs
 
 enum-known-a : tie.Need-enum-known-a
 enum-known-a c = search needs
@@ -43,7 +43,7 @@ same-length-2 c = search needs
 
 returns-2 : tie.Need-returns-2
 unfolding headedJudgment
-returns-2 c = rw (← c .before .before .before .before .before .before .before .before .before .before .before .before .before .before .predicate-due .ensures, c .before .before .before .before .before .before .before .before .before .before .before .before .h .given .1, ← c .before .before .before .before .before .before .before .before .before .before .plus .ensures, ← c .before .before .before .before .before .before .before .arguments .ensures, c .numbered-refusal2 .ensures, c .before .enum-told2 .given .1)
+returns-2 c = rw (← c .before .before .before .before .before .before .before .before .before .before .before .before .before .before .predicate-due .ensures, c .before .before .before .before .before .before .before .before .before .before .before .before .h .given .1, ← c .before .before .before .before .before .before .before .before .before .before .plus .ensures, ← c .before .before .before .before .before .before .before .args2 .ensures, c .numbered-refusal2 .ensures, c .before .enum-told2 .given .1)
 
 make-requires : tie.Need-make-requires
 make-requires c κs = search needs
@@ -56,7 +56,7 @@ same-length-4 c = search needs
 
 returns-3 : tie.Need-returns-3
 unfolding headedJudgment
-returns-3 c = rw (← c .before .before .before .before .before .before .before .before .before .before .before .before .before .before .before .before .before .before .before .before .before .predicate-due .ensures, c .before .before .before .before .before .before .before .before .before .before .before .before .before .before .before .before .before .before .before .h .given .1, ← c .before .before .before .before .before .before .before .before .before .before .before .before .before .before .before .before .before .plus .ensures, ← c .before .before .before .before .before .before .before .before .before .before .before .before .before .before .arguments .ensures, c .before .before .before .before .before .before .before .before .a .given .1) (c .before .before .before .before .make .ensures)
+returns-3 c = rw (← c .before .before .before .before .before .before .before .before .before .before .before .before .before .before .before .before .before .before .before .before .before .predicate-due .ensures, c .before .before .before .before .before .before .before .before .before .before .before .before .before .before .before .before .before .before .before .h .given .1, ← c .before .before .before .before .before .before .before .before .before .before .before .before .before .before .before .before .before .plus .ensures, ← c .before .before .before .before .before .before .before .before .before .before .before .before .before .before .args2 .ensures, c .before .before .before .before .before .before .before .before .a .given .1) (c .before .before .before .before .make .ensures)
 
 pub headed-judgment-spec : {M : Type 1} → statement M
 headed-judgment-spec =
@@ -68,7 +68,7 @@ headed-judgment-spec =
     numbered-refusal-requires
     returns
     plus-requires
-    arguments-requires
+    args-requires
     enum-known-a
     enum-told-2
     numbered-refusal-requires-2

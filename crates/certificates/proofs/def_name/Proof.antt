@@ -1,0 +1,52 @@
+-- `certificates::def_name` meets its contract. Assumes nothing.
+use mathlib.Core.Path.{sym, _∙_}
+use Rattle.certificates.specs.Certificates.{defNamed}
+use borrow.Author.Tests.{not-true, not-false}
+use borrow.Author.Needs.{needs}
+use Rattle.certificates.proofs.def_name.Statement.{statement}
+use Rattle.certificates.proofs.def_name.Tie as tie
+
+atom-due-requires : tie.Need-atom-due-requires
+atom-due-requires c κs = search needs
+
+enum-known-a : tie.Need-enum-known-a
+enum-known-a c = search needs
+
+enum-told : tie.Need-enum-told
+enum-told c = search needs
+
+returns : tie.Need-returns
+unfolding defNamed
+returns c = rw (← c .before .before .atom-due .ensures, c .enum-told .given .1)
+
+is-question-requires : tie.Need-is-question-requires
+is-question-requires c κs = search needs
+
+returns-2 : tie.Need-returns-2
+unfolding defNamed
+returns-2 c = rw (← c .before .before .before .before .before .atom-due .ensures, c .before .before .before .a .given .1, sym (c .before .is-question .ensures) ∙ not-true _ (c .if1 .taken))
+
+is-bare-requires : tie.Need-is-bare-requires
+is-bare-requires c κs = search needs
+
+returns-3 : tie.Need-returns-3
+unfolding defNamed
+returns-3 c = rw (← c .before .before .before .before .before .before .before .atom-due .ensures, c .before .before .before .before .before .a .given .1, sym (c .before .before .before .is-question .ensures) ∙ not-false _ (c .before .before .if1 .left), ← c .before .is-bare .ensures, c .if2 .taken)
+
+returns-4 : tie.Need-returns-4
+unfolding defNamed
+returns-4 c = rw (← c .before .before .before .before .before .before .before .atom-due .ensures, c .before .before .before .before .before .a .given .1, sym (c .before .before .before .is-question .ensures) ∙ not-false _ (c .before .before .if1 .left), ← c .before .is-bare .ensures, c .if2 .left)
+
+pub def-name-spec : {M : Type 1} → statement M
+def-name-spec =
+    tie.close
+    (tie.spec
+    atom-due-requires
+    enum-known-a
+    enum-told
+    returns
+    is-question-requires
+    returns-2
+    is-bare-requires
+    returns-3
+    returns-4)

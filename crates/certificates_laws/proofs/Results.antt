@@ -1,0 +1,115 @@
+-- "(result N I)". Assumes nothing.
+use Prim.Native.Nat.{ℕ}
+use mathlib.Core.Path.{_≡_, refl, sym, _∙_}
+use mathlib.Core.List.{List}
+use mathlib.Core.Option.{Option}
+use native.Mathlib.Omega.{arith}
+use lib.Dec.{eqb}
+use lib.ListN.{length, getElem?}
+use Rattle.horn.specs.Refusals as refusals
+use Rattle.horn.specs.Refusals.{number, ok, unknown, noSuchStep, otherJudgment}
+use Rattle.horn.specs.Setting.{document01}
+use Rattle.horn.specs.Names.{Name, first}
+use Rattle.horn.specs.Tokens.{Stream, Token}
+use Rattle.horn.specs.NestedLists.{Item, Items, _then_}
+use Rattle.horn.specs.Rulebook.{Theory}
+use Rattle.horn.specs.StoredTerms.{Term}
+use Rattle.horn.specs.Checker as checker
+use Rattle.horn.specs.Checker.{Def, Goal, isGoal, goalJudgment}
+use Rattle.horn.specs.Matching.{Step, judgmentOf}
+use Rattle.horn.specs.Certificate as definition
+use Rattle.horn.specs.Certificate.{Progress, without}
+use Rattle.lex.specs.declared.Reader.{Reader}
+use Rattle.patterns.specs.Outcomes as outcomes
+use Rattle.patterns.specs.Leaving.{beside}
+use Rattle.theory_laws.specs.Simulation.{Answers, both-refuse, both-ok, Simulates, leave, knowing, aside}
+use Rattle.theory_laws.specs.Representation.{Entries, Holds}
+use Rattle.theory_laws.proofs.Frames.{Keeps}
+use Rattle.theory_reading.proofs.Stored.{Stored, Means, means-same}
+use Rattle.tables.specs.declared.Tally.{Tally}
+use Rattle.tables.specs.Words.{goalOpen, goalClosed, goalDone, stepWord}
+use Rattle.tables.specs.Representation.{Tables, OpenAt, OpenAgree, none-open, one-open, StepAgree, no-step, one-step}
+use Rattle.tables.proofs.Laws.{open-goal, step-of}
+use Rattle.tables.proofs.Phases.{next-result}
+use Rattle.asking_laws.proofs.Places.{Left, Any, At, at-less}
+use Rattle.asking_laws.proofs.Asking.{closing-law}
+use Rattle.terms_laws.proofs.Judgments.{lifted}
+use Rattle.steps_laws.proofs.Numbers.{number-law}
+use Rattle.certificates.specs.Certificates as walk
+use Rattle.certificates_laws.proofs.Asked.{tested, member-law}
+use Rattle.certificates_laws.proofs.Standing.{SoFar, Standing, StepRecorded}
+
+-- The progress with a goal closed.
+abbrev closed : Progress → Name → Progress
+closed now name = record { defs = now .defs; openGoals = without name (now .openGoals); steps = now .steps }
+
+-- What was read of a result, and what was written.
+data ResultRead (certificate table : List ℕ) (Means : ℕ → Term → Type 0) (tally : Tally) (goals : List Goal) (now : Progress) (K : Stream Token → Type 0) (ts : List Term) :
+    Tally × Reader → List ℕ → Progress × List Term → Type 0 where
+  result-read : {e w : ℕ} {r : Reader} {key : Name} {g : Goal}
+      → OpenAt table 256 Means goals key e w g
+      → At certificate K 0 r
+      → ResultRead certificate table Means tally goals now K ts (goalDone tally, r) (goalClosed e table) (closed now key, ts)
+
+-- The number of an open goal's judgment.
+open-means : {table : List ℕ} {base : ℕ} {Means : ℕ → Term → Type 0} {goals : List Goal} {key : Name} {e w : ℕ} {g : Goal}
+    → OpenAt table base Means goals key e w g → Means w (goalJudgment g)
+unfolding goalJudgment
+open-means a = rw (a .is-goal) (a .means)
+
+module _ {goalsText certificate table : List ℕ} {Means : ℕ → Term → Type 0} {Recorded : ℕ → ℕ → ℕ → Step → Type 0} {tally : Tally} {goals openGoals : List Goal}
+    {defs : List Def} {steps : List Step} (h : Tables goalsText certificate table 128 Means Recorded tally goals openGoals defs steps) where
+  -- "N not a goal still open, 12".
+  open-due : {key name : Name} → key ≡ name
+      → Answers (λ x g. OpenAt table 256 Means goals name (x .0) (x .1) g) (outcomes.orElse (goalOpen goalsText key table) 12) (refusals.found (first (isGoal name) openGoals) unknown)
+  unfolding refusals.found number
+  open-due {name} e = rw e (by (open-goal h name)) where
+    by : {o : Option (ℕ × ℕ)} {o′ : Option Goal} → OpenAgree table 256 Means goals name o o′
+        → Answers (λ x g. OpenAt table 256 Means goals name (x .0) (x .1) g) (outcomes.orElse o 12) (refusals.found o′ unknown)
+    by none-open = both-refuse refl
+    by (one-open a) = both-ok a
+
+  -- "No such step yet, 24".
+  step-due : {Says : ℕ → Step → Type 0} {n i : ℕ} → ((j r p : ℕ) (s : Step) → Recorded j r p s → Says j s) → n ≡ i
+      → Answers Says (outcomes.orElse (stepWord n 0 tally table) 24) (refusals.found (getElem? steps i) noSuchStep)
+  unfolding refusals.found number
+  step-due {Says} {i} f e = rw e (by (step-of h i)) where
+    by : {o o₁ o₂ : Option ℕ} {o′ : Option Step} → StepAgree Recorded o o₁ o₂ o′ → Answers Says (outcomes.orElse o 24) (refusals.found o′ noSuchStep)
+    by no-step = both-refuse refl
+    by (one-step x) = both-ok (f _ _ _ _ x)
+
+module _ {rules heap : List ℕ} {es : Entries} {bound : ℕ} {th : Theory} (h : Holds rules heap es bound th)
+    (goalsText certificate : List ℕ) {goals : List Goal} {tally : Tally} (now : Progress)
+    {ts : List Term} {store live table : List ℕ} (stack : List ℕ) (stored : Stored es th document01 4096 store ts) (long : length stack ≡ 16384) (keep : Keeps 12288 heap live) where
+  reads : (K : Stream Token → Type 0) (is : Items) (r : Reader)
+      → Tables goalsText certificate table 128 (Means es th ts) (StepRecorded rules heap es bound th ts) tally goals (now .openGoals) (now .defs) (now .steps)
+      → At certificate (Left is K) 0 r
+      → Simulates (ResultRead certificate table (Means es th ts) tally goals now K ts) (walk.resultForm certificate goalsText tally r table) (definition.resultForm document01 th now is ts)
+  unfolding walk.resultForm definition.resultForm checker._>>=_ checker.lift checker.give number
+  reads K is r t at-items =
+      lifted ts _ _ (member-law certificate K 0 is at-items) (λ x y m.
+      lifted ts _ _ (open-due t (m .name)) (λ z g a.
+      lifted ts _ _ (number-law certificate K 2 (y .1) 256 1 refl (m .reader)) (λ n v i.
+      lifted ts _ _ (step-due t {Says = λ j s. Means es th ts j (judgmentOf s)} (λ j e p s c. c .means) (sym (i .same))) (λ k s b.
+      lifted ts _ _ (tested (eqb k (z .1)) 27 otherJudgment (means-same stored h b (open-means a)) refl) (λ c d same.
+      lifted ts _ _ (closing-law certificate K 4 (v .1) (i .reader)) (λ q f there.
+      leave (result-read a (at-less 0 (omega arith) there))))))))
+
+  -- From a reader behind the head of the form.
+  pub result-law : (item : Item) (rest is : Items) (r : Reader) → SoFar rules heap es bound th goalsText certificate goals ts table tally now (item then rest)
+      → definition.certificateForm document01 th now item ts ≡ definition.resultForm document01 th now is ts
+      → At certificate (Left is (Left rest Any)) 0 r
+      → Simulates (Standing rules heap es bound th goalsText certificate goals rest)
+      (beside ((store, stack), live) (walk.resultForm certificate goalsText tally r table)) (definition.resultForm document01 th now is ts)
+  result-law item rest is r so-far same at-items = aside ((store, stack), live) (knowing (reads (Left rest Any) is r (so-far .tables) at-items)) (λ x left y p. by (p .0) (p .1)) where
+    by : {x : Tally × Reader} {left : List ℕ} {y : Progress × List Term} → ResultRead certificate table (Means es th ts) tally goals now (Left rest Any) ts x left y
+        → definition.resultForm document01 th now is ts ≡ ok y
+        → Standing rules heap es bound th goalsText certificate goals rest x (((store, stack), live), left) y
+    by (result-read {e} {w} {key} {g} a there) f =
+        record {
+          reader = there;
+          between = next-result goalsText certificate 8192 32768 128 (Means es th ts) (StepRecorded rules heap es bound th ts) document01 th ts so-far key e w g (same ∙ f) a;
+          stored = stored;
+          long = long;
+          keeps = keep;
+        }

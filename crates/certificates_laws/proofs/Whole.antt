@@ -1,0 +1,66 @@
+-- The certificate: its forms, and that no goal is left open. Assumes nothing.
+use Prim.Native.Nat.{ℕ, _+_, _≤_}
+use mathlib.Core.Path.{_≡_, refl, sym}
+use mathlib.Core.List.{List, []}
+use native.Mathlib.Omega.{arith}
+use lib.Dec.{eqb}
+use lib.ListN.{length}
+use Rattle.horn.specs.Refusals.{number, goalOpen}
+use Rattle.horn.specs.Setting.{document01}
+use Rattle.horn.specs.Tokens.{tokens}
+use Rattle.horn.specs.NestedLists.{Items, items}
+use Rattle.horn.specs.Rulebook.{Theory}
+use Rattle.horn.specs.StoredTerms.{Term}
+use Rattle.horn.specs.Checker as checker
+use Rattle.horn.specs.Checker.{Goal}
+use Rattle.horn.specs.Matching.{Step}
+use Rattle.horn.specs.Certificate as definition
+use Rattle.horn.proofs.Counts.{few-items}
+use Rattle.horn.proofs.SoundnessWords.{WellFormed}
+use Rattle.lex.specs.Answers.{start}
+use Rattle.theory_laws.specs.Simulation.{Simulates, leave, bind}
+use Rattle.theory_laws.specs.Representation.{Entries, Holds}
+use Rattle.theory_laws.proofs.Frames.{Keeps}
+use Rattle.theory_reading.proofs.Stored.{Stored, Means}
+use Rattle.tables.specs.declared.Tally.{Tally}
+use Rattle.tables.specs.Phases.{Gathering}
+use Rattle.tables.proofs.Laws.{none-left}
+use Rattle.tables.proofs.Phases.{first-form}
+use Rattle.asking_laws.proofs.Places.{at-start}
+use Rattle.terms_laws.proofs.Judgments.{lifted}
+use Rattle.certificates.specs.Certificates as walk
+use Rattle.certificates.specs.Certificates.{AllAreas}
+use Rattle.certificates_laws.proofs.Asked.{tested}
+use Rattle.certificates_laws.proofs.Standing.{StepRecorded}
+use Rattle.certificates_laws.proofs.Forms.{forms-law}
+
+-- The certificate was read: how many steps and goals there are, and the terms that the store holds.
+pub record CertificateRead (es : Entries) (th : Theory) (goals : List Goal) (tally : Tally) (areas : AllAreas) (y : List Step × List Term) : Type 0 where
+  pub steps-are : tally .steps ≡ length (y .0)
+  pub goals-are : tally .goals ≡ length goals
+  pub stored : Stored es th document01 4096 (areas .0 .0 .0) (y .1)
+
+-- From where the goals were read.
+pub certificate-law : {rules heap : List ℕ} {es : Entries} {bound : ℕ} {th : Theory} → Holds rules heap es bound th → bound ≤ 11948 → WellFormed th
+    → (goalsText certificate : List ℕ) → length certificate ≤ 32768
+    → {table : List ℕ} {tally : Tally} {goals : List Goal} {left : Items} {ts : List Term}
+    → Gathering goalsText certificate 8192 32768 128 (Means es th ts) (StepRecorded rules heap es bound th ts) table tally goals left
+    → {store live : List ℕ} (stack : List ℕ) → Stored es th document01 4096 store ts → length stack ≡ 16384 → Keeps 12288 heap live
+    → Simulates (CertificateRead es th goals) (walk.certificate certificate goalsText rules tally store stack live table)
+    (definition.certificateOf document01 th goals certificate ts)
+unfolding walk.certificate definition.certificateOf checker._>>=_ checker.lift checker.give number
+certificate-law {rules} {heap} {es} {bound} {th} h high w goalsText certificate short {table} {tally} {goals} {ts} gathered {store} {live} stack stored long keep =
+    let few = few-items certificate in
+    bind _ _
+    (forms-law h high w goalsText certificate short (length certificate + 1) (items (tokens certificate)) tally start (((store, stack), live), table)
+    (record { defs = []; openGoals = goals; steps = [] }) ts (omega arith)
+    record {
+      reader = at-start certificate;
+      between = first-form goalsText certificate 8192 32768 128 (Means es th ts) (StepRecorded rules heap es bound th ts) document01 th short gathered;
+      stored = stored;
+      long = long;
+      keeps = keep;
+    })
+    (λ final areas y f.
+    lifted (y .1) _ _ (tested (eqb (final .left) 0) 29 goalOpen (sym (none-left (f .tables))) refl) (λ a b none.
+    leave record { steps-are = f .tables .steps-is; goals-are = f .tables .goals-is; stored = f .stored }))

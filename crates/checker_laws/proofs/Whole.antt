@@ -1,0 +1,97 @@
+-- Rulebook, goals and certificate, one after the other, are the definition's, whatever the areas held. Assumes nothing.
+use Prim.Native.Nat.{ℕ, _+_, _≤_}
+use mathlib.Core.Path.{_≡_, refl, ap, sym, subst, _∙_}
+use mathlib.Core.List.{List, []}
+use native.Mathlib.Omega.{arith}
+use lib.ListN.{length}
+use Rattle.horn.specs.Refusals.{Result, ok, _>>=_}
+use Rattle.horn.specs.Setting.{document01}
+use Rattle.horn.specs.Rulebook as definition
+use Rattle.horn.specs.Rulebook.{Theory}
+use Rattle.horn.specs.StoredTerms.{Term, Store}
+use Rattle.horn.specs.Checker.{Goal, goalsOf}
+use Rattle.horn.specs.Matching.{Step}
+use Rattle.horn.specs.Certificate.{certificateOf}
+use Rattle.horn.specs.Calls.{Report, report}
+use Rattle.horn.proofs.SoundnessRulebook.{theory-formed}
+use Rattle.words.specs.Parts.{cleared}
+use Rattle.arena.specs.Store.{areaWords, emptied}
+use Rattle.arena.proofs.Settings.{limits-01}
+use Rattle.patterns.specs.Outcomes as outcomes
+use Rattle.patterns.specs.Leaving as leaving
+use Rattle.patterns.specs.Leaving.{Did, _leaving_}
+use Rattle.theory.specs.Walks as walks
+use Rattle.theory.specs.declared.Counts as declared
+use Rattle.theory_laws.specs.Simulation.{Simulates, refuse, leave, bind, knowing}
+use Rattle.theory_laws.proofs.Frames.{Keeps, keeps-all}
+use Rattle.theory_laws.proofs.Whole.{Judged, theory-law}
+use Rattle.theory_reading.proofs.Stored.{Longer, Stored, nothing-stored, means-longer}
+use Rattle.tables.specs.Words.{noneYet}
+use Rattle.goals.specs.Goals as goals
+use Rattle.goals_laws.proofs.Goals.{GoalsRead, goals-whole}
+use Rattle.certificates.specs.Certificates.{AllAreas, around, certificate}
+use Rattle.certificates_laws.proofs.Standing.{StepRecorded, terms-counted}
+use Rattle.certificates_laws.proofs.Whole.{CertificateRead, certificate-law}
+use Rattle.checker.specs.Checker as walk
+use Rattle.checker.specs.Checker.{besideStore}
+use Rattle.checker.specs.declared.Counts.{Counts}
+
+-- The definition behind the lengths.
+unfoldable pub judged : List ℕ → List ℕ → List ℕ → Result Report
+judged rulebook text certificateText =
+    definition.theory rulebook >>= λ th.
+    goalsOf document01 th text [] >>= λ p.
+    certificateOf document01 th (p .0) certificateText (p .1) >>= λ q.
+    ok (report 0 (length (q .0)) (length (p .0)) (length (q .1)) (length certificateText))
+
+-- The counts of an accepted release are those of its report.
+abbrev pub Released : ℕ → Counts → AllAreas → Report → Type 0
+Released bytes c areas q = q ≡ report 0 (c .steps) (c .goals) (c .terms) bytes
+
+-- What the rulebook's walks leave, beside the store that they are not lent.
+beside-store : {Q : declared.Counts → walks.AllAreas → Theory → Type 0} {m : Did walks.AllAreas declared.Counts} {m′ : Result Theory} (store : List ℕ)
+    → Simulates Q m m′
+    → Simulates (λ c s th. (s .0 .0 .0 ≡ store) × Q c (s .1, s .0 .0 .1, s .0 .1) th) (besideStore store m) m′
+beside-store store (refuse e) = refuse e
+beside-store store (leave q) = leave (refl, q)
+
+-- What the goals leave, beside the theory's area that they only read.
+around-heap : {A B : Type 0} {Q : A → goals.Gathered → B → Type 0} {m : Did goals.Gathered A} {m′ : Result B} (heap : List ℕ)
+    → Simulates Q m m′
+    → Simulates (λ a s b. (s .0 .1 ≡ heap) × Q a (s .0 .0, s .1) b) (around heap m) m′
+around-heap heap (refuse e) = refuse e
+around-heap heap (leave q) = leave (refl, q)
+
+module _ (rulebook text certificateText : List ℕ) (short-rulebook : length rulebook ≤ 8192) (short-text : length text ≤ 8192)
+    (short : length certificateText ≤ 32768) where
+  -- The goals and the certificate, under a theory that its area holds.
+  after-rulebook : (th : Theory) → definition.theory rulebook ≡ ok th → (c : declared.Counts) (store table stack heap : List ℕ) → length store ≡ 16384
+      → Judged rulebook c (table, stack, heap) th
+      → Simulates (Released (length certificateText))
+      (leaving._>>=_ (around heap (goals.goals text rulebook heap (noneYet 128) (emptied store 2048 4096) stack (cleared 256 table))) (λ p.
+      leaving._>>=_ (certificate certificateText text rulebook (p .0) (p .1 .0 .0 .0) (p .1 .0 .0 .1) (p .1 .0 .1) (p .1 .1)) (λ q.
+      outcomes.ok (walk.countsOf (q .0) (q .1 .0 .0 .0)) leaving q .1)))
+      (goalsOf document01 th text [] >>= λ p.
+      certificateOf document01 th (p .0) certificateText (p .1) >>= λ q.
+      ok (report 0 (length (q .0)) (length (p .0)) (length (q .1)) (length certificateText)))
+  unfolding document01
+  after-rulebook th e c store table stack heap long j =
+      bind _ _
+      (around-heap heap
+      (goals-whole (j .holds) text certificateText (StepRecorded rulebook heap (j .entries) (j .top) th)
+      (λ ts us k r p s g m. record { means = means-longer g (m .means); by-rule = m .by-rule })
+      short-text (emptied store 2048 4096) stack table (j .vars-long)
+      (nothing-stored (j .entries) th document01 4096 limits-01 store (omega arith)) (j .counts-long)))
+      (λ tally s y g.
+      bind _ _
+      (certificate-law (j .holds) (j .high) (theory-formed rulebook e) text certificateText short (g .1 .gathering) (s .0 .0 .1) (g .1 .stored) (g .1 .long)
+      (subst (Keeps 12288 heap) (sym (g .0)) keeps-all))
+      (λ last areas q k. leave (rw (k .steps-are, k .goals-are, terms-counted (k .stored)))))
+
+  pub check-law : (store table stack heap : List ℕ) → length store ≡ 16384 → length table ≡ 16384 → length stack ≡ 16384 → length heap ≡ 16384
+      → Simulates (Released (length certificateText)) (walk.check rulebook text certificateText store table stack heap) (judged rulebook text certificateText)
+  unfolding walk.check judged
+  check-law store table stack heap long-store long-table long-stack long-heap =
+      bind _ _ (knowing (beside-store store (theory-law rulebook short-rulebook table stack heap long-table long-stack long-heap)))
+      (λ c s th q.
+      after-rulebook th (q .1) c (s .0 .0 .0) (s .1) (s .0 .0 .1) (s .0 .1) (ap length (q .0 .0) ∙ long-store) (q .0 .1))

@@ -1,0 +1,138 @@
+-- `goals::goals_from` meets its contract. Assumes nothing.
+use mathlib.Core.Path.{_≡_, refl, ap, sym, _∙_}
+use lib.ListN.{length}
+use Rattle.asking.specs.Asking.{begun}
+use Rattle.goals.specs.Goals.{formed, goalsFrom}
+use Rattle.goals.proofs.Turns.{goals-over, form-refused, goal-refused, goals-on, goals-none}
+use borrow.Author.Needs.{needs}
+use Rattle.goals.proofs.goals_from.Statement.{statement}
+use Rattle.goals.proofs.goals_from.Tie as tie
+
+abbrev Inv-loop : tie.InvT-loop
+Inv-loop text rules heap table₀ store₀ stack₀ sofar₀ r₀ fuel₀ table store stack sofar r fuel = (goalsFrom fuel₀ text rules heap sofar₀ r₀ store₀ stack₀ table₀ ≡ goalsFrom fuel text rules heap sofar r store stack table) × (length table ≡ length table₀) × (length store ≡ length store₀) × (length stack ≡ length stack₀)
+
+abbrev μ-loop : tie.MeasureT-loop
+μ-loop text rules heap table₀ store₀ stack₀ sofar₀ r₀ fuel₀ table store stack sofar r fuel = fuel
+
+add-fuel : tie.Need-add-fuel Inv-loop μ-loop
+add-fuel c = search needs
+
+loop-holds : tie.Need-loop-holds Inv-loop μ-loop
+loop-holds c = (refl, search needs, search needs, search needs)
+
+form-due-requires : tie.Need-form-due-requires Inv-loop μ-loop
+form-due-requires c κs = search needs
+
+enum-known-next : tie.Need-enum-known-next Inv-loop μ-loop
+enum-known-next c = search needs
+
+same-length : tie.Need-same-length Inv-loop μ-loop
+same-length c = search needs
+
+same-length-2 : tie.Need-same-length-2 Inv-loop μ-loop
+same-length-2 c = search needs
+
+same-length-3 : tie.Need-same-length-3 Inv-loop μ-loop
+same-length-3 c = search needs
+
+returns : tie.Need-returns Inv-loop μ-loop
+returns c = sym (c .before .before .before .before .before .loop .inv .0 ∙ form-refused _ _ _ _ _ _ _ _ _ (c .before .before .before .before .loop-test .taken) (rw (← c .before .before .before .form-due .ensures, c .before .next .given .1)))
+
+enum-told : tie.Need-enum-told Inv-loop μ-loop
+enum-told c = search needs
+
+same-length-4 : tie.Need-same-length-4 Inv-loop μ-loop
+same-length-4 c = search needs
+
+same-length-5 : tie.Need-same-length-5 Inv-loop μ-loop
+same-length-5 c = search needs
+
+same-length-6 : tie.Need-same-length-6 Inv-loop μ-loop
+same-length-6 c = search needs
+
+returns-2 : tie.Need-returns-2 Inv-loop μ-loop
+returns-2 c = sym (c .before .before .before .before .loop .inv .0 ∙ goals-over _ _ _ _ _ _ _ _ _ (c .before .before .before .loop-test .taken) (rw (← c .before .before .form-due .ensures, c .enum-told .given .1)))
+
+enum-known-next-2 : tie.Need-enum-known-next-2 Inv-loop μ-loop
+enum-known-next-2 c = search needs
+
+goal-requires : tie.Need-goal-requires Inv-loop μ-loop
+goal-requires c κs = search needs
+
+enum-known-f : tie.Need-enum-known-f Inv-loop μ-loop
+enum-known-f c = search needs
+
+enum-told-2 : tie.Need-enum-told-2 Inv-loop μ-loop
+enum-told-2 c = search needs
+
+form-refusal-requires : tie.Need-form-refusal-requires Inv-loop μ-loop
+form-refusal-requires c κs = search needs
+
+same-length-7 : tie.Need-same-length-7 Inv-loop μ-loop
+same-length-7 c = search needs
+
+same-length-8 : tie.Need-same-length-8 Inv-loop μ-loop
+same-length-8 c = search needs
+
+same-length-9 : tie.Need-same-length-9 Inv-loop μ-loop
+same-length-9 c = search needs
+
+returns-3 : tie.Need-returns-3 Inv-loop μ-loop
+returns-3 c = sym (c .before .before .before .before .before .before .before .before .before .before .before .before .before .before .before .before .before .before .loop .inv .0 ∙ goal-refused _ _ _ _ _ _ _ _ _ (c .before .before .before .before .before .before .before .before .before .before .before .before .before .before .before .before .before .loop-test .taken) (sym (c .before .before .before .before .before .before .before .before .before .before .before .before .before .before .before .before .form-due .ensures) ∙ ap begun (c .before .before .before .before .before .before .before .before .before .before .before .before .before .before .next2 .given .1)) (rw (c .form-refusal .ensures, ← c .before .before .before .before .before .before .before .before .before .goal .ensures, c .before .enum-told2 .given .1)))
+
+sub-fuel : tie.Need-sub-fuel Inv-loop μ-loop
+sub-fuel c = search needs
+
+loop-less : tie.Need-loop-less Inv-loop μ-loop
+loop-less c = search needs
+
+loop-again : tie.Need-loop-again Inv-loop μ-loop
+loop-again c = (c .before .before .before .before .before .before .before .before .before .before .before .before .before .before .before .before .before .before .loop .inv .0 ∙ goals-on _ _ _ _ _ _ _ _ _ (c .before .before .before .before .before .before .before .before .before .before .before .before .before .before .before .before .before .loop-test .taken) (sym (c .before .before .before .before .before .before .before .before .before .before .before .before .before .before .before .before .form-due .ensures) ∙ ap begun (c .before .before .before .before .before .before .before .before .before .before .before .before .before .before .next2 .given .1)) (sym (c .before .before .before .before .before .before .before .before .before .goal .ensures)) (ap formed (c .before .f .given .1)), search (c .before .before .before .before .before .before .before .slice-known4 .given, c .before .before .before .before .before .before .before .before .table .given, c .before .before .before .before .before .before .before .before .before .before .before .before .before .before .before .before .before .before .loop .inv .1, needs), search (c .before .before .before .before .before .slice-known5 .given, c .before .before .before .before .before .before .store .given, c .before .before .before .before .before .before .before .before .before .before .before .before .before .before .before .before .before .before .loop .inv .2, needs), search (c .before .before .before .slice-known6 .given, c .before .before .before .before .stack .given, c .before .before .before .before .before .before .before .before .before .before .before .before .before .before .before .before .before .before .loop .inv .3, needs))
+
+same-length-10 : tie.Need-same-length-10 Inv-loop μ-loop
+same-length-10 c = search needs
+
+same-length-11 : tie.Need-same-length-11 Inv-loop μ-loop
+same-length-11 c = search needs
+
+same-length-12 : tie.Need-same-length-12 Inv-loop μ-loop
+same-length-12 c = search needs
+
+returns-4 : tie.Need-returns-4 Inv-loop μ-loop
+returns-4 c = sym (c .before .loop .inv .0 ∙ goals-none _ _ _ _ _ _ _ _ _ (c .loop-test .left))
+
+pub goals-from-spec : {M : Type 1} → statement M
+goals-from-spec =
+    tie.close
+    (tie.spec
+    Inv-loop
+    μ-loop
+    add-fuel
+    loop-holds
+    form-due-requires
+    enum-known-next
+    same-length
+    same-length-2
+    same-length-3
+    returns
+    enum-told
+    same-length-4
+    same-length-5
+    same-length-6
+    returns-2
+    enum-known-next-2
+    goal-requires
+    enum-known-f
+    enum-told-2
+    form-refusal-requires
+    same-length-7
+    same-length-8
+    same-length-9
+    returns-3
+    sub-fuel
+    loop-less
+    loop-again
+    same-length-10
+    same-length-11
+    same-length-12
+    returns-4)

@@ -1,0 +1,4 @@
+pub mod Numbers
+pub mod References
+pub mod Items
+pub mod Whole

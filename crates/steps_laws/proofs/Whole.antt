@@ -1,0 +1,226 @@
+-- A step of the certificate is the definition's, where the table holds the goals, abbreviations and steps so far. Assumes nothing.
+use Prim.Native.Nat.{ℕ, _+_, _*_, _≤_, _<_}
+use mathlib.Core.Path.{_≡_, refl, ap₂, sym, _∙_}
+use mathlib.Core.Bool.{Bool, true, false, true≢false}
+use mathlib.Core.List.{List, [], _∷_, _++_}
+use mathlib.Core.Option.{none}
+use native.Mathlib.Omega.{arith}
+use lib.Dec.{eqb}
+use lib.ListN.{length}
+use Rattle.horn.specs.Refusals as refusals
+use Rattle.horn.specs.Refusals.{Refusal, Result, number, stepOrder, referenceCount}
+use Rattle.horn.specs.Setting.{document01}
+use Rattle.horn.specs.Names.{Name}
+use Rattle.horn.specs.Tokens.{Stream, Token}
+use Rattle.horn.specs.NestedLists.{Items}
+use Rattle.horn.specs.Rulebook.{Rule, Theory, variablesOf, premisesOf, ruleNamed}
+use Rattle.horn.specs.StoredTerms.{Term}
+use Rattle.horn.specs.Checker as definition
+use Rattle.horn.specs.Checker.{Goal}
+use Rattle.horn.specs.Matching.{Step, step, judgmentOf}
+use Rattle.horn.specs.Certificate as certificates
+use Rattle.horn.specs.Certificate.{Progress, Given, given}
+use Rattle.horn.proofs.Equality.{eqb-decides}
+use Rattle.horn.proofs.SoundnessWords.{WellFormed}
+use Rattle.words.specs.Parts.{part}
+use Rattle.lex.specs.declared.Reader.{Reader}
+use Rattle.lex.proofs.Positions.{never-past}
+use Rattle.patterns.specs.Outcomes as outcomes
+use Rattle.patterns.specs.Outcomes.{Outcome}
+use Rattle.patterns.specs.Leaving as leaving
+use Rattle.patterns.specs.Leaving.{Did, _leaving_, beside}
+use Rattle.theory_laws.specs.Simulation.{Answers, both-refuse, both-ok, Simulates, refuse, leave, bind, test, giving}
+use Rattle.theory_laws.specs.Representation.{Entries, RuleAt, Holds}
+use Rattle.theory_laws.proofs.Frames.{Keeps, keeps-all, rule-kept, grown-none}
+use Rattle.theory_reading.specs.Reading.{ruleFound, premiseCount}
+use Rattle.theory_reading.specs.Storing.{before}
+use Rattle.theory_reading.proofs.Held.{rule-due, premise-count-is, variable-count-is, holds-now}
+use Rattle.theory_reading.proofs.Stored.{Longer, longer-none, longer-then, Stored, Means, means-longer}
+use Rattle.tables.specs.declared.Tally.{Tally}
+use Rattle.tables.specs.Representation.{Tables}
+use Rattle.tables.proofs.Laws.{means-more}
+use Rattle.asking_laws.proofs.Places.{Left, At}
+use Rattle.asking_laws.proofs.Asking.{WordMet, word-met, word-law, GroupMet, group-met, group-law}
+use Rattle.matching.specs.Matching.{unbound, stepConcluded}
+use Rattle.matching_laws.proofs.Relations.{ReferencesAt, no-references, not-bound}
+use Rattle.matching_laws.proofs.References.{references-kept}
+use Rattle.matching_laws.proofs.Bindings.{binds-none, keeps-unbound}
+use Rattle.matching_laws.proofs.Formed.{RuleReady}
+use Rattle.matching_laws.proofs.Starting.{named-ready}
+use Rattle.matching_laws.proofs.Whole.{step-judged}
+use Rattle.steps.specs.Steps as walk
+use Rattle.steps.specs.Steps.{Worked}
+use Rattle.steps_laws.proofs.Numbers.{number-law}
+use Rattle.steps_laws.proofs.References.{ReferencesRead, references-from}
+use Rattle.steps_laws.proofs.Items.{ItemRead, item-read, items-from}
+
+-- A step was read: its judgment's number, its rule's address, the place of its references, and the reader behind its closing; the definition has one step more.
+pub record StepRead (rules heap : List ℕ) (es : Entries) (bound : ℕ) (th : Theory) (certificate : List ℕ) (ts : List Term) (now : Progress) (K : Stream Token → Type 0)
+    (x : ℕ × ℕ × ℕ × Reader) (areas : Worked) (y : Progress × List Term) : Type 0 where
+  pub judgment : Term
+  pub rule : Rule
+  pub progress : y .0 ≡ record { defs = now .defs; openGoals = now .openGoals; steps = now .steps ++ (step judgment rule ∷ []) }
+  pub means : Means es th (y .1) (x .0) judgment
+  pub by-rule : RuleAt rules heap es bound (x .1) rule
+  pub small : x .2 < 4294967296
+  pub reader : At certificate K 0 (x .3)
+  pub stored : Stored es th document01 4096 (areas .0 .0) (y .1)
+  pub grown : Longer ts (y .1)
+  pub long : length (areas .0 .1) ≡ 16384
+  pub keeps : Keeps 12288 heap (areas .1)
+
+-- What was asked for, by its parts.
+module _ {text : List ℕ} {K : Stream Token → Type 0} {n : ℕ} where
+  word-is : {x : ℕ × ℕ × Reader} {y : Name × Items} → WordMet text K n x y → part (x .0) (x .1) text ≡ y .0
+  word-is (word-met p l u a) = p
+
+  word-at : {x : ℕ × ℕ × Reader} {y : Name × Items} → WordMet text K n x y → At text (Left (y .1) K) (n + 2) (x .2)
+  word-at (word-met p l u a) = a
+
+  group-at : {q : Reader} {y : Items × Items} → GroupMet text K n q y → At text (Left (y .0) (Left (y .1) K)) n q
+  group-at (group-met a) = a
+
+-- What leaves the areas as they are, in front of something that does so too.
+into : {S A B C D E : Type 0} {Q : A → B → Type 0} {R : C → S → D → Type 0} {o : Outcome A} {m : Result B} (s : S) (ts : List Term)
+    (k : A → Outcome E) (f : E × S → Did S C) (g : B × List Term → Result D)
+    → Answers Q o m
+    → ((a : A) (b : B) → Q a b → Simulates R (leaving._>>=_ (k a leaving s) f) (g (b, ts)))
+    → Simulates R (leaving._>>=_ (outcomes._>>=_ o k leaving s) f) (refusals._>>=_ {A = B × List Term} (refusals._>>=_ m (λ b. refusals.ok (b, ts))) g)
+unfolding refusals._>>=_
+into s ts k f g (both-refuse e) on = refuse e
+into s ts k f g (both-ok q) on = on _ _ q
+
+needs : (b : Bool) {b′ : Bool} (n : ℕ) (r : Refusal) → b ≡ b′ → n ≡ number r → Answers (λ (x y : Unit {0}). Unit {0}) (outcomes.need b n) (refusals.need b′ r)
+unfolding refusals.need
+needs true {b′ = true} n r e q = both-ok tt
+needs false {b′ = false} n r e q = both-refuse q
+needs true {b′ = false} n r e q = absurd (true≢false e)
+needs false {b′ = true} n r e q = absurd (true≢false (sym e))
+
+-- What is read and tested without the other areas, and what follows.
+counted : {S P U A C D E : Type 0} {Q : A → S → C → Type 0} {R : E → (P × S) × U → D → Type 0} {m : Did S A} (p : P) (u : U) (m′ : Result C) (c : C → Bool) (r : Refusal) (ts : List Term)
+    (f : A × ((P × S) × U) → Did ((P × S) × U) E) (g : C → List Term → Result D)
+    → Simulates Q m (refusals._>>=_ m′ (λ a. refusals._>>=_ (refusals.need (c a) r) (λ _. refusals.ok a)))
+    → ((x : A) (s : S) (y : C) → Q x s y → Simulates R (f (x, ((p, s), u))) (g y ts))
+    → Simulates R (leaving._>>=_ (before u (beside p m)) f)
+    (refusals._>>=_ {A = C × List Term} (refusals._>>=_ m′ (λ a. refusals.ok (a, ts)))
+    (λ q. refusals._>>=_ {A = Unit {0} × List Term} (refusals._>>=_ (refusals.need (c (q .0)) r) (λ b. refusals.ok (b, q .1))) (λ v. g (q .0) (v .1))))
+unfolding refusals._>>=_ refusals.need
+counted p u (refusals.refused x) c r ts f g (refuse e) k = refuse e
+counted {S} {A} {Q} {R} p u (refusals.ok a) c r ts f g s k = by (c a) s where
+  by : {d : Did S A} (b : Bool) → Simulates Q d (refusals._>>=_ (refusals.need b r) (λ _. refusals.ok a))
+      → Simulates R (leaving._>>=_ (before u (beside p d)) f)
+      (refusals._>>=_ {A = Unit {0} × List Term} (refusals._>>=_ (refusals.need b r) (λ b. refusals.ok (b, ts))) (λ v. g a (v .1)))
+  by true (leave q) = k _ _ _ q
+  by false (refuse e) = refuse e
+
+module _ {rules heap : List ℕ} {es : Entries} {bound : ℕ} {th : Theory} (h : Holds rules heap es bound th) (high : bound ≤ 11948) (w : WellFormed th)
+    (goalsText certificate : List ℕ) (short : length certificate ≤ 32768)
+    {table : List ℕ} {tally : Tally} {goals : List Goal} {ts : List Term} (now : Progress)
+    (Recorded : ℕ → ℕ → ℕ → Step → Type 0) (judged : (j r p : ℕ) (s : Step) → Recorded j r p s → Means es th ts j (judgmentOf s))
+    (t : Tables goalsText certificate table 128 (Means es th ts) Recorded tally goals (now .openGoals) (now .defs) (now .steps))
+    (K : Stream Token → Type 0) where
+  -- "List of references, each 18; their count 20".
+  counted-law : {live : List ℕ} → Holds rules live es bound th → {e : ℕ} {c : Rule} → RuleAt rules live es bound e c → (L : Stream Token → Type 0) (is : Items) (spent : ℕ) (r : Reader) (stack : List ℕ)
+      → length stack ≡ 16384 → 1 ≤ spent → At certificate (Left is L) spent r
+      → Simulates (λ x left y. ReferencesRead certificate L spent [] x left y × (length y ≡ length (premisesOf c))) (walk.countedReferences certificate live e r stack)
+      (refusals._>>=_ (certificates.references is) (λ refs. refusals._>>=_ (refusals.need (eqb (length refs) (length (premisesOf c))) referenceCount) (λ _. refusals.ok refs)))
+  unfolding walk.countedReferences walk.references number
+  counted-law {live} hn {e} {c} a L is spent r stack long some there =
+      bind _ _ (references-from certificate short L (length certificate + 1) is 0 spent [] r stack refl (omega arith) (omega arith) long no-references there)
+      (λ x left y k.
+      test (eqb (x .0) (premiseCount live e)) 20 referenceCount _ _ (ap₂ eqb (k .count) (premise-count-is hn a)) refl
+      (λ yes. leave (k, eqb-decides .equal (length y) (length (premisesOf c)) yes)))
+
+  abbrev Read : ℕ × ℕ × ℕ × Reader → Worked → Progress × List Term → Type 0
+  Read x areas y = StepRead rules heap es bound th certificate ts now K x areas y
+
+  -- "Items; matching": the rule and the references are known.
+  module _ {e : ℕ} {rule : Rule} (by-rule : RuleAt rules heap es bound e rule) (ready : RuleReady rule) {refs held : List ℕ} (at-refs : ReferencesAt held 0 refs)
+      (count : length refs ≡ length (premisesOf rule)) (long : length held ≡ 16384) (n place : ℕ) (all-held : length refs ≤ n) (small : place < 4294967296) where
+    concluded : (x : ℕ × Reader) (areas : Worked) (y : Given × List Term) → ItemRead es th heap (variablesOf rule) ts n held (At certificate K 0) x areas y
+        → Simulates (λ (p : ℕ × Reader) after z. Read (p .0, e, place, p .1) after z)
+        (leaving._>>=_ (stepConcluded 2048 8192 4096 table (tally .steps) e (x .0) (areas .0 .1) (areas .0 .0) (areas .1)) (λ p. outcomes.ok (p .0, x .1) leaving (p .1)))
+        (refusals._>>=_ {A = Term × List Term} (certificates.conclude document01 th (now .steps) rule refs (y .0) (y .1))
+        (λ p. refusals.ok (record { defs = now .defs; openGoals = now .openGoals; steps = now .steps ++ (step (p .0) rule ∷ []) }, p .1)))
+    concluded x areas y (item-read {q} {ts = us} there g) =
+        bind _ _
+        (step-judged h high (means-more t (Means es th us) Recorded (λ v u m. means-longer (g .grown) m) (λ j r p s m. m)) (λ j r p s m. means-longer (g .grown) (judged j r p s m))
+        (g .stored) (g .kept .same-length ∙ long) by-rule ready (references-kept (g .kept) (omega arith) at-refs) count (g .keep) (g .bindings) (g .conclusion))
+        (λ j after z k.
+        leave record {
+          judgment = z .0;
+          rule = rule;
+          progress = refl;
+          means = k .means;
+          by-rule = by-rule;
+          small = small;
+          reader = there;
+          stored = k .holds;
+          grown = longer-then (g .grown) (k .grown);
+          long = k .long;
+          keeps = k .keeps;
+        })
+
+    judged-law : (is : Items) (spent : ℕ) (r : Reader) (store live : List ℕ) → 2 * n ≤ spent → 1 ≤ spent → Stored es th document01 4096 store ts → Keeps 12288 heap live
+        → RuleAt rules live es bound e rule → At certificate (Left is K) spent r
+        → Simulates (λ (p : ℕ × Reader) after z. Read (p .0, e, place, p .1) after z) (walk.itemsJudged certificate rules table (tally .steps) e n r store held live)
+        (refusals._>>=_ {A = Given × List Term} (certificates.stepItems document01 th (now .defs) rule is (given [] none) ts)
+        (λ g. refusals._>>=_ {A = Term × List Term} (certificates.conclude document01 th (now .steps) rule refs (g .0) (g .1))
+        (λ p. refusals.ok (record { defs = now .defs; openGoals = now .openGoals; steps = now .steps ++ (step (p .0) rule ∷ []) }, p .1))))
+    unfolding walk.itemsJudged walk.items
+    judged-law is spent r store live room some st keep live-rule there =
+        rw (variable-count-is (holds-now h high keep) live-rule)
+        (bind _ _
+        (items-from h high certificate short table (now .defs) ts (t .def-part) by-rule (ready .distinct) n held long K (length certificate + 1) is 0 spent r store held
+        (unbound (length (variablesOf rule)) live) ts [] none room (omega arith)
+        record {
+          stored = st;
+          grown = longer-none;
+          kept = keeps-all;
+          keep = keeps-unbound (length (variablesOf rule)) live keep;
+          bindings = binds-none live;
+          conclusion = not-bound refl;
+        }
+        there)
+        concluded)
+
+  -- "`(step I R (I...) item...)`", behind its head.
+  module _ (is : Items) (r : Reader) {store live : List ℕ} (stack : List ℕ) (stored : Stored es th document01 4096 store ts) (long : length stack ≡ 16384) (keep : Keeps 12288 heap live)
+      (at-items : At certificate (Left is K) 0 r) where
+    -- The rule's words are where they were.
+    rule-back : {e : ℕ} {c : Rule} → RuleAt rules live es bound e c → RuleAt rules heap es bound e c
+    rule-back a = rule-kept grown-none (λ i p q. sym (keep .words i (omega arith))) (omega arith) a
+
+    rule-named : (key : List ℕ) {name : Name} → key ≡ name
+        → Answers (λ e c. RuleAt rules live es bound e c × RuleReady c) (outcomes.orElse (ruleFound live rules key) 12) (ruleNamed th name)
+    rule-named key {name} n = rw n (by (rule-due (holds-now h high keep) name) (λ c e. named-ready w name e)) where
+      by : {o : Outcome ℕ} {m : Result Rule} → Answers (RuleAt rules live es bound) o m → ((c : Rule) → m ≡ refusals.ok c → RuleReady c)
+          → Answers (λ e c. RuleAt rules live es bound e c × RuleReady c) o m
+      by (both-refuse e) f = both-refuse e
+      by (both-ok a) f = both-ok (a, f _ refl)
+
+    pub step-law : Simulates (StepRead rules heap es bound th certificate ts now K) (walk.step certificate rules table (tally .steps) r store stack live)
+        (certificates.stepForm document01 th now is ts)
+    unfolding walk.step walk.ruleDue certificates.stepForm definition._>>=_ definition.lift definition.give number
+    step-law =
+        into ((store, stack), live) ts _ _ _ (number-law certificate K 0 is 256 1 refl at-items)
+        (λ x y m.
+        into ((store, stack), live) ts _ _ _ (needs (eqb (x .0) (tally .steps)) 19 stepOrder (ap₂ eqb (sym (m .same)) (t .steps-is)) refl)
+        (λ _ _ _.
+        into ((store, stack), live) ts _ _ _ (word-law certificate K 2 (y .1) 256 1 refl (m .reader))
+        (λ a b n.
+        into ((store, stack), live) ts _ _ _ (rule-named (part (a .0) (a .1) certificate) (word-is n))
+        (λ e c k.
+        into ((store, stack), live) ts _ _ _ (group-law certificate K 4 (b .1) 256 1 refl (word-at n))
+        (λ q g l.
+        let p = never-past certificate q (group-at l .coming) (group-at l .stands) in
+        counted store live (certificates.references (g .0)) _ referenceCount ts _ _
+        (counted-law (holds-now h high keep) (k .0) (Left (g .1) K) (g .0) 4 q stack long (omega arith) (group-at l))
+        (λ x left refs z.
+        let z₀ = z .0 in
+        let u = z₀ .count in
+        giving (λ p. (p .0, e, q .at, p .1))
+        (judged-law (rule-back (k .0)) (k .1) (z₀ .refs) (z .1) (z₀ .long) (x .0) (q .at) (omega arith) (omega arith) (g .1) (4 + 2 * length refs) (x .1) store live (omega arith) (omega arith) stored keep
+        (k .0) (z₀ .reader))
+        (λ _ _ _ m. m)))))))
