@@ -59,6 +59,20 @@ fn show_wrong(label: &[u8]) {
     io::write_all(1, b": areas wrong\n");
 }
 
+// The call over areas that hold words of no sense.
+fn run(
+    rulebook: &[u8],
+    goals: &[u8],
+    certificate: &[u8],
+    a: &mut [u32],
+    b: &mut [u32],
+    c: &mut [u32],
+    d: &mut [u32],
+) -> kernel::Report {
+    areas::fill_all(FIRST, STEP, a, b, c, d);
+    kernel::release(rulebook, goals, certificate, a, b, c, d)
+}
+
 // One case against what was kept of it: whether they agree. Where they do not, it says so.
 fn agrees_over(
     h: Head,
@@ -71,8 +85,7 @@ fn agrees_over(
     c: &mut [u32],
     d: &mut [u32],
 ) -> bool {
-    areas::fill_all(FIRST, STEP, a, b, c, d);
-    let r = kernel::release(rulebook, goals, certificate, a, b, c, d);
+    let r = run(rulebook, goals, certificate, a, b, c, d);
     if !same(h, r) {
         show(label, h, r);
         return false;
