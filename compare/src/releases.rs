@@ -82,12 +82,41 @@ fn many(rng: &mut Random) -> Texts {
     texts
 }
 
+/// Forms as short as there are, so that tables get as many entries as texts allow; now and then the largest rulebook too.
+fn tight(rng: &mut Random) -> Texts {
+    let mut rulebook = b"(sort t)(ctor z()t)(pred p())(rule a()(p))".to_vec();
+    if rng.chance(30) {
+        // Names of two bytes and more, which are not yet there.
+        as_many(&mut rulebook, RULEBOOK_BYTES, |n| match (n % 4, base62(n + 61)) {
+            (0, name) => format!("(sort {name})"),
+            (1, name) => format!("(ctor {name}()t)"),
+            (2, name) => format!("(pred {name}(t))"),
+            (_, name) => format!("(rule {name}()(p))"),
+        });
+    }
+    let mut goals = Vec::new();
+    let end = if rng.chance(50) { GOALS_BYTES } else { rng.from(20, GOALS_BYTES) };
+    let count = as_many(&mut goals, end, |n| format!("(goal {}(p))", base62(n)));
+    let results: String = (0..count).map(|n| format!("(result {} 0)", base62(n))).collect();
+    let mut certificate = b"(step 0 a())".to_vec();
+    let end = CERTIFICATE_BYTES - results.len() - rng.below(20);
+    let (steps, defs) = (rng.below(3), rng.from(1, 3));
+    // So many steps, then so many abbreviations, again and again; the steps before the n-th form are known from n.
+    as_many(&mut certificate, end, |n| {
+        let (turn, at) = (n / (steps + defs), n % (steps + defs));
+        if at < steps { format!("(step {} a())", 1 + turn * steps + at) } else { format!("(def ?{} z)", base62(n)) }
+    });
+    certificate.extend(results.bytes());
+    Texts { rulebook, goals, certificate }
+}
+
 pub fn texts(rng: &mut Random) -> Texts {
     let mut texts = match rng.below(1000) {
         0..945 => generate::case(rng, false).texts,
         945..985 => not_utf8(rng),
         985..990 => special::full(rng).0,
-        _ => many(rng),
+        990..995 => many(rng),
+        _ => tight(rng),
     };
     // Now and then a text as long as it may be, or one byte longer.
     if rng.below(100) == 0 {
