@@ -6,7 +6,7 @@ use mathlib.Core.List.{List}
 use lib.ListN.{length}
 use native.Mathlib.Omega.{arith}
 use Rattle.horn.specs.Tokens.{Stream, end, bad, _▹_, Token, opening, closing, atom, tokens}
-use Rattle.horn.specs.NestedLists.{Item, word, group, Items, closed, ended, badLine, _then_, Around, all, _inside_, innermost, outer, add, around, items}
+use Rattle.horn.specs.NestedLists.{Item, word, group, Items, closed, ended, badLine, _then_, Around, atEnd, atBadLine, _inside_, innermost, outer, add, around, items}
 use Rattle.lex.specs.Answers.{start}
 use Rattle.lex.specs.declared.Reader.{Reader}
 use Rattle.lex.proofs.Standing.{Stands, start-stands}
@@ -50,26 +50,21 @@ mutual
   left-more (item then rest) f s c = comes-more item (λ u d. left-more rest f u d) s c
 
 -- Where the text ends, all lists end alike.
-data Ends : Items → Stream Token → Type 0 where
-  text-ends : Ends ended end
-  line-bad : Ends badLine bad
-
 unfoldable Stacked : Around → Stream Token → Type 0
-Stacked (all is) s = Ends is s
+Stacked atEnd s = s ≡ end
+Stacked atBadLine s = s ≡ bad
 Stacked (is inside a) s = Left is (Stacked a) s
 
 inward : (a : Around) (s : Stream Token) → Stacked a s → Left (innermost a) (Stacked (outer a)) s
 unfolding innermost outer Stacked Left
+inward atEnd s h = h
+inward atBadLine s h = h
 inward (is inside a) s h = h
-inward (all is) s h = by h where
-  by : {js : Items} {u : Stream Token} → Ends js u → Left js (Stacked (all js)) u
-  by text-ends = refl
-  by line-bad = refl
 
 around-stacked : (s : Stream Token) → Stacked (around s) s
 unfolding around add Stacked Left Comes
-around-stacked end = text-ends
-around-stacked bad = line-bad
+around-stacked end = refl
+around-stacked bad = refl
 around-stacked (closing ▹ s) = record { others = s; next = refl; on = around-stacked s }
 around-stacked (atom bytes ▹ s) = record { others = s; next = refl; on = inward (around s) s (around-stacked s) }
 around-stacked (opening ▹ s) =

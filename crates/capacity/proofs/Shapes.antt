@@ -6,34 +6,17 @@ use mathlib.Core.List.{List}
 use native.Mathlib.Omega.{arith}
 use lib.ListN.{length}
 use Rattle.horn.specs.Tokens.{Stream, end, bad, _▹_, Token, opening, closing, atom, tokens}
-use Rattle.horn.specs.NestedLists.{Items, Around, all, _inside_, innermost, outer, add, around, items}
+use Rattle.horn.specs.NestedLists.{Around, atEnd, atBadLine, _inside_, innermost, outer, add, around, items}
 use Rattle.capacity.specs.Costs.{atomFirst, isWord, wordFirst, cost, itemsCost, aroundCost, atomBytes, itemsBytes}
 use Rattle.capacity.proofs.Texts.{text-bytes}
 
 module _ (ofAtom : List ℕ → Bool → ℕ) (ofOpening ofClosing : ℕ) where
-  -- Behind the last list around a reader there is nothing to pay for.
-  data Ends : Around → Type 0 where
-    ends : {is : Items} → itemsCost ofAtom ofOpening ofClosing is ≡ 0 → Ends (all is)
-    ends-inside : {is : Items} {a : Around} → Ends a → Ends (is inside a)
-
-  outer-ends : {a : Around} → Ends a → Ends (outer a)
-  unfolding outer
-  outer-ends (ends z) = ends z
-  outer-ends (ends-inside e) = e
-
-  parted : (a : Around) → Ends a
+  parted : (a : Around)
       → aroundCost ofAtom ofOpening ofClosing a ≡ itemsCost ofAtom ofOpening ofClosing (innermost a) + aroundCost ofAtom ofOpening ofClosing (outer a)
-  unfolding aroundCost innermost outer
-  parted (all is) (ends z) = omega arith
-  parted (is inside a) (ends-inside e) = refl
-
-  around-ends : (ts : Stream Token) → Ends (around ts)
-  unfolding around add itemsCost
-  around-ends end = ends refl
-  around-ends bad = ends refl
-  around-ends (opening ▹ ts) = ends-inside (outer-ends (outer-ends (around-ends ts)))
-  around-ends (closing ▹ ts) = ends-inside (around-ends ts)
-  around-ends (atom bs ▹ ts) = ends-inside (outer-ends (around-ends ts))
+  unfolding aroundCost itemsCost innermost outer
+  parted atEnd = refl
+  parted atBadLine = refl
+  parted (is inside a) = refl
 
   first-alike : (ts : Stream Token) → wordFirst (innermost (around ts)) ≡ atomFirst ts
   unfolding wordFirst isWord atomFirst innermost around add
@@ -49,20 +32,20 @@ module _ (ofAtom : List ℕ → Bool → ℕ) (ofOpening ofClosing : ℕ) where
   around-cost bad = refl
   around-cost (opening ▹ ts) =
       let h = around-cost ts in
-      let p = parted (around ts) (around-ends ts) in
-      let q = parted (outer (around ts)) (outer-ends (around-ends ts)) in
+      let p = parted (around ts) in
+      let q = parted (outer (around ts)) in
       omega arith
   around-cost (closing ▹ ts) = let h = around-cost ts in omega arith
   around-cost (atom bs ▹ ts) =
       let h = around-cost ts in
-      let p = parted (around ts) (around-ends ts) in
+      let p = parted (around ts) in
       rw (first-alike ts) (omega arith)
 
   pub items-cost : (ts : Stream Token) → itemsCost ofAtom ofOpening ofClosing (items ts) ≤ cost ofAtom ofOpening ofClosing ts
   unfolding items
   items-cost ts =
       let h = around-cost ts in
-      let p = parted (around ts) (around-ends ts) in
+      let p = parted (around ts) in
       omega arith
 
 -- All items of a text.

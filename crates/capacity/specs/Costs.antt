@@ -5,7 +5,7 @@ use mathlib.Core.Bool.{Bool, true, false}
 use mathlib.Core.List.{List, [], _∷_}
 use lib.ListN.{length}
 use Rattle.horn.specs.Tokens.{Stream, end, bad, _▹_, Token, opening, closing, atom}
-use Rattle.horn.specs.NestedLists.{Item, word, group, Items, closed, ended, badLine, _then_, Around, all, _inside_}
+use Rattle.horn.specs.NestedLists.{Item, word, group, Items, closed, ended, badLine, _then_, Around, atEnd, atBadLine, _inside_}
 
 -- An atom has a byte at least.
 unfoldable pub wide : List ℕ → ℕ
@@ -51,7 +51,8 @@ module _ (ofAtom : List ℕ → Bool → ℕ) (ofOpening ofClosing : ℕ) where
     itemsCost (item then rest) = itemCost item (wordFirst rest) + itemsCost rest
 
   unfoldable pub aroundCost : Around → ℕ
-  aroundCost (all items) = itemsCost items
+  aroundCost atEnd = 0
+  aroundCost atBadLine = 0
   aroundCost (items inside around) = itemsCost items + aroundCost around
 
 -- One byte parts two atoms.

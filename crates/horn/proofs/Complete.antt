@@ -5,25 +5,28 @@ use mathlib.Core.Path.{_≡_, refl, sym, ap, subst, _∙_}
 use mathlib.Core.Bool.{true}
 use mathlib.Core.List.{List, [], _∷_, _++_, map, map-append, List·Memᴰ, Memᴰ·append-left, Memᴰ·append-right, List·Memᴰ·append-cases, append-assoc, append-nil}
 use mathlib.Core.Logic.{⊎-elim}
-use lib.Dec.{leb}
 use lib.ListN.{length, length-append}
 use borrow.Author.Tests.{le-leb}
 use Rattle.horn.specs.Refusals.{ok}
 use Rattle.horn.specs.Setting.{Setting, document01}
-use Rattle.horn.specs.NestedLists.{Sexp}
+use Rattle.horn.specs.NestedLists.{Sexp, asItem, topItems}
 use Rattle.horn.specs.Rulebook.{Theory, theory}
 use Rattle.horn.specs.StoredTerms.{Term, Store, withinLimits}
-use Rattle.horn.specs.Checker.{Goal, goalJudgment, isEmptyList, give}
+use Rattle.horn.specs.Checker.{Goal, goalJudgment, goalsOf, isEmptyList, give}
 use Rattle.horn.specs.Matching.{Step, step, judgmentOf}
 use Rattle.horn.specs.Certificate.{certificateForm, certificateForms, certificateOf}
-use Rattle.horn.specs.Calls.{report, areasLong, rulebookJudged, releaseJudged, releaseAnswer, releaseCall}
-use Rattle.horn.specs.Forced.{Instance, premises, conclusion, Each, judgments, Accepted, ReadWithoutRefusal}
+use Rattle.horn.specs.Calls.{report, releaseJudged, releaseAnswer, releaseCall}
+use Rattle.horn.specs.Forced.{Instance, premises, conclusion, Each, judgments, Accepted, ReadWithoutRefusal, HasGoals}
 use Rattle.horn.specs.Layout
 use Rattle.horn.specs.Layout.{stepForms, forms, laidOut, height, depth, subterms, allSubterms, distinct, spread, WithinLimits, Supported, none-left, and-then, Proves}
-use Rattle.horn.proofs.Inversion.{afterᵣ, afterNeedᵣ, onᵣ, on, need-on}
+use Rattle.horn.specs.Demand3.{Complete}
+use Rattle.horn.proofs.Inversion.{onᵣ, on, need-on}
+use Rattle.horn.proofs.Accepting.{areas-long, accepted-gives}
+use Rattle.horn.proofs.GoalsWritten.{read-has, reading-gives}
+use Rattle.horn.proofs.GoalsFixed.{goals-fixed}
 use Rattle.horn.proofs.SoundnessWords.{WellFormed, conclusion-well-sorted}
 use Rattle.horn.proofs.SoundnessRulebook.{theory-formed}
-use Rattle.horn.proofs.CompleteItems.{asItem, topItems, items-printed}
+use Rattle.horn.proofs.CompleteItems.{items-printed}
 use Rattle.horn.proofs.CompleteTheory.{Lookups, theory-looks}
 use Rattle.horn.proofs.CompleteCount.{_⊆_, to-distinct}
 use Rattle.horn.proofs.CompleteStore.{at-most, withTerm, withAll, withAll-append, Fits, fits-none, fits-term, fits-all, stored-count}
@@ -135,73 +138,82 @@ unfolding allSubterms
 second-part [] ys u m = m
 second-part (x ∷ xs) ys u m = Memᴰ·append-right (subterms x) (second-part xs ys u m)
 
--- What an accepted rulebook is.
-accepted-parts {ℓ} : {C : Type ℓ} {limits : Setting} {rulebook : List ℕ} {th : Theory} → Accepted limits rulebook th
-    → (leb (length rulebook) (limits .rulebookBytes) ≡ true → theory rulebook ≡ ok th → C)
-    → C
-unfolding rulebookJudged
-accepted-parts a k = afterᵣ _ (a .judged) λ u e₁ e₂. afterNeedᵣ _ _ _ e₂ λ h e₃. k h e₃
-
-areas-long : (limits : Setting) (a b c d : ℕ) → limits .areaWords ≤ a → limits .areaWords ≤ b → limits .areaWords ≤ c
-    → limits .lastAreaWords ≤ d
-    → areasLong limits a b c d ≡ ok tt
-unfolding areasLong
-areas-long limits a b c d ha hb hc hd =
-    onᵣ _ (need-on _ (le-leb (limits .areaWords) a ha))
-    ∙ onᵣ _ (need-on _ (le-leb (limits .areaWords) b hb))
-    ∙ onᵣ _ (need-on _ (le-leb (limits .areaWords) c hc))
-    ∙ need-on _ (le-leb (limits .lastAreaWords) d hd)
+module _ (limits : Setting) (a b c d : ℕ) (rulebook text : List ℕ) {th : Theory} {goals : List Goal} {store : Store} (is : List Instance)
+    (short : length rulebook ≤ limits .rulebookBytes) (e : theory rulebook ≡ ok th) where
+  -- Of goals that are read, with the store that they leave.
+  complete-read : limits .certificateBytes ≤ 2 ^ 64 → length text ≤ limits .goalsBytes
+      → goalsOf limits th text [] ≡ ok (goals, store)
+      → Proves th goals is
+      → WithinLimits limits a b c d goals is
+      → releaseCall limits a b c d rulebook text (laidOut goals is)
+      ≡ report 0 (length is) (length goals) (length (spread goals is)) (length (laidOut goals is))
+  unfolding releaseCall releaseJudged releaseAnswer spread
+  complete-read bound short-text read p w =
+      let js = judgments goals ++ map conclusion is in
+      let us = distinct (allSubterms js) in
+      let k = read-known limits th text read in
+      let in-us : allSubterms js ⊆ us = to-distinct (allSubterms js) in
+      let f : Fits us store =
+      subst (Fits us) (sym (k .has))
+      (fits-all us (judgments goals) [] (fits-none us) (λ u m. in-us u (first-part (judgments goals) (map conclusion is) u m))) in
+      let n : length is ≤ 2 ^ 64 = omega (arith, layout-long goals is, w .short) in
+      let certificate =
+      certificate-back limits th (theory-looks rulebook e) (theory-formed rulebook e) us (at-most limits us (w .few) (w .small)) goals is store p k n (w .shallow)
+      (λ u m. in-us u (second-part (judgments goals) (map conclusion is) u m)) f in
+      let final = ap (withAll (map conclusion is)) (k .has) ∙ sym (withAll-append (judgments goals) (map conclusion is) []) in
+      let count : length (made [] is) ≡ length is = let h = made-length [] is in omega arith in
+      ap releaseAnswer
+      (onᵣ _ (areas-long (w .areas))
+      ∙ onᵣ _ (need-on _ (le-leb (length rulebook) (limits .rulebookBytes) short))
+      ∙ onᵣ _ (need-on _ (le-leb (length text) (limits .goalsBytes) short-text))
+      ∙ onᵣ _ (need-on _ (le-leb (length (laidOut goals is)) (limits .certificateBytes) (w .short)))
+      ∙ onᵣ _ e
+      ∙ onᵣ _ read
+      ∙ onᵣ _ certificate)
+      ∙ ap (λ x. report 0 x (length goals) (length (withAll (map conclusion is) store)) (length (laidOut goals is))) count
+      ∙ ap (λ x. report 0 (length is) (length goals) x (length (laidOut goals is))) (ap length final ∙ stored-count js)
 
 -- "For every accepted rulebook, every goals text read without refusal under it, and every list of well-sorted rule
 -- instances in which each premise is an earlier instance's conclusion and each goal's judgment some instance's
 -- conclusion: if the certificate laid out for the list is within the limits, the release is accepted", with its counts.
 -- A number of a certificate is below 2 to the 64, so a setting may let a certificate have no more bytes than that.
-pub complete : (limits : Setting) (a b c d : ℕ) (rulebook text : List ℕ) {th : Theory} {goals : List Goal} {store : Store}
-    (is : List Instance)
+pub complete : (limits : Setting) (a b c d : ℕ) (rulebook text : List ℕ) {th : Theory} {goals : List Goal} (is : List Instance)
     → limits .certificateBytes ≤ 2 ^ 64
-    → Accepted limits rulebook th
-    → ReadWithoutRefusal limits th text goals store
+    → Accepted limits rulebook
+    → theory rulebook ≡ ok th
+    → ReadWithoutRefusal limits th text
+    → HasGoals th text goals
     → Proves th goals is
     → WithinLimits limits a b c d goals is
     → releaseCall limits a b c d rulebook text (laidOut goals is)
     ≡ report 0 (length is) (length goals) (length (spread goals is)) (length (laidOut goals is))
-unfolding releaseCall releaseJudged releaseAnswer spread
-complete limits a b c d rulebook text {th} {goals} {store} is bound acc read p w =
-    accepted-parts acc λ short e.
-    let js = judgments goals ++ map conclusion is in
-    let us = distinct (allSubterms js) in
-    let k = read-known limits th text (read .read) in
-    let in-us : allSubterms js ⊆ us = to-distinct (allSubterms js) in
-    let f : Fits us store =
-    subst (Fits us) (sym (k .has))
-    (fits-all us (judgments goals) [] (fits-none us) (λ u m. in-us u (first-part (judgments goals) (map conclusion is) u m))) in
-    let n : length is ≤ 2 ^ 64 = omega (arith, layout-long goals is, w .short) in
-    let certificate =
-    certificate-back limits th (theory-looks rulebook e) (theory-formed rulebook e) us (at-most limits us (w .few) (w .small)) goals is store p k n (w .shallow)
-    (λ u m. in-us u (second-part (judgments goals) (map conclusion is) u m)) f in
-    let final = ap (withAll (map conclusion is)) (k .has) ∙ sym (withAll-append (judgments goals) (map conclusion is) []) in
-    let count : length (made [] is) ≡ length is = let h = made-length [] is in omega arith in
-    ap releaseAnswer
-    (onᵣ _ (areas-long limits a b c d (w .first-area) (w .second-area) (w .third-area) (w .fourth-area))
-    ∙ onᵣ _ (need-on _ short)
-    ∙ onᵣ _ (need-on _ (le-leb (length text) (limits .goalsBytes) (read .short)))
-    ∙ onᵣ _ (need-on _ (le-leb (length (laidOut goals is)) (limits .certificateBytes) (w .short)))
-    ∙ onᵣ _ e
-    ∙ onᵣ _ (read .read)
-    ∙ onᵣ _ certificate)
-    ∙ ap (λ x. report 0 x (length goals) (length (withAll (map conclusion is) store)) (length (laidOut goals is))) count
-    ∙ ap (λ x. report 0 (length is) (length goals) x (length (laidOut goals is))) (ap length final ∙ stored-count js)
+complete limits a b c d rulebook text {th} {goals} is bound acc e r has p w =
+    let (th′, g) = accepted-gives acc in
+    let (q, read) = reading-gives limits th text r in
+    let same = goals-fixed rulebook text e (read-has limits th text read) has in
+    complete-read limits a b c d rulebook text is (g .short) e bound (r .short)
+    (subst (λ gs. goalsOf limits th text [] ≡ ok (gs, q .1)) same read) p w
 
 -- Under 01's own limits.
-pub complete-01 : (a b c d : ℕ) (rulebook text : List ℕ) {th : Theory} {goals : List Goal} {store : Store} (is : List Instance)
-    → Accepted document01 rulebook th
-    → ReadWithoutRefusal document01 th text goals store
+pub complete-01 : (a b c d : ℕ) (rulebook text : List ℕ) {th : Theory} {goals : List Goal} (is : List Instance)
+    → Accepted document01 rulebook
+    → theory rulebook ≡ ok th
+    → ReadWithoutRefusal document01 th text
+    → HasGoals th text goals
     → Proves th goals is
     → WithinLimits document01 a b c d goals is
     → releaseCall document01 a b c d rulebook text (laidOut goals is)
     ≡ report 0 (length is) (length goals) (length (spread goals is)) (length (laidOut goals is))
-complete-01 a b c d rulebook text is acc read p w =
-    complete document01 a b c d rulebook text is short acc read p w
+complete-01 a b c d rulebook text is acc e r has p w =
+    complete document01 a b c d rulebook text is short acc e r has p w
   where
     short : document01 .certificateBytes ≤ 2 ^ 64
     short = unfold document01 in omega arith
+
+-- The same as a call's contract says it.
+pub laid-out-accepted : (a b c d : ℕ) (rulebook text certificate : List ℕ)
+    → Complete document01 a b c d rulebook text certificate (releaseCall document01 a b c d rulebook text certificate)
+laid-out-accepted a b c d rulebook text certificate =
+    record {
+      accepts = λ th goals is acc e r has p w same. rw same (complete-01 a b c d rulebook text is acc e r has p w);
+    }

@@ -2,20 +2,25 @@
 -- conclusion is the report that is computed.
 use Prim.Native.Nat.{ℕ}
 use native.Mathlib.Omega.{arith}
-use mathlib.Core.Path.{_≡_, refl, subst}
+use mathlib.Core.Path.{_≡_, refl, sym, subst}
 use mathlib.Core.List.{List, [], _∷_, List·Memᴰ, List·Memᴰ·head, List·Memᴰ·tail}
+use Rattle.horn.specs.Refusals.{ok}
 use Rattle.horn.specs.Setting.{Setting, document01}
 use Rattle.horn.specs.Names.{Name, codes}
-use Rattle.horn.specs.Rulebook.{Symbol, symbol, sort, judgment, variable, var, app, []ₚ, _∷ₚ_, Rule, rule, Theory, variablesOf, premisesOf, conclusionOf}
+use Rattle.horn.specs.Rulebook.{Symbol, symbol, sort, judgment, variable, var, app, []ₚ, _∷ₚ_, Rule, rule, Theory, theory, variablesOf, premisesOf, conclusionOf}
 use Rattle.horn.specs.StoredTerms.{Term, node, []ₜ, _∷ₜ_, Store}
-use Rattle.horn.specs.Checker.{Goal, goal, goalJudgment}
+use Rattle.horn.specs.Checker.{Goal, goal, goalJudgment, goalsOf}
 use Rattle.horn.specs.Calls.{report, releaseCall}
 use Rattle.horn.specs.Forced
-use Rattle.horn.specs.Forced.{Ground, ground, Instance, IsInstance, Accepted, ReadWithoutRefusal, substitute, premises, conclusion, judgments}
+use Rattle.horn.specs.Forced.{Ground, ground, Instance, IsInstance, Accepted, ReadWithoutRefusal, HasGoals, substitute, premises, conclusion, judgments}
 use Rattle.horn.specs.Layout
+use Rattle.horn.specs.Written
 use Rattle.horn.specs.Layout.{laidOut, spread, WithinLimits, none-left, and-then, Proves}
 use Rattle.horn.proofs.Run.{release}
 use Rattle.horn.proofs.Firings.{R, G}
+use Rattle.horn.proofs.Inversion.{not-ok}
+use Rattle.horn.proofs.Accepting.{gives-accepted}
+use Rattle.horn.proofs.GoalsWritten.{read-has, given-reading}
 use Rattle.horn.proofs.Complete.{complete, complete-01}
 
 -- Limits of which each is met.
@@ -67,13 +72,24 @@ goals = goal (codes "g") (node hold (one-term ∷ₜ []ₜ)) ∷ []
 abbrev store : Store
 store = zero-term ∷ one-term ∷ node hold (one-term ∷ₜ []ₜ) ∷ []
 
-accepted : Accepted tight R th
+gives : theory R ≡ ok th
 unfolding release R
-accepted = record { judged = refl }
+gives = refl
 
-read : ReadWithoutRefusal tight th G goals store
+accepted : Accepted tight R
+unfolding release R
+accepted = gives-accepted record { short = omega arith; gives = gives }
+
+reads : goalsOf tight th G [] ≡ ok (goals, store)
 unfolding release G
-read = record { short = omega arith; read = refl }
+reads = refl
+
+read : ReadWithoutRefusal tight th G
+unfolding release G
+read = given-reading tight th G (omega arith) reads
+
+has : HasGoals th G goals
+has = read-has tight th G reads
 
 -- The two instances: `?x` is z.
 abbrev both : List Instance
@@ -104,17 +120,14 @@ proves =
 
 -- What the layout is, computed: `laid` opens all that it goes by.
 unfoldable laid : List ℕ
-unfolding release Layout.next Layout.countedTo Layout.plain Layout.plainAll Layout.symbolName Layout.ruleName Layout.constantOr Layout.termForm Layout.judgmentForm Layout.lowest Layout.stepForm Layout.stepForms Layout.resultForm Layout.forms Layout.printed Layout.printedLines Layout.laidOut Layout.height Layout.depth Layout.subterms Layout.allSubterms Layout.distinct Layout.spread premises conclusion premisesOf conclusionOf substitute judgments goalJudgment
+unfolding release Layout.next Layout.countedTo Layout.plain Layout.plainAll Written.symbolName Layout.ruleName Written.constantOr Written.termForm Written.judgmentForm Layout.lowest Layout.stepForm Layout.stepForms Layout.resultForm Layout.forms Layout.printed Layout.printedLines Layout.laidOut Layout.height Layout.depth Layout.subterms Layout.allSubterms Layout.distinct Layout.spread premises conclusion premisesOf conclusionOf substitute judgments goalJudgment
 laid = laidOut goals both
 
 within : WithinLimits tight 16_384 16_384 16_384 16_384 goals both
 unfolding laid
 within =
     record {
-      first-area = omega arith;
-      second-area = omega arith;
-      third-area = omega arith;
-      fourth-area = omega arith;
+      areas = record { first-area = omega arith; second-area = omega arith; third-area = omega arith; fourth-area = omega arith };
       short = omega arith;
       shallow = omega arith;
       few = omega arith;
@@ -127,31 +140,28 @@ layout = refl
 
 pub bench : releaseCall tight 16_384 16_384 16_384 16_384 R G (laidOut goals both) ≡ report 0 2 1 4 70
 unfolding laid
-bench = complete tight 16_384 16_384 16_384 16_384 R G both (omega arith) accepted read proves within
+bench = complete tight 16_384 16_384 16_384 16_384 R G both (omega arith) accepted gives read has proves within
 
 -- Under 01's limits.
 within-01 : WithinLimits document01 16_384 16_384 16_384 16_384 goals both
 unfolding laid
 within-01 =
     record {
-      first-area = omega arith;
-      second-area = omega arith;
-      third-area = omega arith;
-      fourth-area = omega arith;
+      areas = record { first-area = omega arith; second-area = omega arith; third-area = omega arith; fourth-area = omega arith };
       short = omega arith;
       shallow = omega arith;
       few = omega arith;
       small = omega arith;
     }
 
-accepted-01 : Accepted document01 R th
+accepted-01 : Accepted document01 R
 unfolding release R
-accepted-01 = record { judged = refl }
+accepted-01 = gives-accepted record { short = omega arith; gives = gives }
 
-read-01 : ReadWithoutRefusal document01 th G goals store
+read-01 : ReadWithoutRefusal document01 th G
 unfolding release G
-read-01 = record { short = omega arith; read = refl }
+read-01 = record { short = omega arith; none-met = λ r e. not-ok (sym e) }
 
 pub bench-01 : releaseCall document01 16_384 16_384 16_384 16_384 R G (laidOut goals both) ≡ report 0 2 1 4 70
 unfolding laid
-bench-01 = complete-01 16_384 16_384 16_384 16_384 R G both accepted-01 read-01 proves within-01
+bench-01 = complete-01 16_384 16_384 16_384 16_384 R G both accepted-01 gives read-01 has proves within-01

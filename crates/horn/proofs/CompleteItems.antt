@@ -4,31 +4,19 @@ use mathlib.Core.Path.{_≡_, refl, sym, ap, _∙_}
 use mathlib.Core.Bool.{Bool, true, false}
 use mathlib.Core.List.{List, [], _∷_, _++_, append-nil, append-assoc}
 use mathlib.Core.Option.{Option, none, some}
+use native.Mathlib.Omega.{arith}
 use lib.Dec.{eqb}
 use Rattle.horn.specs.Refusals.{ok}
 use Rattle.horn.specs.Utf8.{Char, char, decoded}
 use Rattle.horn.specs.Tokens.{Stream, end, bad, _▹_, before, lines, characters, Kind, blank, opens, closes, comments, ordinary, kind}
 use Rattle.horn.specs.Tokens.{Token, opening, closing, atom, Place, between, inComment, inAtom, Move, begins, continues, move, unended, tokensFrom, tokens}
-use Rattle.horn.specs.NestedLists.{Item, word, group, Items, closed, ended, badLine, _then_, Around, all, _inside_, innermost, outer, add, around, items}
-use Rattle.horn.specs.NestedLists.{Sexp, leaf, list, Sexps, []ₛ, _∷ₛ_, absent, askedAt, sexp, members, sexps}
+use Rattle.horn.specs.NestedLists.{Item, word, group, Items, closed, ended, badLine, _then_, Around, atEnd, atBadLine, _inside_, innermost, outer, add, around, items}
+use Rattle.horn.specs.NestedLists.{Sexp, leaf, list, Sexps, []ₛ, _∷ₛ_, asItem, asItems, topItems, absent, askedAt, sexp, members, sexps}
 use Rattle.horn.specs.Layout.{printedLines}
+use Rattle.horn.proofs.Counts.{itemCount}
 use Rattle.horn.proofs.Inversion.{afterᵣ, not-ok, ok-equal}
 use Rattle.horn.proofs.CompleteUtf8.{All, All-append, Proper, decoded-append, decoded-proper}
 use Rattle.horn.proofs.CompleteTokens.{Ordinary, bytesOf, Word, WordsIn, leaf-word, list-words, AllWords, no-words, _and-words_, tok, toks, formTokens, tokens-printed}
-
--- A form as what stands in a text.
-unfoldable mutual
-  pub asItem : Sexp → Item
-  asItem (leaf name) = word name
-  asItem (list xs) = group (asItems xs)
-
-  pub asItems : Sexps → Items
-  asItems []ₛ = closed
-  asItems (x ∷ₛ xs) = asItem x then asItems xs
-
-unfoldable pub topItems : List Sexp → Items
-topItems [] = ended
-topItems (x ∷ xs) = asItem x then topItems xs
 
 mutual
   unfolding around add innermost outer tok asItem
@@ -160,25 +148,35 @@ mutual
     _then-words_ : {item : Item} {rest : Items} → WordItem item → WordItems rest → WordItems (item then rest)
 
 infixr 20 _then-words_
+no-item-words : (is : Items) → itemCount is ≡ 0 → WordItems is
+unfolding itemCount
+no-item-words closed e = at-closed
+no-item-words ended e = at-ended
+no-item-words badLine e = at-bad
+no-item-words (item then rest) e = absurd (omega arith)
+
 data WordAround : Around → Type 0 where
-  all-words : {is : Items} → WordItems is → WordAround (all is)
+  end-words : WordAround atEnd
+  bad-words : WordAround atBadLine
   _inside-words_ : {is : Items} {a : Around} → WordItems is → WordAround a → WordAround (is inside a)
 
 infixr 20 _inside-words_
 innermost-words : {a : Around} → WordAround a → WordItems (innermost a)
-unfolding innermost
-innermost-words (all-words w) = w
+unfolding innermost itemCount
+innermost-words end-words = no-item-words (innermost atEnd) refl
+innermost-words bad-words = no-item-words (innermost atBadLine) refl
 innermost-words (w inside-words ws) = w
 
 outer-words : {a : Around} → WordAround a → WordAround (outer a)
 unfolding outer
-outer-words (all-words w) = all-words w
+outer-words end-words = end-words
+outer-words bad-words = bad-words
 outer-words (w inside-words ws) = ws
 
 around-words : (ts : Stream Token) → AllIn WordToken ts → WordAround (around ts)
 unfolding around add
-around-words end w = all-words at-ended
-around-words bad w = all-words at-bad
+around-words end w = end-words
+around-words bad w = bad-words
 around-words (closing ▹ ts) w = _inside-words_ at-closed (around-words ts (w .1))
 around-words (atom bs ▹ ts) w =
     let a = around-words ts (w .1) in

@@ -11,7 +11,8 @@ use Rattle.horn.specs.StoredTerms.{Term, Terms}
 use Rattle.horn.specs.Checker.{Goal, goal}
 use Rattle.horn.specs.Forced.{Ground, ground, Grounds, WellSorted, well-sorted, Instance, IsInstance, conclusion}
 use Rattle.horn.specs.Forced
-use Rattle.horn.specs.Layout.{plainAll, symbolName, constantOr, termForm, termForms, judgmentForm, stepForm, stepForms}
+use Rattle.horn.specs.Written.{symbolName, constantOr, termForm, termForms, judgmentForm}
+use Rattle.horn.specs.Layout.{plainAll, stepForm, stepForms}
 use Rattle.horn.specs.Layout.{resultForm, forms, printed, printedLines, laidOut, Supported, none-left, and-then}
 use Rattle.horn.proofs.SoundnessWords.{WellFormed, conclusion-well-sorted}
 use Rattle.horn.proofs.CompleteUtf8.{All, All-append}

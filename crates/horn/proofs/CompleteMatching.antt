@@ -7,7 +7,7 @@ use mathlib.Core.Option.{Option, none, some}
 use lib.ListN.{length, getElem?}
 use Rattle.horn.specs.Refusals.{Result, ok}
 use Rattle.horn.specs.Names.{Name, named}
-use Rattle.horn.specs.NestedLists.{word}
+use Rattle.horn.specs.NestedLists.{asItem, asItems, word}
 use Rattle.horn.specs.Rulebook.{Pattern, var, app, Patterns, []ₚ, _∷ₚ_}
 use Rattle.horn.specs.StoredTerms.{Term, sameTerm}
 use Rattle.horn.specs.Checker.{wordDue, numberDue}
@@ -18,7 +18,6 @@ use Rattle.horn.specs.Layout.{plain, plainAll, lowest}
 use Rattle.horn.proofs.Equality.{case, chosen, chose-true, chose-false, named-decides, sameSymbol-decides, sameTerm-decides}
 use Rattle.horn.proofs.Inversion.{none-some, some-equal, onᵣ, found-on}
 use Rattle.horn.proofs.CompleteUtf8.{All, All-append}
-use Rattle.horn.proofs.CompleteItems.{asItem, asItems}
 use Rattle.horn.proofs.CompleteNumbers.{numeral-plain}
 use Rattle.horn.proofs.CompleteTerms.{asked-ok}
 

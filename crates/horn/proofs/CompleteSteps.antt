@@ -10,7 +10,7 @@ use borrow.Author.Tests.{eq-eqb}
 use Rattle.horn.specs.Refusals.{ok}
 use Rattle.horn.specs.Setting.{Setting}
 use Rattle.horn.specs.Names.{Name, named, sameList, codes, first}
-use Rattle.horn.specs.NestedLists.{Item, word, group, Items, closed, _then_}
+use Rattle.horn.specs.NestedLists.{asItem, asItems, Item, word, group, Items, closed, _then_}
 use Rattle.horn.specs.Rulebook.{symbol, judgment, Rule, rule, premisesOf, conclusionOf, Theory, isRule, ruleNamed}
 use Rattle.horn.specs.StoredTerms.{Term, Store, withinLimits, sameTerm}
 use Rattle.horn.specs.Checker.{Reading, give, wordDue, groupDue, ask, askWord, askGroup, askNumber, closingDue}
@@ -20,11 +20,11 @@ use Rattle.horn.specs.Certificate
 use Rattle.horn.specs.Certificate.{Progress, Given, given, stepWord, resultWord, keyword, isStated, without}
 use Rattle.horn.specs.Forced.{WellSorted, well-sorted, Instance, IsInstance, premises, conclusion, Each, substitute}
 use Rattle.horn.specs.Layout
-use Rattle.horn.specs.Layout.{plain, plainAll, symbolName, ruleName, termForms, judgmentForm, lowest, height, subterms}
+use Rattle.horn.specs.Written.{symbolName, termForms, judgmentForm}
+use Rattle.horn.specs.Layout.{plain, plainAll, ruleName, lowest, height, subterms}
 use Rattle.horn.proofs.Equality.{chose-true, chose-false, named-decides, sameTerm-decides}
 use Rattle.horn.proofs.Inversion.{onᵣ, on, need-on, found-on}
 use Rattle.horn.proofs.CompleteUtf8.{All}
-use Rattle.horn.proofs.CompleteItems.{asItem, asItems}
 use Rattle.horn.proofs.CompleteTheory.{Lookups}
 use Rattle.horn.proofs.CompleteCount.{_⊆_}
 use Rattle.horn.proofs.CompleteStore.{withTerm, Fits}

@@ -8,15 +8,15 @@ use borrow.Author.Tests.{le-leb}
 use Rattle.horn.specs.Refusals.{Result, ok}
 use Rattle.horn.specs.Setting.{Setting}
 use Rattle.horn.specs.Names.{Name, questioned}
-use Rattle.horn.specs.NestedLists.{askedAt}
+use Rattle.horn.specs.NestedLists.{asItem, asItems, askedAt}
 use Rattle.horn.specs.Rulebook.{Symbol, symbol, sort, judgment, output, inputs, Theory, isConstructor, isPredicate, constructor, predicate}
 use Rattle.horn.specs.StoredTerms.{Term, node, Terms, []ₜ, _∷ₜ_, Store, withinLimits}
 use Rattle.horn.specs.Checker.{Reading, _>>=_, give, lift, wordDue, hasSort, accepts, isNil, make, stored, atomTerm, term, arguments, headedJudgment}
 use Rattle.horn.specs.Forced.{Ground, ground, Grounds, none-left, and-then}
-use Rattle.horn.specs.Layout.{symbolName, constantOr, termForm, termForms, height, heights, subterms, subtermsOf}
+use Rattle.horn.specs.Written.{symbolName, constantOr, termForm, termForms}
+use Rattle.horn.specs.Layout.{height, heights, subterms, subtermsOf}
 use Rattle.horn.proofs.Equality.{named-decides, sameOutput-decides}
 use Rattle.horn.proofs.Inversion.{onᵣ, on, lift-on, need-on, found-on}
-use Rattle.horn.proofs.CompleteItems.{asItem, asItems}
 use Rattle.horn.proofs.CompleteTheory.{Lookups}
 use Rattle.horn.proofs.CompleteCount.{_⊆_}
 use Rattle.horn.proofs.CompleteStore.{kept, withTerm, withTerms, Fits, fits-term, fits-terms, intern-fits}

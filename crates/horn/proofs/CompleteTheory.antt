@@ -11,7 +11,8 @@ use Rattle.horn.specs.Tokens.{tokens}
 use Rattle.horn.specs.Rulebook
 use Rattle.horn.specs.Rulebook.{Symbol, symbol, sort, judgment, Rule, rule, Theory, isConstructor, isPredicate, isRule}
 use Rattle.horn.specs.Rulebook.{Keyword, sortWord, ctorWord, predWord, ruleWord, otherWord}
-use Rattle.horn.specs.Layout.{symbolName, ruleName}
+use Rattle.horn.specs.Written.{symbolName}
+use Rattle.horn.specs.Layout.{ruleName}
 use Rattle.horn.proofs.Equality.{not-true, chosen}
 use Rattle.horn.proofs.Inversion.{afterOne, afterTwo, afterThree, not-ok, none-some, ok-equal, afterᵣ, afterNeedᵣ}
 use Rattle.horn.proofs.SoundnessPatterns.{in-or-last}

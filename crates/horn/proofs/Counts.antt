@@ -9,7 +9,7 @@ use lib.ListN.{length}
 use Rattle.horn.specs.Utf8.{Range, Sequence, sequence, sequences, Char, char, within, startedBy, resumed, decoded}
 use Rattle.horn.specs.Tokens.{Stream, end, bad, _▹_, before, onto, lines, characters, Kind, blank, opens, closes, comments, ordinary, kind}
 use Rattle.horn.specs.Tokens.{Token, opening, closing, atom, Place, between, inComment, inAtom, Move, begins, continues, move, unended, tokensFrom, tokens}
-use Rattle.horn.specs.NestedLists.{word, group, Items, closed, ended, badLine, _then_, Around, all, _inside_, innermost, outer, add, around, items}
+use Rattle.horn.specs.NestedLists.{word, group, Items, closed, ended, badLine, _then_, Around, atEnd, atBadLine, _inside_, innermost, outer, add, around, items}
 use Rattle.horn.proofs.Post.{either}
 
 -- Characters and bytes.
@@ -141,21 +141,25 @@ itemCount badLine = zero
 itemCount (item then rest) = suc (itemCount rest)
 
 data AtMost (n : ℕ) : Around → Type 0 where
-  at-all : (is : Items) → itemCount is ≤ n → AtMost n (all is)
+  at-end : AtMost n atEnd
+  at-bad : AtMost n atBadLine
   at-inside : (is : Items) {a : Around} → itemCount is ≤ n → AtMost n a → AtMost n (is inside a)
 
 at-innermost : {n : ℕ} {a : Around} → AtMost n a → itemCount (innermost a) ≤ n
-unfolding innermost
-at-innermost (at-all is h) = h
+unfolding innermost itemCount
+at-innermost at-end = omega arith
+at-innermost at-bad = omega arith
 at-innermost (at-inside is h k) = h
 
 at-outer : {n : ℕ} {a : Around} → AtMost n a → AtMost n (outer a)
 unfolding outer
-at-outer (at-all is h) = at-all is h
+at-outer at-end = at-end
+at-outer at-bad = at-bad
 at-outer (at-inside is h k) = k
 
 at-suc : {n : ℕ} {a : Around} → AtMost n a → AtMost (suc n) a
-at-suc (at-all is h) = at-all is (omega arith)
+at-suc at-end = at-end
+at-suc at-bad = at-bad
 at-suc (at-inside is h k) = at-inside is (omega arith) (at-suc k)
 
 at-add : {n : ℕ} (t : Token) {a : Around} → AtMost n a → AtMost (suc n) (add t a)
@@ -166,8 +170,8 @@ at-add opening {a} h = let i = at-innermost (at-outer h) in at-inside (group (in
 
 at-around : (ts : Stream Token) → AtMost (streamLength ts) (around ts)
 unfolding around streamLength itemCount
-at-around end = at-all ended (omega arith)
-at-around bad = at-all badLine (omega arith)
+at-around end = at-end
+at-around bad = at-bad
 at-around (t ▹ ts) = at-add t (at-around ts)
 
 -- The items at top level of a text are at most its bytes.

@@ -2,9 +2,7 @@
 use mathlib.Core.Path.{_≡_, refl, subst}
 use mathlib.Core.Bool.{Bool, true, false}
 use Rattle.horn.specs.Refusals.{Refusal, Result, ok, refused, _>>=_}
-use Rattle.horn.specs.StoredTerms.{Store}
 use Rattle.horn.proofs.Inversion.{ok-equal, not-ok}
-use Rattle.horn.specs.Checker.{Reading, give, lift, _>>=_ as _>>=ₛ_}
 
 pub data Post {A : Type 0} (Q : A → Type 0) : Result A → Type 0 where
   post-ok : {a : A} → Q a → Post Q (ok a)
@@ -38,29 +36,3 @@ post-weaken post-refused k = post-refused
 pub either {ℓ κ} : {A : Type ℓ} (P : A → Type κ) (b : Bool) {x y : A} → P x → P y → P (elim b [ true ↦ x | false ↦ y ])
 either P true p q = p
 either P false p q = q
-
--- A reading that keeps a property of the store, and whose value has another.
-pub record Keeps {A : Type 0} (I : Store → Type 0) (Q : A → Type 0) (m : Reading A) : Type 0 where
-  pub run : (store : Store) → I store → Post (λ p. I (p .1) × Q (p .0)) (m store)
-
-module _ {I : Store → Type 0} where
-  pub keeps-bind : {A B : Type 0} {P : A → Type 0} {Q : B → Type 0} {m : Reading A} (f : A → Reading B) → Keeps I P m → ((a : A) → P a → Keeps I Q (f a)) → Keeps I Q (m >>=ₛ f)
-  unfolding _>>=ₛ_
-  keeps-bind f h k = record { run = λ store i. post-bind _ (h .run store i) (λ p c. (k (p .0) (c .1)) .run (p .1) (c .0)) }
-
-  pub keeps-after : {A B : Type 0} {Q : B → Type 0} (m : Result A) (f : A → Reading B) → ((a : A) → Keeps I Q (f a)) → Keeps I Q (lift m >>=ₛ f)
-  unfolding _>>=ₛ_ lift _>>=_
-  keeps-after (ok a) f k = record { run = λ store i. (k a) .run store i }
-  keeps-after (refused r) f k = record { run = λ store i. post-refused }
-
-  pub keeps-give : {A : Type 0} {Q : A → Type 0} (a : A) → Q a → Keeps I Q (give a)
-  unfolding give
-  keeps-give a q = record { run = λ store i. post-ok (i, q) }
-
-  pub keeps-lift : {A : Type 0} {Q : A → Type 0} {m : Result A} → Post Q m → Keeps I Q (lift m)
-  unfolding lift _>>=_
-  keeps-lift (post-ok q) = record { run = λ store i. post-ok (i, q) }
-  keeps-lift post-refused = record { run = λ store i. post-refused }
-
-  pub keeps-weaken : {A : Type 0} {P Q : A → Type 0} {m : Reading A} → Keeps I P m → ((a : A) → P a → Q a) → Keeps I Q m
-  keeps-weaken h k = record { run = λ store i. post-weaken (h .run store i) (λ p c. (c .0, k (p .0) (c .1))) }

@@ -12,16 +12,16 @@ use Rattle.horn.specs.NestedLists.{Item, Items, closed, ended, badLine, 
 use Rattle.horn.specs.Rulebook.{Rule, Theory}
 use Rattle.horn.specs.StoredTerms.{Term, Store}
 use Rattle.horn.specs.Checker.{Def, def, meaning, Goal, isGoal, goalJudgment, isEmptyList}
-use Rattle.horn.specs.Matching.{Step, step, judgmentOf}
+use Rattle.horn.specs.Matching.{Step, step, judgmentOf, ruleOf}
 use Rattle.horn.specs.Certificate
 use Rattle.horn.specs.Certificate.{Progress, Keyword, stepWord, resultWord, defWord, otherWord, without}
-use Rattle.horn.specs.Forced.{Derivable}
+use Rattle.horn.specs.Forced.{Derivable, Concluded}
 use Rattle.horn.proofs.Equality.{case, chose-true, chose-false, sameTerm-decides, first-some}
 use Rattle.horn.proofs.Inversion.{after, given-is, afterₗ, afterNeed, afterFound}
 use Rattle.horn.proofs.SoundnessWords.{WellFormed}
 use Rattle.horn.proofs.SoundnessPatterns.{in-or-last}
 use Rattle.horn.proofs.SoundnessReading.{lift-refused, SomeSort, GroundDefs, asked-term-read, OneEach}
-use Rattle.horn.proofs.SoundnessSteps.{Concluded, concluded-derivable, ruleOf, SoundSteps, at-member, step-concluded}
+use Rattle.horn.proofs.SoundnessSteps.{concluded-derivable, SoundSteps, at-member, step-concluded}
 
 -- A goal has the name that is taken out, or it stays; and what stays was there.
 named-or-kept {ℓ} : {C : Type ℓ} (name : Name) (gs : List Goal) {g : Goal} → List·Memᴰ g gs → (isGoal name g ≡ true → C)
@@ -172,6 +172,9 @@ module _ (limits : Setting) (th : Theory) (w : WellFormed th) (goals : List Goal
   unfolding isEmptyList
   none-open (x ∷ gs) e m = absurd (true≢false (sym e))
 
+  begun : OneEach goals → SoundProgress th goals (record { defs = []; openGoals = goals; steps = [] })
+  begun one = record { ground-defs = λ d m. elim m [ ]; sound-steps = λ t m. elim m [ ]; one-each = one; open-or-derived = λ x m. inl m }
+
   -- All goals are derivable, once none is open.
   pub certificate-sound : (text : List ℕ) (s : Store) {s′ : Store} {steps : List Step} → OneEach goals
       → Certificate.certificateOf limits th goals text s ≡ ok (steps, s′)
@@ -183,7 +186,14 @@ module _ (limits : Setting) (th : Theory) (w : WellFormed th) (goals : List Goal
       after _ e λ final s₁ e₁ e₂.
       afterNeed _ _ _ _ e₂ λ h e₃.
       ⊎-elim (λ o. none-open (final .openGoals) h o) (λ d. d)
-      ((all-forms (items (tokens text)) _ s begun e₁) .open-or-derived g m)
-    where
-      begun : SoundProgress th goals (record { defs = []; openGoals = goals; steps = [] })
-      begun = record { ground-defs = λ d m. elim m [ ]; sound-steps = λ t m. elim m [ ]; one-each = one; open-or-derived = λ x m. inl m }
+      ((all-forms (items (tokens text)) _ s (begun one) e₁) .open-or-derived g m)
+
+  -- And each step is concluded by its own rule.
+  pub steps-sound : (text : List ℕ) (s : Store) {s′ : Store} {steps : List Step} → OneEach goals
+      → Certificate.certificateOf limits th goals text s ≡ ok (steps, s′)
+      → SoundSteps th steps
+  unfolding Certificate.certificateOf
+  steps-sound text s one e =
+      after _ e λ final s₁ e₁ e₂.
+      afterNeed _ _ _ _ e₂ λ h e₃.
+      given-is e₃ λ same q. subst (SoundSteps th) same ((all-forms (items (tokens text)) _ s (begun one) e₁) .sound-steps)

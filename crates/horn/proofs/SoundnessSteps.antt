@@ -13,11 +13,11 @@ use Rattle.horn.specs.Rulebook.{symbol, judgment, Variable, variable, is
 use Rattle.horn.specs.Rulebook.{variablesOf, premisesOf, conclusionOf}
 use Rattle.horn.specs.StoredTerms.{Term, node, []ₜ, Store}
 use Rattle.horn.specs.Checker.{Def, hasSort}
-use Rattle.horn.specs.Matching.{Step, step, judgmentOf, Bind, bind, lookup, matchPremises}
+use Rattle.horn.specs.Matching.{Step, judgmentOf, ruleOf, Bind, bind, lookup, matchPremises}
 use Rattle.horn.specs.Certificate
 use Rattle.horn.specs.Certificate.{Given, given}
-use Rattle.horn.specs.Forced.{Ground, WellSorted, Assignment, substitute, Instance, IsInstance, premises, conclusion, Derivable}
-use Rattle.horn.specs.Forced.{derive, Derivables, all-derived, derived}
+use Rattle.horn.specs.Forced.{Ground, WellSorted, Assignment, substitute, premises, conclusion, Derivable}
+use Rattle.horn.specs.Forced.{derive, Derivables, all-derived, derived, Concluded}
 use Rattle.horn.proofs.Equality.{both, case, named-decides, first-some}
 use Rattle.horn.proofs.Inversion.{not-ok, none-some, ok-equal, some-equal, after, given-is, was-found, afterₗ, afterNeed, afterFound, afterFoundᵣ}
 use Rattle.horn.proofs.SoundnessWords.{SortedJudgment, Throughout, OneSort, WellFormed, derivable-well-sorted}
@@ -25,19 +25,8 @@ use Rattle.horn.proofs.SoundnessMatching.{Bound, Keeps, Agrees, GroundB
 use Rattle.horn.proofs.SoundnessMatching.{match-judgment-ground, built}
 use Rattle.horn.proofs.SoundnessReading.{lift-absent, lift-refused, SomeSort, has-sort, GroundDefs, asked-term-read, judgment-read}
 
--- A judgment that an instance of a rule concludes, from derivable premises.
-pub record Concluded (th : Theory) (j : Term) (r : Rule) : Type 0 where
-  pub by : Instance
-  pub own : by .byRule ≡ r
-  pub is : IsInstance th by
-  pub from : Derivables th (premises by)
-  pub equal : j ≡ conclusion by
-
 pub concluded-derivable : {th : Theory} {j : Term} {r : Rule} → Concluded th j r → Derivable th j
 concluded-derivable c = derive (c .by) (c .is) (c .from) (c .equal)
-
-unfoldable pub ruleOf : Step → Rule
-ruleOf (step j r) = r
 
 abbrev pub SoundSteps : Theory → List Step → Type 0
 SoundSteps th steps = (s : Step) → List·Memᴰ s steps → Concluded th (judgmentOf s) (ruleOf s)

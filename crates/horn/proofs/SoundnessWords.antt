@@ -9,7 +9,7 @@ use Rattle.horn.specs.Rulebook.{Symbol, symbol, sort, judgment, Variable
 use Rattle.horn.specs.Rulebook.{isVariable, Rule, Theory, variablesOf, premisesOf, conclusionOf}
 use Rattle.horn.specs.StoredTerms.{Term}
 use Rattle.horn.specs.Forced.{Ground, ground, Grounds, none-left, and-then, WellSorted, well-sorted, Assignment, substitute}
-use Rattle.horn.specs.Forced.{substituteAll, Instance, IsInstance, premises, conclusion, Each, IsClosed, Forced, Derivable}
+use Rattle.horn.specs.Forced.{substituteAll, Instance, IsInstance, premises, conclusion, Each, IsClosed, Forced, ForcedAmongSorted, Derivable}
 use Rattle.horn.specs.Forced.{derive, Derivables, all-derived, derived}
 
 -- A pattern of a sort, by the symbols declared and the variables of its rule.
@@ -114,17 +114,20 @@ conclusion-well-sorted w i is =
     substitute-judgment (i .assignment) (is .sorted) ((w .formed (i .byRule) (is .declared)) .sorted-conclusion)
 
 -- Derivable judgments are in every set that is closed under the rules, whatever else it holds.
-module _ {ℓ} {th : Theory} (S : Term → Type ℓ) (closed : (i : Instance) → IsInstance th i → Each S (premises i) → S (conclusion i)) where
+module _ {ℓ} {th : Theory} (S : Term → Type ℓ) (set : IsClosed th S) where
   mutual
     pub derivable-least : {j : Term} → Derivable th j → S j
-    derivable-least (derive i is ds e) = subst S (sym e) (closed i is (derivables-least ds))
+    derivable-least (derive i is ds e) = subst S (sym e) (set .closed i is (derivables-least ds))
 
     pub derivables-least : {js : List Term} → Derivables th js → Each S js
     derivables-least all-derived = tt
     derivables-least (derived d ds) = (derivable-least d, derivables-least ds)
 
 pub forced {ℓ} : {th : Theory} {j : Term} → Derivable th j → Forced {ℓ} th j
-forced d S closed-set = derivable-least S (closed-set .closed) d
+forced d S set = derivable-least S set d
+
+pub forced-among-sorted {ℓ} : {th : Theory} {j : Term} → Forced {ℓ} th j → ForcedAmongSorted {ℓ} th j
+forced-among-sorted f S set sorted = f S set
 
 -- They are closed under the rules, and well-sorted.
 pub derivables : {th : Theory} (js : List Term) → Each (Derivable th) js → Derivables th js
@@ -134,21 +137,19 @@ derivables (j ∷ js) ds = derived (ds .0) (derivables js (ds .1))
 pub derivable-well-sorted : {th : Theory} → WellFormed th → (j : Term) → Derivable th j → WellSorted th j
 derivable-well-sorted {th} w j (derive i is ds e) = subst (WellSorted th) (sym e) (conclusion-well-sorted w i is)
 
-pub derivable-closed : {th : Theory} → WellFormed th → IsClosed th (Derivable th)
-derivable-closed w =
-    record { members = derivable-well-sorted w; closed = λ i is ds. derive i is (derivables (premises i) ds) refl }
+pub derivable-closed : {th : Theory} → IsClosed th (Derivable th)
+derivable-closed = record { closed = λ i is ds. derive i is (derivables (premises i) ds) refl }
 
--- There is such a set at every level, so that what is forced at any level is derivable: the two words are one.
+-- There is such a set at every level, so that what is forced among well-sorted judgments at any level is derivable: the
+-- three words are one.
 lowered {ℓ} : (th : Theory) (js : List Term) → Each (λ j. Lift {0, ℓ} (Derivable th j)) js → Each (Derivable th) js
 lowered th [] ds = tt
 lowered th (j ∷ js) ds = (ds .0 .lower, lowered th js (ds .1))
 
-pub derivable-closed-at {ℓ} : {th : Theory} → WellFormed th → IsClosed th (λ j. Lift {0, ℓ} (Derivable th j))
-derivable-closed-at {th} w =
-    record {
-      members = λ j d. derivable-well-sorted w j (d .lower);
-      closed = λ i is ds. record { lower = derive i is (derivables (premises i) (lowered th (premises i) ds)) refl };
-    }
+derivable-closed-at {ℓ} : (th : Theory) → IsClosed th (λ j. Lift {0, ℓ} (Derivable th j))
+derivable-closed-at th =
+    record { closed = λ i is ds. record { lower = derive i is (derivables (premises i) (lowered th (premises i) ds)) refl } }
 
-pub derivable-of-forced {ℓ} : {th : Theory} {j : Term} → WellFormed th → Forced {ℓ} th j → Derivable th j
-derivable-of-forced {th} w f = (f (λ j. Lift (Derivable th j)) (derivable-closed-at w)) .lower
+pub derivable-of-forced {ℓ} : {th : Theory} {j : Term} → WellFormed th → ForcedAmongSorted {ℓ} th j → Derivable th j
+derivable-of-forced {th} w f =
+    (f (λ j. Lift (Derivable th j)) (derivable-closed-at th) (λ k d. derivable-well-sorted w k (d .lower))) .lower

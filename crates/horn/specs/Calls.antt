@@ -101,33 +101,35 @@ unfoldable pub areaAfter : ℕ → ℕ → List ℕ → List ℕ
 areaAfter words answer area =
     elim (eqb answer 1 || eqb answer 2) [ true ↦ area | false ↦ replicate words 0 ++ drop words area ]
 
--- A call whole: its report, and what the four areas hold afterwards.
-pub record Left (R : Type 0) : Type 0 where
+-- A call whole: its report, and what the four areas hold afterwards. The contracts of the code are equations of these.
+pub record Called (R : Type 0) : Type 0 where
   pub answer : R
   pub first : List ℕ
   pub second : List ℕ
   pub third : List ℕ
   pub fourth : List ℕ
 
--- The four areas after a call that answers a number.
-unfoldable pub leaving : {R : Type 0} → Setting → R → ℕ → List ℕ → List ℕ → List ℕ → List ℕ → Left R
+-- A call by its parts.
+abbrev pub called : {R : Type 0} → R → List ℕ → List ℕ → List ℕ → List ℕ → Called R
+called r a b c d = record { answer = r; first = a; second = b; third = c; fourth = d }
+
+-- A call that answers this report, of this number, and was lent these areas.
+unfoldable pub leaving : {R : Type 0} → Setting → R → ℕ → List ℕ → List ℕ → List ℕ → List ℕ → Called R
 leaving limits r n a b c d =
-    record {
-      answer = r;
-      first = areaAfter (limits .areaWords) n a;
-      second = areaAfter (limits .areaWords) n b;
-      third = areaAfter (limits .areaWords) n c;
-      fourth = areaAfter (limits .lastAreaWords) n d;
-    }
+    called r
+    (areaAfter (limits .areaWords) n a)
+    (areaAfter (limits .areaWords) n b)
+    (areaAfter (limits .areaWords) n c)
+    (areaAfter (limits .lastAreaWords) n d)
 
 -- The call with the rulebook alone, from the areas and the text.
-unfoldable pub rulebookLeft : Setting → List ℕ → List ℕ → List ℕ → List ℕ → List ℕ → Left RulebookReport
+unfoldable pub rulebookLeft : Setting → List ℕ → List ℕ → List ℕ → List ℕ → List ℕ → Called RulebookReport
 rulebookLeft limits a b c d rulebook =
     let r = rulebookCall limits (length a) (length b) (length c) (length d) rulebook in
     leaving limits r (r .number) a b c d
 
 -- The call with three texts, from the areas and the texts. Document 01's calls are these two at its limits, `document01`.
-unfoldable pub releaseLeft : Setting → List ℕ → List ℕ → List ℕ → List ℕ → List ℕ → List ℕ → List ℕ → Left Report
+unfoldable pub releaseLeft : Setting → List ℕ → List ℕ → List ℕ → List ℕ → List ℕ → List ℕ → List ℕ → Called Report
 releaseLeft limits a b c d rulebook goals certificate =
     let r = releaseCall limits (length a) (length b) (length c) (length d) rulebook goals certificate in
     leaving limits r (r .number) a b c d

@@ -24,6 +24,10 @@ pub record Progress : Type 0 where
   pub openGoals : List Goal
   pub steps : List Step
 
+-- Before the first form.
+abbrev pub begun : List Goal → Progress
+begun goals = record { defs = []; openGoals = goals; steps = [] }
+
 -- What the items of a step have given: bindings, and a stated conclusion.
 pub data Given : Type 0 where
   given : List Bind → Option Term → Given
@@ -178,6 +182,6 @@ module _ (limits : Setting) (th : Theory) where
   -- The certificate, for the goals that are open before it. "At the end an open goal is 29."
   unfoldable pub certificateOf : List Goal → List ℕ → Reading (List Step)
   certificateOf goals text = do
-    final ← certificateForms (record { defs = []; openGoals = goals; steps = [] }) (items (tokens text))
+    final ← certificateForms (begun goals) (items (tokens text))
     _ ← lift (need (isEmptyList (final .openGoals)) goalOpen)
     give (final .steps)

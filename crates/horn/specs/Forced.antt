@@ -2,16 +2,20 @@
 -- building stands in what is said of terms and instances here.
 use Prim.Native.Nat.{ℕ, _≤_}
 use mathlib.Core.Path.{_≡_}
+use mathlib.Core.Logic.{_≢_}
 use mathlib.Core.List.{List, [], _∷_, map, List·Memᴰ}
 use lib.ListN.{length}
-use Rattle.horn.specs.Refusals.{ok}
+use Rattle.horn.specs.Refusals.{Refusal, refused}
 use Rattle.horn.specs.Setting.{Setting}
 use Rattle.horn.specs.Names.{Name}
+use Rattle.horn.specs.Tokens.{tokens}
+use Rattle.horn.specs.NestedLists.{items, topItems}
 use Rattle.horn.specs.Rulebook.{symbol, sort, judgment, variable, Pattern, var, app, Patterns, []ₚ, _∷ₚ_}
 use Rattle.horn.specs.Rulebook.{Rule, Theory, variablesOf, premisesOf, conclusionOf}
-use Rattle.horn.specs.StoredTerms.{Term, node, Terms, []ₜ, _∷ₜ_, Store}
+use Rattle.horn.specs.StoredTerms.{Term, node, Terms, []ₜ, _∷ₜ_}
 use Rattle.horn.specs.Checker.{Goal, goalJudgment, goalsOf}
-use Rattle.horn.specs.Calls.{rulebookJudged}
+use Rattle.horn.specs.Calls.{rulebookCall}
+use Rattle.horn.specs.Written.{goalForm}
 
 -- "A ground term of a sort is a constructor declared with that output and, for each input in order, a ground term of the
 -- input's sort; it is finite."
@@ -66,17 +70,20 @@ Each S [] = Unit
 Each S (j ∷ js) = S j × Each S js
 
 -- "A set, finite or not, is closed under the rules if it has the conclusion of every such instance whose premises it
--- has." The sets of demand 3 are sets of well-sorted ground judgments.
+-- has", whatever else it has.
 pub record IsClosed {ℓ} (th : Theory) (S : Term → Type ℓ) : Type ℓ where
-  pub members : (j : Term) → S j → WellSorted th j
   pub closed : (i : Instance) → IsInstance th i → Each S (premises i) → S (conclusion i)
 
 -- "A judgment is forced if it lies in every such set."
 abbrev pub Forced {ℓ} : Theory → Term → Type (ℓ + 1)
 Forced th j = (S : Term → Type ℓ) → IsClosed th S → S j
 
--- The least closed set, as a type that a contract may name. For the theory of a rulebook it is proved to be closed, to lie in
--- every closed set and to hold all that is forced (proofs/Soundness).
+-- The narrower words of demand 3: it lies in every such set of well-sorted ground judgments.
+abbrev pub ForcedAmongSorted {ℓ} : Theory → Term → Type (ℓ + 1)
+ForcedAmongSorted th j = (S : Term → Type ℓ) → IsClosed th S → ((k : Term) → S k → WellSorted th k) → S j
+
+-- The least closed set, as a type that a contract may name. For the theory of a rulebook it is proved to be closed, to have
+-- well-sorted members only, to lie in every closed set and to hold all that is forced among them (proofs/Soundness).
 mutual
   pub data Derivable (th : Theory) : Term → Type 0 where
     derive : {j : Term} (i : Instance) → IsInstance th i → Derivables th (premises i) → j ≡ conclusion i → Derivable th j
@@ -85,16 +92,39 @@ mutual
     all-derived : Derivables th []
     derived : {j : Term} {js : List Term} → Derivable th j → Derivables th js → Derivables th (j ∷ js)
 
--- "A goal's judgment is the J of its form."
+-- What is said of each step of an accepted release (proofs/SoundnessOfSteps): an instance of its own rule concludes it, from derivable
+-- premises.
+pub record Concluded (th : Theory) (j : Term) (r : Rule) : Type 0 where
+  pub by : Instance
+  pub own : by .byRule ≡ r
+  pub is : IsInstance th by
+  pub from : Derivables th (premises by)
+  pub equal : j ≡ conclusion by
+
+-- The judgments of goals.
 unfoldable pub judgments : List Goal → List Term
 judgments = map goalJudgment
 
+-- "A goal's judgment is the J of its form": a goals text has these goals if it consists of their forms `(goal N J)`, in this
+-- order, each J a well-sorted ground judgment written out. No store and no limit is in it, and under one rulebook a text
+-- has at most one list of goals (proofs/GoalsFixed).
+pub record HasGoals (th : Theory) (text : List ℕ) (goals : List Goal) : Type 0 where
+  pub forms : items (tokens text) ≡ topItems (map goalForm goals)
+  pub sorted : Each (WellSorted th) (judgments goals)
+
+-- "Areas long enough".
+pub record LongEnough (limits : Setting) (a b c d : ℕ) : Type 0 where
+  pub first-area : limits .areaWords ≤ a
+  pub second-area : limits .areaWords ≤ b
+  pub third-area : limits .areaWords ≤ c
+  pub fourth-area : limits .lastAreaWords ≤ d
+
 -- "A rulebook is accepted if this paper's rules, whatever a program says, give 0 for the call with it alone on areas long
--- enough."
-pub record Accepted (limits : Setting) (rulebook : List ℕ) (th : Theory) : Type 0 where
-  pub judged : rulebookJudged limits (limits .areaWords) (limits .areaWords) (limits .areaWords) (limits .lastAreaWords) rulebook ≡ ok th
+-- enough", on any such areas. Exactly then it is short enough and gives a theory (proofs/Accepting).
+pub record Accepted (limits : Setting) (rulebook : List ℕ) : Type 0 where
+  pub answer : (a b c d : ℕ) → LongEnough limits a b c d → (rulebookCall limits a b c d rulebook) .number ≡ 0
 
 -- "A goals text is read without refusal if by the same rules none is met in it under that rulebook, 2 and 17 included."
-pub record ReadWithoutRefusal (limits : Setting) (th : Theory) (text : List ℕ) (goals : List Goal) (store : Store) : Type 0 where
+pub record ReadWithoutRefusal (limits : Setting) (th : Theory) (text : List ℕ) : Type 0 where
   pub short : length text ≤ limits .goalsBytes
-  pub read : goalsOf limits th text [] ≡ ok (goals, store)
+  pub none-met : (r : Refusal) → goalsOf limits th text [] ≢ refused r

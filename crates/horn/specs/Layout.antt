@@ -7,10 +7,11 @@ use lib.ListN.{length}
 use Rattle.horn.specs.Setting.{Setting}
 use Rattle.horn.specs.Names.{Name, some-of, codes}
 use Rattle.horn.specs.NestedLists.{Sexp, leaf, list, Sexps, []ₛ, _∷ₛ_}
-use Rattle.horn.specs.Rulebook.{Symbol, symbol, Rule, rule, Theory}
+use Rattle.horn.specs.Rulebook.{Rule, rule, Theory}
 use Rattle.horn.specs.StoredTerms.{Term, node, Terms, []ₜ, _∷ₜ_, sameTerm, size}
 use Rattle.horn.specs.Checker.{Goal, goal}
-use Rattle.horn.specs.Forced.{Instance, IsInstance, premises, conclusion, Each, judgments}
+use Rattle.horn.specs.Written.{judgmentForm}
+use Rattle.horn.specs.Forced.{Instance, IsInstance, premises, conclusion, Each, judgments, LongEnough}
 
 -- "Plain decimal numbers": the digits from the last, counted up from 0.
 unfoldable pub next : List ℕ → List ℕ
@@ -31,30 +32,9 @@ unfoldable pub plainAll : List ℕ → Sexps
 plainAll [] = []ₛ
 plainAll (n ∷ ns) = leaf (plain n) ∷ₛ plainAll ns
 
--- The name of a symbol,
-unfoldable pub symbolName : Symbol → Name
-symbolName (symbol name ins out) = name
-
--- and of a rule.
+-- The name of a rule.
 unfoldable pub ruleName : Rule → Name
 ruleName (rule name vs ps c) = name
-
--- A term "without abbreviations": a constant is an atom, any other term a list. A judgment is always a list.
-unfoldable pub constantOr : Name → Sexps → Sexp
-constantOr name []ₛ = leaf name
-constantOr name (x ∷ₛ xs) = list (leaf name ∷ₛ x ∷ₛ xs)
-
-unfoldable mutual
-  pub termForm : Term → Sexp
-  termForm (node c ts) = constantOr (symbolName c) (termForms ts)
-
-  pub termForms : Terms → Sexps
-  termForms []ₜ = []ₛ
-  termForms (t ∷ₜ ts) = termForm t ∷ₛ termForms ts
-
--- A judgment as it is written.
-unfoldable pub judgmentForm : Term → Sexp
-judgmentForm (node c ts) = list (leaf (symbolName c) ∷ₛ termForms ts)
 
 -- "A reference is the lowest earlier step that concludes the premise, a result the lowest that concludes the goal": the
 -- place of a judgment among conclusions.
@@ -151,10 +131,7 @@ spread goals is = distinct (allSubterms (judgments goals ++ map conclusion is))
 -- "Within the limits means: areas long enough, the certificate's length, no item deeper than 256, and the distinct
 -- judgments of goals and conclusions, with all their subterms, within the store's two limits."
 pub record WithinLimits (limits : Setting) (a b c d : ℕ) (goals : List Goal) (is : List Instance) : Type 0 where
-  pub first-area : limits .areaWords ≤ a
-  pub second-area : limits .areaWords ≤ b
-  pub third-area : limits .areaWords ≤ c
-  pub fourth-area : limits .lastAreaWords ≤ d
+  pub areas : LongEnough limits a b c d
   pub short : length (laidOut goals is) ≤ limits .certificateBytes
   pub shallow : depth (forms goals is) ≤ 256
   pub few : length (spread goals is) ≤ limits .nodes

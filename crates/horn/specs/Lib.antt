@@ -10,5 +10,8 @@ pub mod Checker
 pub mod Matching
 pub mod Certificate
 pub mod Calls
+pub mod Written
+pub mod Arising
 pub mod Forced
 pub mod Layout
+pub mod Demand3

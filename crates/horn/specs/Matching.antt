@@ -12,13 +12,18 @@ use Rattle.horn.specs.Rulebook.{sameSymbol, Pattern, var, app, Patterns,
 use Rattle.horn.specs.StoredTerms.{Term, node, Terms, []ₜ, _∷ₜ_, sameTerm}
 use Rattle.horn.specs.Checker.{Reading, _>>=_, give, lift, stored}
 
--- A step: its judgment, and the rule that gave it, which what is proved of a step speaks of.
+-- A step: its judgment, and the rule that gave it. No answer depends on the rule. It is there for what is proved of a step:
+-- an instance of this very rule concludes it (`release-steps` in proofs/SoundnessOfSteps).
 pub data Step : Type 0 where
   step : Term → Rule → Step
 
--- The judgment of a step.
+-- The judgment of a step,
 unfoldable pub judgmentOf : Step → Term
 judgmentOf (step j r) = j
+
+-- and its rule.
+unfoldable pub ruleOf : Step → Rule
+ruleOf (step j r) = r
 
 -- A variable with the term that it is bound to.
 pub data Bind : Type 0 where

@@ -1,6 +1,6 @@
 -- "Nested lists" in document 01.
 use Prim.Native.Nat.{ℕ, suc}
-use mathlib.Core.List.{List}
+use mathlib.Core.List.{List, [], _∷_}
 use lib.Dec.{leb}
 use Rattle.horn.specs.Refusals.{Refusal, nesting, notUtf8, textEnds, strayClosing, Result, ok, refused, _>>=_, need}
 use Rattle.horn.specs.Tokens.{Stream, end, bad, _▹_, Token, opening, closing, atom}
@@ -17,22 +17,24 @@ mutual
     _then_ : Item → Items → Items
 
 infixr 20 _then_
--- What is left of the list that a reader stands in, then of the list around it, and so on without end: where the text
--- ends, all of them end alike. Before the `b` of `((a b) c)` that is: `b` up to the closing, then `c` up to the closing, then
--- nothing up to the end of the text.
+-- What is left of the list that a reader stands in, then of the list around it, and so on. Where the text ends, or a bad
+-- line comes, all that are left end alike. Before the `b` of `((a b) c)` that is: `b` up to the closing, then `c` up to the
+-- closing, then the end of the text.
 pub data Around : Type 0 where
-  all : Items → Around
+  atEnd atBadLine : Around
   _inside_ : Items → Around → Around
 
 infixr 20 _inside_
 -- What is left of the list that the reader stands in.
 unfoldable pub innermost : Around → Items
-innermost (all items) = items
+innermost atEnd = ended
+innermost atBadLine = badLine
 innermost (items inside around) = items
 
 -- The same of the list around it, and so on.
 unfoldable pub outer : Around → Around
-outer (all items) = all items
+outer atEnd = atEnd
+outer atBadLine = atBadLine
 outer (items inside around) = around
 
 -- A token in front: a closing ends its list, an atom is an item, an opening begins an item that holds all up to its
@@ -44,9 +46,29 @@ add opening a = (group (innermost a) then innermost (outer a)) inside outer (out
 
 -- What stands around a reader before these tokens.
 unfoldable pub around : Stream Token → Around
-around end = all ended
-around bad = all badLine
+around end = atEnd
+around bad = atBadLine
 around (t ▹ ts) = add t (around ts)
+
+-- The way back: items as tokens, in front of the tokens behind their closing.
+unfoldable mutual
+  pub writtenItem : Item → Stream Token → Stream Token
+  writtenItem (word bytes) ts = atom bytes ▹ ts
+  writtenItem (group inner) ts = opening ▹ written inner ts
+
+  pub written : Items → Stream Token → Stream Token
+  written closed ts = closing ▹ ts
+  written ended ts = end
+  written badLine ts = bad
+  written (item then rest) ts = writtenItem item (written rest ts)
+
+-- All that stands around a reader as tokens. For all tokens `writtenOut (around ts) ≡ ts` is proved (`cut` in proofs/Cut): what comes
+-- first in the items is the next token, what follows are the tokens behind it, and nothing is lost or added. So nothing that is
+-- read by items differs from reading token by token.
+unfoldable pub writtenOut : Around → Stream Token
+writtenOut atEnd = end
+writtenOut atBadLine = bad
+writtenOut (items inside around) = written items (writtenOut around)
 
 -- What stands at top level. There a closing has nothing to close: nothing behind it will be read.
 unfoldable pub items : Stream Token → Items
@@ -72,6 +94,20 @@ mutual
     _∷ₛ_ : Sexp → Sexps → Sexps
 
 infixr 20 _∷ₛ_
+-- A nested list as it stands in a text, and forms as they stand at top level, up to the end of the text.
+unfoldable mutual
+  pub asItem : Sexp → Item
+  asItem (leaf name) = word name
+  asItem (list xs) = group (asItems xs)
+
+  pub asItems : Sexps → Items
+  asItems []ₛ = closed
+  asItems (x ∷ₛ xs) = asItem x then asItems xs
+
+unfoldable pub topItems : List Sexp → Items
+topItems [] = ended
+topItems (x ∷ xs) = asItem x then topItems xs
+
 -- "After an opening, members are asked for until a closing is next. That look ahead comes first, so a bad line found by
 -- it is 3, not 4".
 unfoldable mutual

@@ -12,7 +12,7 @@ use Rattle.horn.specs.Refusals.{Refusal, number, Result, ok, refused, need, _>>
 use Rattle.horn.specs.Setting.{document01}
 use Rattle.horn.specs.Rulebook.{Theory, theory}
 use Rattle.horn.specs.Calls as calls
-use Rattle.horn.specs.Calls.{rulebookReport, areasLong, rulebookJudged, rulebookAnswer, rulebookCall, areaAfter}
+use Rattle.horn.specs.Calls.{rulebookReport, areasLong, rulebookJudged, rulebookAnswer, rulebookCall, areaAfter, called, leaving, rulebookLeft}
 use Rattle.horn.proofs.Later.{Later, later-ok, later-refused, later-theory}
 use Rattle.words.specs.Parts.{cleared}
 use Rattle.patterns.specs.Outcomes as outcomes
@@ -60,18 +60,30 @@ pub untouched-long : (s : List ℕ) → s ≡ areaAfter 16384 2 s
 unfolding areaAfter
 untouched-long s = refl
 
--- What the call ensures of its report and of each area afterwards.
+-- What the call ensures: it is the definition's call, report and areas.
 abbrev Ensured : RulebookReport → List ℕ → List ℕ → List ℕ → List ℕ → List ℕ → List ℕ → List ℕ → List ℕ → List ℕ → Type 0
-Ensured r text a b c d a′ b′ c′ d′ =
-    (answered r ≡ rulebookCall document01 (length a) (length b) (length c) (length d) text)
-    × ((a′ ≡ areaAfter 16384 (r .number) a) × ((b′ ≡ areaAfter 16384 (r .number) b) × ((c′ ≡ areaAfter 16384 (r .number) c) × (d′ ≡ areaAfter 16384 (r .number) d))))
+Ensured r text a b c d a′ b′ c′ d′ = called (answered r) a′ b′ c′ d′ ≡ rulebookLeft document01 a b c d text
+
+-- A call by its report and each of its areas.
+joined : (r : RulebookReport) (text a b c d a′ b′ c′ d′ : List ℕ) → answered r ≡ rulebookCall document01 (length a) (length b) (length c) (length d) text
+    → a′ ≡ areaAfter 16384 (r .number) a
+    → b′ ≡ areaAfter 16384 (r .number) b
+    → c′ ≡ areaAfter 16384 (r .number) c
+    → d′ ≡ areaAfter 16384 (r .number) d
+    → Ensured r text a b c d a′ b′ c′ d′
+unfolding rulebookLeft leaving document01
+joined r text a b c d a′ b′ c′ d′ e ea eb ec ed =
+    rw (ea, eb, ec, ed)
+    (ap (λ (q : calls.RulebookReport). called q (areaAfter 16384 (q .number) a) (areaAfter 16384 (q .number) b) (areaAfter 16384 (q .number) c) (areaAfter 16384 (q .number) d)) e)
 
 -- A refusal by the lengths.
 pub early : (n : ℕ) (a b c d text : List ℕ) (r : RulebookReport) → r ≡ record { number = n; sorts = 0; constructors = 0; predicates = 0; rules = 0 }
     → rulebookCall document01 (length a) (length b) (length c) (length d) text ≡ rulebookReport n 0 0 0 0
     → ((s : List ℕ) → s ≡ areaAfter 16384 n s)
     → Ensured r text a b c d a b c d
-early n a b c d text r is call kept = rw is (sym call, (kept a, (kept b, (kept c, kept d))))
+early n a b c d text r is call kept =
+    rw is
+    (joined (record { number = n; sorts = 0; constructors = 0; predicates = 0; rules = 0 }) text a b c d a b c d (sym call) (kept a) (kept b) (kept c) (kept d))
 
 -- "Every other answer leaves the first 16,384 words of each area zero and later words untouched."
 touched : (n : ℕ) (s : List ℕ) → n ≢ 1 → n ≢ 2 → areaAfter 16384 n s ≡ replicate 16384 0 ++ drop 16384 s
@@ -119,7 +131,7 @@ module _ (text : List ℕ) (short : length text ≤ 8192) (vars counts heap : Li
       → counts′ ≡ replicate (length (take 16384 counts)) 0
       → heap′ ≡ replicate (length (take 16384 heap)) 0
       → Ensured r text a vars counts heap (a′ ++ drop 16384 a) (vars′ ++ drop 16384 vars) (counts′ ++ drop 16384 counts) (heap′ ++ drop 16384 heap)
-  whole-call a a′ vars′ counts′ heap′ long-a e₀ e₁ e₂ e₃ = (
-    judged ∙ sym (judged-text (length a) (length vars) (length counts) (length heap) text long-a long-vars long-counts long-heap short),
-    (area-is a′ a long-a e₀, (area-is vars′ vars long-vars e₁, (area-is counts′ counts long-counts e₂, area-is heap′ heap long-heap e₃))),
-  )
+  whole-call a a′ vars′ counts′ heap′ long-a e₀ e₁ e₂ e₃ =
+      joined r text a vars counts heap (a′ ++ drop 16384 a) (vars′ ++ drop 16384 vars) (counts′ ++ drop 16384 counts) (heap′ ++ drop 16384 heap)
+      (judged ∙ sym (judged-text (length a) (length vars) (length counts) (length heap) text long-a long-vars long-counts long-heap short))
+      (area-is a′ a long-a e₀) (area-is vars′ vars long-vars e₁) (area-is counts′ counts long-counts e₂) (area-is heap′ heap long-heap e₃)

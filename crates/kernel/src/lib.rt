@@ -2,7 +2,7 @@
 ghost use mathlib.Core.Path.{_≡_};
 ghost use lib.ListN.{length, replicate};
 ghost use Rattle.horn.specs.Setting.{document01};
-ghost use Rattle.horn.specs.Calls.{rulebookCall, areaAfter};
+ghost use Rattle.horn.specs.Calls.{called, rulebookLeft};
 ghost use Rattle.theory.specs.Declarations.{judged as outcome};
 ghost use Rattle.theory.specs.Walks.{theory};
 ghost use Rattle.kernel.specs.Rulebook.{reported, reportedBy, answered};
@@ -78,11 +78,7 @@ pub fn rulebook(
     c: &mut [u32],
     d: &mut [u32],
 ) -> RulebookReport
-    ensures report { λ r. ⌜ answered r ≡ rulebookCall document01 (length (now (a .entry))) (length (now (b .entry))) (length (now (c .entry))) (length (now (d .entry))) (now (rulebook .entry)) ⌝ }
-    ensures first { λ r. ⌜ now (a .exit) ≡ areaAfter 16384 (r .number) (now (a .entry)) ⌝ }
-    ensures second { λ r. ⌜ now (b .exit) ≡ areaAfter 16384 (r .number) (now (b .entry)) ⌝ }
-    ensures third { λ r. ⌜ now (c .exit) ≡ areaAfter 16384 (r .number) (now (c .entry)) ⌝ }
-    ensures fourth { λ r. ⌜ now (d .exit) ≡ areaAfter 16384 (r .number) (now (d .entry)) ⌝ }
+    ensures { λ r. ⌜ called (answered r) (now (a .exit)) (now (b .exit)) (now (c .exit)) (now (d .exit)) ≡ rulebookLeft document01 (now (a .entry)) (now (b .entry)) (now (c .entry)) (now (d .entry)) (now (rulebook .entry)) ⌝ }
 {
     if a.len() < 16384 {
         return refused(1);
@@ -117,11 +113,7 @@ pub extern "C" fn horn_rulebook(
     c: &mut [u32],
     d: &mut [u32],
 ) -> RulebookReport
-    ensures report { λ r. ⌜ answered r ≡ rulebookCall document01 (length (now (a .entry))) (length (now (b .entry))) (length (now (c .entry))) (length (now (d .entry))) (now (text .entry)) ⌝ }
-    ensures first { λ r. ⌜ now (a .exit) ≡ areaAfter 16384 (r .number) (now (a .entry)) ⌝ }
-    ensures second { λ r. ⌜ now (b .exit) ≡ areaAfter 16384 (r .number) (now (b .entry)) ⌝ }
-    ensures third { λ r. ⌜ now (c .exit) ≡ areaAfter 16384 (r .number) (now (c .entry)) ⌝ }
-    ensures fourth { λ r. ⌜ now (d .exit) ≡ areaAfter 16384 (r .number) (now (d .entry)) ⌝ }
+    ensures { λ r. ⌜ called (answered r) (now (a .exit)) (now (b .exit)) (now (c .exit)) (now (d .exit)) ≡ rulebookLeft document01 (now (a .entry)) (now (b .entry)) (now (c .entry)) (now (d .entry)) (now (text .entry)) ⌝ }
 {
     rulebook(text, a, b, c, d)
 }
