@@ -8,7 +8,7 @@ mod measure;
 mod sexp;
 
 use kernel::Theory;
-use measure::{AREA, Areas, ROUNDS, Report, as_many, most_of_all_kinds, name};
+use measure::{AREA, Areas, BENCH, ROUNDS, Report, as_many, most_of_all_kinds, name};
 use std::hint::black_box;
 
 const LONGEST_RULEBOOK: usize = 8_192;
@@ -50,8 +50,6 @@ fn rust(t: &Texts) -> (Theory, kernel::Report) {
     let report = theory.check_reader(&t.goals, t.certificate.as_bytes()).expect("a release");
     (theory, report)
 }
-
-const BENCH: &str = "(sort t)(ctor z () t)(ctor s (t) t)(pred hold (t))(rule base () (hold z))(rule more ((hold ?x)) (hold (s ?x)))";
 
 fn numeral(n: usize) -> String {
     format!("{}z{}", "(s ".repeat(n), ")".repeat(n))

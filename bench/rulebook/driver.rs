@@ -8,7 +8,7 @@ mod measure;
 mod sexp;
 
 use kernel::Theory;
-use measure::{AREA, Areas, ROUNDS, Report, as_many, most_of_all_kinds, name};
+use measure::{AREA, Areas, BENCH, ROUNDS, Report, as_many, most_of_all_kinds, name};
 use std::hint::black_box;
 
 const LONGEST: usize = 8_192;
@@ -27,8 +27,6 @@ fn port(text: &[u8], areas: &mut Areas) -> Report {
     let [a, b, c, d] = areas.each_mut().map(|w| w.as_mut_ptr());
     unsafe { horn_rulebook(text.as_ptr(), text.len(), a, AREA, b, AREA, c, AREA, d, AREA) }
 }
-
-const BENCH: &str = "(sort t)(ctor z () t)(ctor s (t) t)(pred hold (t))(rule base () (hold z))(rule more ((hold ?x)) (hold (s ?x)))";
 
 /// 40 rules of two premises, three variables and nested terms.
 fn forty_rules() -> String {

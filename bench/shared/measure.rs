@@ -3,6 +3,8 @@
 
 pub const AREA: usize = 16_384;
 pub const ROUNDS: usize = 301;
+/// 01's rulebook.
+pub const BENCH: &str = "(sort t)(ctor z () t)(ctor s (t) t)(pred hold (t))(rule base () (hold z))(rule more ((hold ?x)) (hold (s ?x)))";
 
 /// A report of either call.
 #[repr(C)]

@@ -50,7 +50,10 @@ HornRulebookReport horn_rulebook(
     uint32_t *c, size_t c_words,
     uint32_t *d, size_t d_words);
 
-/* Reads and judges a rulebook, then goals under it, then a certificate for them. It answers 0 only if the rulebook forces every goal. */
+/*
+ * Reads and judges a rulebook, then goals under it, then a certificate for them. It answers 0 only if the rulebook forces
+ * every goal.
+ */
 HornReport horn_release(
     const uint8_t *rulebook, size_t rulebook_length,
     const uint8_t *goals, size_t goals_length,
