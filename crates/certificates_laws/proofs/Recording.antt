@@ -8,10 +8,9 @@ use Rattle.horn.specs.NestedLists.{Item, Items, _then_}
 use Rattle.horn.specs.Rulebook.{Theory}
 use Rattle.horn.specs.StoredTerms.{Term}
 use Rattle.horn.specs.Checker.{Goal}
-use Rattle.horn.specs.Matching.{step, judgmentOf}
+use Rattle.horn.specs.Matching.{step, judgmentOf, ruleOf}
 use Rattle.horn.specs.Certificate as definition
 use Rattle.horn.specs.Certificate.{Progress}
-use Rattle.horn.proofs.SoundnessSteps.{ruleOf}
 use Rattle.lex.specs.declared.Reader.{Reader}
 use Rattle.theory_laws.specs.Simulation.{Simulates, leave, knowing}
 use Rattle.theory_laws.specs.Representation.{Entries}

@@ -9,9 +9,8 @@ use Rattle.horn.specs.NestedLists.{Items}
 use Rattle.horn.specs.Rulebook.{Theory}
 use Rattle.horn.specs.StoredTerms.{Term}
 use Rattle.horn.specs.Checker.{Goal}
-use Rattle.horn.specs.Matching.{Step, judgmentOf}
+use Rattle.horn.specs.Matching.{Step, judgmentOf, ruleOf}
 use Rattle.horn.specs.Certificate.{Progress}
-use Rattle.horn.proofs.SoundnessSteps.{ruleOf}
 use Rattle.lex.specs.declared.Reader.{Reader}
 use Rattle.arena.specs.Store.{count}
 use Rattle.arena.proofs.Readings.{trees-counted}

@@ -1,1 +1,3 @@
-pub mod Turns
+pub mod Areas
+pub mod RulebookCall
+pub mod ReleaseCall

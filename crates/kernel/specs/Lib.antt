@@ -1,1 +1,3 @@
+pub mod Lengths
 pub mod Rulebook
+pub mod Release

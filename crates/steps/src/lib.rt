@@ -167,42 +167,18 @@ pub fn headed_item(
     word: u32,
     s: usize,
     t: usize,
-    reader: Reader,
+    r: Reader,
 ) -> Numbered
-    ensures { λ r. ⌜ (numbered r leaving ((now (store .exit), now (stack .exit)), now (heap .exit))) ≡ models.headedItem (now (text .entry)) (now (rules .entry)) (now (table .entry)) rule top word s t reader (now (store .entry)) (now (stack .entry)) (now (heap .entry)) ⌝ }
+    ensures { λ a. ⌜ (numbered a leaving ((now (store .exit), now (stack .exit)), now (heap .exit))) ≡ models.headedItem (now (text .entry)) (now (rules .entry)) (now (table .entry)) rule top word s t r (now (store .entry)) (now (stack .entry)) (now (heap .entry)) ⌝ }
 {
     if patterns::items::is_question(text, s) {
-        let b = binding(
-            text,
-            rules,
-            table,
-            store,
-            stack,
-            heap,
-            rule,
-            top,
-            s,
-            t,
-            reader,
-        );
+        let b = binding(text, rules, table, store, stack, heap, rule, top, s, t, r);
         let Passed::To(q) = b else {
             return Numbered::Refused(asking::passed_refusal(b));
         };
         return Numbered::Got(word, q);
     }
-    stated(
-        text,
-        rules,
-        table,
-        store,
-        stack,
-        heap,
-        top,
-        word,
-        s,
-        t,
-        reader,
-    )
+    stated(text, rules, table, store, stack, heap, top, word, s, t, r)
 }
 
 // "An item is a list with an atom head".

@@ -1,12 +1,9 @@
 use mathlib.Core.Path.{_∙_}
-use Rattle.kernel.proofs.Turns.{zeros}
+use Rattle.kernel.proofs.Areas.{zeros}
 use denote.Ref.{now}
 use borrow.Author.Needs.{needs}
 use Rattle.kernel.proofs.clear.Statement.{statement}
 use Rattle.kernel.proofs.clear.Tie as tie
-use Rattle.kernel.proofs.clear.Reads as reads
-use Rattle.kernel.proofs.clear.Lts as lts
-use Rattle.words.proofs.clear.Reads as clear-reads
 
 -- src/lib.rt:54:5
 clear-requires : tie.Need-clear-requires

@@ -1,70 +1,70 @@
 -- `steps::items_judged` meets its contract. Assumes nothing.
+use mathlib.Core.Path.{_∙_}
 use Rattle.steps.specs.Steps.{itemsJudged}
-use borrow.Author.Needs.{needs}
 use Rattle.steps.proofs.items_judged.Statement.{statement}
 use Rattle.steps.proofs.items_judged.Tie as tie
 
 variable-count-requires : tie.Need-variable-count-requires
-variable-count-requires c κs = search needs
+variable-count-requires c κs = tt
 
 unbind-requires : tie.Need-unbind-requires
-unbind-requires c κs = search needs
+unbind-requires c κs = tt
 
 items-requires : tie.Need-items-requires
-items-requires c κs = search needs
+items-requires c κs = tt
 
 enum-known-i : tie.Need-enum-known-i
-enum-known-i c = search needs
+enum-known-i c = c .match .keys1
 
 enum-told : tie.Need-enum-told
-enum-told c = search needs
+enum-told c = c .match .keys2
 
 numbered-refusal-requires : tie.Need-numbered-refusal-requires
-numbered-refusal-requires c κs = search needs
+numbered-refusal-requires c κs = tt
 
 same-length : tie.Need-same-length
-same-length c = search needs
+same-length c = c .before .before .before .before .before .before .before .before .store .given
 
 same-length-2 : tie.Need-same-length-2
-same-length-2 c = search needs
+same-length-2 c = c .before .before .before .before .before .before .stack .given
 
 same-length-3 : tie.Need-same-length-3
-same-length-3 c = search needs
+same-length-3 c = c .before .before .before .before .heap2 .given ∙ c .before .before .before .before .before .before .before .before .before .before .before .before .before .before .heap .given
 
 returns : tie.Need-returns
 unfolding itemsJudged
 returns c = rw (← c .before .before .before .before .before .before .before .before .before .before .before .before .before .before .before .before .before .variable-count .ensures, ← c .before .before .before .before .before .before .before .before .before .before .before .before .before .before .before .unbind .ensures, ← c .before .before .before .before .before .before .before .before .before .items .ensures, c .numbered-refusal .ensures, c .before .enum-told .given .1)
 
 conclude-requires : tie.Need-conclude-requires
-conclude-requires c κs = search needs
+conclude-requires c κs = tt
 
 enum-known-c : tie.Need-enum-known-c
-enum-known-c c = search needs
+enum-known-c c = c .match2 .keys1
 
 enum-known-c-2 : tie.Need-enum-known-c-2
-enum-known-c-2 c = search needs
+enum-known-c-2 c = c .match2 .keys2
 
 same-length-4 : tie.Need-same-length-4
-same-length-4 c = search needs
+same-length-4 c = c .before .before .before .before .before .before .before .before .store2 .given ∙ c .before .before .before .before .before .before .before .before .before .before .before .before .before .before .before .before .before .before .before .before .before .store .given
 
 same-length-5 : tie.Need-same-length-5
-same-length-5 c = search needs
+same-length-5 c = c .before .before .before .before .before .before .stack2 .given ∙ c .before .before .before .before .before .before .before .before .before .before .before .before .before .before .before .before .before .before .before .stack .given
 
 same-length-6 : tie.Need-same-length-6
-same-length-6 c = search needs
+same-length-6 c = c .before .before .before .before .heap3 .given ∙ c .before .before .before .before .before .before .before .before .before .before .before .before .before .before .before .before .before .heap2 .given ∙ c .before .before .before .before .before .before .before .before .before .before .before .before .before .before .before .before .before .before .before .before .before .before .before .before .before .before .before .heap .given
 
 returns-2 : tie.Need-returns-2
 unfolding itemsJudged
 returns-2 c = rw (← c .before .before .before .before .before .before .before .before .before .before .before .before .before .before .before .before .before .before .before .before .before .before .before .before .before .before .before .before .before .before .variable-count .ensures, ← c .before .before .before .before .before .before .before .before .before .before .before .before .before .before .before .before .before .before .before .before .before .before .before .before .before .before .before .before .unbind .ensures, ← c .before .before .before .before .before .before .before .before .before .before .before .before .before .before .before .before .before .before .before .before .before .before .items .ensures, c .before .before .before .before .before .before .before .before .before .before .before .before .before .before .i .given .1, ← c .before .before .before .before .before .before .before .before .before .conclude .ensures, c .before .c .given .1)
 
 same-length-7 : tie.Need-same-length-7
-same-length-7 c = search needs
+same-length-7 c = c .before .before .before .before .before .before .before .before .store2 .given ∙ c .before .before .before .before .before .before .before .before .before .before .before .before .before .before .before .before .before .before .before .before .before .store .given
 
 same-length-8 : tie.Need-same-length-8
-same-length-8 c = search needs
+same-length-8 c = c .before .before .before .before .before .before .stack2 .given ∙ c .before .before .before .before .before .before .before .before .before .before .before .before .before .before .before .before .before .before .before .stack .given
 
 same-length-9 : tie.Need-same-length-9
-same-length-9 c = search needs
+same-length-9 c = c .before .before .before .before .heap3 .given ∙ c .before .before .before .before .before .before .before .before .before .before .before .before .before .before .before .before .before .heap2 .given ∙ c .before .before .before .before .before .before .before .before .before .before .before .before .before .before .before .before .before .before .before .before .before .before .before .before .before .before .before .heap .given
 
 returns-3 : tie.Need-returns-3
 unfolding itemsJudged

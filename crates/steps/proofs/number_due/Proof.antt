@@ -1,33 +1,32 @@
 -- `steps::number_due` meets its contract. Assumes nothing.
 use Rattle.steps.specs.Steps.{numberDue}
-use borrow.Author.Needs.{needs}
 use Rattle.steps.proofs.number_due.Statement.{statement}
 use Rattle.steps.proofs.number_due.Tie as tie
 
 atom-due-requires : tie.Need-atom-due-requires
-atom-due-requires c κs = search needs
+atom-due-requires c κs = tt
 
 enum-known-a : tie.Need-enum-known-a
-enum-known-a c = search needs
+enum-known-a c = c .match .keys1
 
 enum-told : tie.Need-enum-told
-enum-told c = search needs
+enum-told c = c .match .keys2
 
 named-refusal-requires : tie.Need-named-refusal-requires
-named-refusal-requires c κs = search needs
+named-refusal-requires c κs = tt
 
 returns : tie.Need-returns
 unfolding numberDue
 returns c = rw (← c .before .before .before .atom-due .ensures, c .named-refusal .ensures, c .before .enum-told .given .1)
 
 numeral-requires : tie.Need-numeral-requires
-numeral-requires c κs = search needs
+numeral-requires c κs = tt
 
 enum-known-n : tie.Need-enum-known-n
-enum-known-n c = search needs
+enum-known-n c = c .match2 .keys1
 
 enum-told-2 : tie.Need-enum-told-2
-enum-told-2 c = search needs
+enum-told-2 c = c .match2 .keys2
 
 returns-2 : tie.Need-returns-2
 unfolding numberDue

@@ -1,83 +1,83 @@
 -- `steps::step` meets its contract. Assumes nothing.
+use mathlib.Core.Path.{refl, _∙_}
 use Rattle.steps.specs.Steps.{step}
-use borrow.Author.Needs.{needs}
 use Rattle.steps.proofs.step.Statement.{statement}
 use Rattle.steps.proofs.step.Tie as tie
 
 rule-due-requires : tie.Need-rule-due-requires
-rule-due-requires c κs = search needs
+rule-due-requires c κs = tt
 
 enum-known-h : tie.Need-enum-known-h
-enum-known-h c = search needs
+enum-known-h c = c .match .keys1
 
 enum-told : tie.Need-enum-told
-enum-told c = search needs
+enum-told c = c .match .keys2
 
 numbered-refusal-requires : tie.Need-numbered-refusal-requires
-numbered-refusal-requires c κs = search needs
+numbered-refusal-requires c κs = tt
 
 same-length : tie.Need-same-length
-same-length c = search needs
+same-length c = refl
 
 returns : tie.Need-returns
 unfolding step
 returns c = rw (← c .before .before .before .rule-due .ensures, c .numbered-refusal .ensures, c .before .enum-told .given .1)
 
 counted-references-requires : tie.Need-counted-references-requires
-counted-references-requires c κs = search needs
+counted-references-requires c κs = tt
 
 enum-known-c : tie.Need-enum-known-c
-enum-known-c c = search needs
+enum-known-c c = c .match2 .keys1
 
 enum-told-2 : tie.Need-enum-told-2
-enum-told-2 c = search needs
+enum-told-2 c = c .match2 .keys2
 
 numbered-refusal-requires-2 : tie.Need-numbered-refusal-requires-2
-numbered-refusal-requires-2 c κs = search needs
+numbered-refusal-requires-2 c κs = tt
 
 same-length-2 : tie.Need-same-length-2
-same-length-2 c = search needs
+same-length-2 c = c .before .before .before .before .stack .given
 
 same-length-3 : tie.Need-same-length-3
-same-length-3 c = search needs
+same-length-3 c = refl
 
 returns-2 : tie.Need-returns-2
 unfolding step
 returns-2 c = rw (← c .before .before .before .before .before .before .before .before .before .before .before .rule-due .ensures, c .before .before .before .before .before .before .before .before .before .h .given .1, ← c .before .before .before .before .before .counted-references .ensures, c .numbered-refusal2 .ensures, c .before .enum-told2 .given .1)
 
 items-judged-requires : tie.Need-items-judged-requires
-items-judged-requires c κs = search needs
+items-judged-requires c κs = tt
 
 enum-known-i : tie.Need-enum-known-i
-enum-known-i c = search needs
+enum-known-i c = c .match3 .keys1
 
 enum-told-3 : tie.Need-enum-told-3
-enum-told-3 c = search needs
+enum-told-3 c = c .match3 .keys2
 
 numbered-refusal-requires-3 : tie.Need-numbered-refusal-requires-3
-numbered-refusal-requires-3 c κs = search needs
+numbered-refusal-requires-3 c κs = tt
 
 same-length-4 : tie.Need-same-length-4
-same-length-4 c = search needs
+same-length-4 c = c .before .before .before .before .before .before .before .before .store .given
 
 same-length-5 : tie.Need-same-length-5
-same-length-5 c = search needs
+same-length-5 c = c .before .before .before .before .before .before .stack2 .given ∙ c .before .before .before .before .before .before .before .before .before .before .before .before .before .before .before .before .before .stack .given
 
 same-length-6 : tie.Need-same-length-6
-same-length-6 c = search needs
+same-length-6 c = c .before .before .before .before .heap .given
 
 returns-3 : tie.Need-returns-3
 unfolding step
 returns-3 c = rw (← c .before .before .before .before .before .before .before .before .before .before .before .before .before .before .before .before .before .before .before .before .before .before .before .before .rule-due .ensures, c .before .before .before .before .before .before .before .before .before .before .before .before .before .before .before .before .before .before .before .before .before .before .h .given .1, ← c .before .before .before .before .before .before .before .before .before .before .before .before .before .before .before .before .before .before .counted-references .ensures, c .before .before .before .before .before .before .before .before .before .before .before .before .before .before .c .given .1, ← c .before .before .before .before .before .before .before .before .before .items-judged .ensures, c .numbered-refusal3 .ensures, c .before .enum-told3 .given .1)
 
 same-length-7 : tie.Need-same-length-7
-same-length-7 c = search needs
+same-length-7 c = c .before .before .before .before .before .before .before .before .store .given
 
 same-length-8 : tie.Need-same-length-8
-same-length-8 c = search needs
+same-length-8 c = c .before .before .before .before .before .before .stack2 .given ∙ c .before .before .before .before .before .before .before .before .before .before .before .before .before .before .before .before .before .stack .given
 
 same-length-9 : tie.Need-same-length-9
-same-length-9 c = search needs
+same-length-9 c = c .before .before .before .before .heap .given
 
 returns-4 : tie.Need-returns-4
 unfolding step

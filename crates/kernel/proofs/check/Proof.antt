@@ -1,0 +1,57 @@
+-- `kernel::check` meets its contract. Assumes nothing.
+use Prim.Native.Nat.{ℕ}
+use mathlib.Core.Path.{ap, _∙_}
+use lib.ListN.{replicate}
+use Rattle.patterns.specs.Leaving.{Did}
+use Rattle.certificates.specs.Certificates.{AllAreas}
+use Rattle.checker.specs.declared.Counts.{Counts}
+use Rattle.kernel.specs.Release.{releasedBy}
+use borrow.Author.Needs.{needs}
+use Rattle.kernel.proofs.check.Statement.{statement}
+use Rattle.kernel.proofs.check.Tie as tie
+
+check-requires : tie.Need-check-requires
+check-requires c κs = search needs
+
+clear-all-requires : tie.Need-clear-all-requires
+clear-all-requires c κs = search needs
+
+accepted-requires : tie.Need-accepted-requires
+accepted-requires c κs = search needs
+
+same-length : tie.Need-same-length
+same-length c = search needs
+
+same-length-2 : tie.Need-same-length-2
+same-length-2 c = search needs
+
+same-length-3 : tie.Need-same-length-3
+same-length-3 c = search needs
+
+same-length-4 : tie.Need-same-length-4
+same-length-4 c = search needs
+
+returns : tie.Need-returns
+returns c = (
+  c .accepted .ensures ∙ ap (λ (m : Did AllAreas Counts). releasedBy (c .before .before .before .before .before .before .before .before .before .before .before .before .before .before .before .before .before .before .before .before .before .before .before .before .before .before .before .before .before .before .before .before .before .before .args .bytes) m) (c .before .before .before .before .before .before .before .before .before .before .before .before .before .before .before .before .before .before .before .before .before .before .check .ensures),
+  (
+    c .before .before .before .before .before .before .before .before .before .clear-all .ensures .0 ∙ ap (λ (n : ℕ). replicate n 0) (c .before .before .before .before .before .before .before .before .before .before .before .before .before .before .before .before .before .before .before .before .before .a .given),
+    (
+      c .before .before .before .before .before .before .before .before .before .clear-all .ensures .1 .0 ∙ ap (λ (n : ℕ). replicate n 0) (c .before .before .before .before .before .before .before .before .before .before .before .before .before .before .before .before .before .before .before .b .given),
+      (c .before .before .before .before .before .before .before .before .before .clear-all .ensures .1 .1 .0 ∙ ap (λ (n : ℕ). replicate n 0) (c .before .before .before .before .before .before .before .before .before .before .before .before .before .before .before .before .before .c .given), c .before .before .before .before .before .before .before .before .before .clear-all .ensures .1 .1 .1 ∙ ap (λ (n : ℕ). replicate n 0) (c .before .before .before .before .before .before .before .before .before .before .before .before .before .before .before .d .given)),
+    ),
+  ),
+)
+
+pub check-spec : {M : Type 1} → statement M
+check-spec =
+    tie.close
+    (tie.spec
+    check-requires
+    clear-all-requires
+    accepted-requires
+    same-length
+    same-length-2
+    same-length-3
+    same-length-4
+    returns)
