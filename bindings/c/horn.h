@@ -1,4 +1,4 @@
-/* The call with the rulebook alone: see ../../README.md. Link libkernel.a, which `rt staticlib kernel` writes. */
+/* The two calls: see ../../README.md. Link libkernel.a, which `rt staticlib kernel` writes. */
 #ifndef HORN_H
 #define HORN_H
 
@@ -11,8 +11,10 @@ extern "C" {
 
 /* Each work area must have at least so many words, else the answer is 1. */
 #define HORN_AREA_WORDS 16384
-/* A rulebook has at most so many bytes, else the answer is 2. */
+/* Each text has at most so many bytes, else the answer is 2. */
 #define HORN_RULEBOOK_BYTES 8192
+#define HORN_GOALS_BYTES 8192
+#define HORN_CERTIFICATE_BYTES 32768
 
 /* A number (0: accepted; else document 01's refusal) and the counts of what the rulebook declares, all 0 on a refusal. */
 typedef struct {
@@ -23,15 +25,39 @@ typedef struct {
     uint32_t rules;
 } HornRulebookReport;
 
+/* A number as above, and the counts of steps, goals, terms in the store and bytes of the certificate, all 0 on a refusal. */
+typedef struct {
+    uint32_t number;
+    uint32_t steps;
+    uint32_t goals;
+    uint32_t terms;
+    uint32_t bytes;
+} HornReport;
+
 /*
- * Reads and judges a rulebook of `length` bytes, any bytes. The four work areas are the caller's, of any contents; none
- * overlaps another or the text. No pointer is null, even where its length is 0. Nothing is kept after the call.
+ * In both calls a text is any bytes, so many as its length says. The four work areas are the caller's, of any contents; none
+ * overlaps another or a text. No pointer is null, even where its length is 0. Nothing is kept after a call.
  *
  * Refusals 1 and 2 leave the areas untouched. Every other answer leaves the first 16,384 words of each zero and later words
  * untouched.
  */
+
+/* Reads and judges a rulebook. */
 HornRulebookReport horn_rulebook(
     const uint8_t *text, size_t length,
+    uint32_t *a, size_t a_words,
+    uint32_t *b, size_t b_words,
+    uint32_t *c, size_t c_words,
+    uint32_t *d, size_t d_words);
+
+/*
+ * Reads and judges a rulebook, then goals under it, then a certificate for them. It answers 0 only if the rulebook forces
+ * every goal.
+ */
+HornReport horn_release(
+    const uint8_t *rulebook, size_t rulebook_length,
+    const uint8_t *goals, size_t goals_length,
+    const uint8_t *certificate, size_t certificate_length,
     uint32_t *a, size_t a_words,
     uint32_t *b, size_t b_words,
     uint32_t *c, size_t c_words,

@@ -13,6 +13,8 @@ mod messages;
 mod names;
 mod oracle;
 mod random;
+#[cfg(library)]
+mod releases;
 mod rulebook;
 #[cfg(library)]
 mod rulebooks;
@@ -34,6 +36,7 @@ const USAGE: &str = "usage: compare/run COMMAND
   fixed | rulebooks   the fixed lists
   readings | by-hand  cases written for people (standard input) as case lines, checked
   rulebook-call N SEED  N generated rulebooks: the static library's call beside the Rust
+  release-call N SEED   N generated cases: the static library's call with three texts beside the Rust
   keep [DIR]          all four files of compare/cases, written anew";
 
 fn fail(message: &str) -> ! {
@@ -82,7 +85,9 @@ fn main() {
         ["readings"] => readings(&mut out),
         ["by-hand"] => by_hand(&mut out),
         #[cfg(library)]
-        ["rulebook-call", n, seed] => rulebook_call(number(n) as usize, number(seed), &mut out),
+        ["rulebook-call", n, seed] => call::<call::RulebookAlone>(number(n) as usize, number(seed), &mut out),
+        #[cfg(library)]
+        ["release-call", n, seed] => call::<call::Release>(number(n) as usize, number(seed), &mut out),
         _ => fail(USAGE),
     };
     if let Err(e) = result.and_then(|()| out.flush()) {
@@ -101,8 +106,8 @@ fn generated(n: usize, seed: u64, out: &mut impl Write) -> Io {
 }
 
 #[cfg(library)]
-fn rulebook_call(n: usize, seed: u64, out: &mut impl Write) -> Io {
-    if call::compare(n, seed, out)? {
+fn call<C: call::Call>(n: usize, seed: u64, out: &mut impl Write) -> Io {
+    if call::compare::<C>(n, seed, out)? {
         return Ok(());
     }
     out.flush()?;
@@ -153,28 +158,38 @@ fn readings(out: &mut impl Write) -> Io {
     if wrong > 0 { fail(&format!("{wrong} readings differ from the Rust")) } else { Ok(()) }
 }
 
-/// Case lines of answers worked by hand, each compared with the opened copy where that can speak.
+/// What others say of a case worked by hand over areas long enough: the opened copy, and the Rust in its domain.
+fn opinions(case: &written::Written) -> Vec<(&'static str, Answer)> {
+    let (nodes, words) = case.store;
+    if case.areas.iter().flatten().any(|&n| n < oracle::AREA) {
+        return Vec::new();
+    }
+    if case.rulebook_alone {
+        return vec![("the opened copy", oracle::second_rulebook(&case.texts.rulebook))];
+    }
+    let mut out = vec![("the opened copy", oracle::second(&case.texts, nodes, words))];
+    if case.store == (oracle::NODES, oracle::WORDS) {
+        if let Reply::Rust(answer, _) = oracle::answer(&case.texts) {
+            out.push(("the Rust", answer));
+        }
+    }
+    out
+}
+
+/// Case lines of answers worked by hand, each compared with the opened copy and the Rust where they can speak.
 fn by_hand(out: &mut impl Write) -> Io {
     let mut wrong = 0;
     for case in written() {
-        let (nodes, words) = case.store;
-        let second: Option<Answer> = match (&case.areas, case.rulebook_alone) {
-            (Some(_), _) => None,
-            (None, true) => Some(oracle::second_rulebook(&case.texts.rulebook)),
-            (None, false) => Some(oracle::second(&case.texts, nodes, words)),
-        };
-        if second.is_some_and(|s| s != case.answer) {
-            wrong += 1;
-            eprintln!(
-                "differs: {}: by hand {}, the opened copy {}",
-                case.reason,
-                case.answer,
-                second.expect("an answer")
-            );
+        for (who, said) in opinions(&case) {
+            if said != case.answer {
+                wrong += 1;
+                eprintln!("differs: {}: by hand {}, {who} {said}", case.reason, case.answer);
+            }
         }
+        let (nodes, words) = case.store;
         let call = if case.rulebook_alone { "rulebook" } else { "release" };
-        let areas = case.areas.as_deref().unwrap_or("-");
+        let areas = case.areas.map_or("-".into(), |a| a.map(|n| n.to_string()).join(","));
         writeln!(out, "{}\t{}\t{nodes}\t{words}\t{areas}\t{call}\t{}", case.texts, case.answer, case.reason)?;
     }
-    if wrong > 0 { fail(&format!("{wrong} answers differ from the opened copy")) } else { Ok(()) }
+    if wrong > 0 { fail(&format!("{wrong} answers by hand differ from others")) } else { Ok(()) }
 }

@@ -7,6 +7,8 @@ use crate::messages;
 pub const RULEBOOK_BYTES: usize = 8_192;
 pub const GOALS_BYTES: usize = 8_192;
 pub const CERTIFICATE_BYTES: usize = 32_768;
+/// Words that each area must have.
+pub const AREA: usize = 16_384;
 pub const NODES: usize = 2_048;
 pub const WORDS: usize = 8_192;
 

@@ -28,7 +28,12 @@ fn valid(rng: &mut Random) -> Vec<u8> {
 }
 
 fn not_utf8(rng: &mut Random) -> Vec<u8> {
-    let mut text = valid(rng);
+    let text = valid(rng);
+    spoiled(text, rng)
+}
+
+/// A text with bytes that are not UTF-8 put in.
+pub fn spoiled(mut text: Vec<u8>, rng: &mut Random) -> Vec<u8> {
     for _ in 0..rng.from(1, 2) {
         let mut bad = rng.pick(BAD).to_vec();
         if rng.chance(40) {
@@ -104,7 +109,7 @@ fn large(rng: &mut Random) -> Vec<u8> {
     text
 }
 
-fn base62(mut n: usize) -> String {
+pub fn base62(mut n: usize) -> String {
     let digits = b"abcdefghijklmnopqrsuvwxyzABCDEFGHIJKLMNOPQRSTUVWXYZ0123456789";
     let mut out = String::new();
     loop {

@@ -16,7 +16,7 @@ pub struct Written {
     pub texts: Texts,
     pub answer: Answer,
     pub store: (usize, usize),
-    pub areas: Option<String>,
+    pub areas: Option<[usize; 4]>,
     pub rulebook_alone: bool,
     pub reason: String,
 }
@@ -83,7 +83,7 @@ fn line(case: &mut Written, line: &str) -> Result<bool, String> {
             [nodes, words] => case.store = (nodes, words),
             _ => return Err("store wants two numbers".into()),
         },
-        "areas" => case.areas = Some(numbers(rest)?.iter().map(usize::to_string).collect::<Vec<_>>().join(",")),
+        "areas" => case.areas = Some(numbers(rest)?.try_into().map_err(|_| "areas wants four numbers")?),
         "call" if rest == "rulebook" => case.rulebook_alone = true,
         "=" => {
             let (answer, reason) = rest.split_once(" | ").ok_or("an answer wants a reason")?;
