@@ -117,7 +117,7 @@ record Reports (bytes : ℕ) (m : Did AllAreas Counts) (m′ : Result calls.Repo
 reports : (bytes : ℕ) {m : Did AllAreas Counts} {m′ : Result calls.Report} → Simulates (Released bytes) m m′ → Later m′ → Reports bytes m m′
 unfolding releaseAnswer
 reports bytes (refuse {n} e) (later-refused r h) =
-    record { same = rw e; not-1 = λ z. absurd (omega arith); not-2 = λ z. absurd (omega arith) }
+    record { same = ap (λ (k : ℕ). report k 0 0 0 0) (sym e); not-1 = λ z. absurd (omega arith); not-2 = λ z. absurd (omega arith) }
 reports bytes (leave q) later-ok = record { same = q; not-1 = λ z. absurd (omega arith); not-2 = λ z. absurd (omega arith) }
 
 -- Every other answer: the first 16,384 words of each area were lent to the walks, then cleared.
