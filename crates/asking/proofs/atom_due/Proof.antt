@@ -2,22 +2,21 @@
 use mathlib.Core.Path.{sym}
 use Rattle.asking.specs.Asking.{atomDue}
 use Rattle.asking.proofs.Tags.{no-atom}
-use borrow.Author.Needs.{needs}
 use Rattle.asking.proofs.atom_due.Statement.{statement}
 use Rattle.asking.proofs.atom_due.Tie as tie
 
 item-due-requires : tie.Need-item-due-requires
-item-due-requires c κs = search needs
+item-due-requires c κs = tt
 
 enum-known-answer : tie.Need-enum-known-answer
-enum-known-answer c = search needs
+enum-known-answer c = c .match .keys1
 
 returns : tie.Need-returns
 unfolding atomDue
 returns c = rw (← c .before .before .before .item-due .ensures, c .before .answer .given .1)
 
 enum-known-answer-2 : tie.Need-enum-known-answer-2
-enum-known-answer-2 c = search needs
+enum-known-answer-2 c = c .match2 .keys1
 
 returns-2 : tie.Need-returns-2
 unfolding atomDue

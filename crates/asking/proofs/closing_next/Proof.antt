@@ -2,39 +2,38 @@
 use Rattle.asking.specs.Asking.{closingNext}
 use Rattle.lex.specs.Answers.{answer}
 use Rattle.horn.specs.Refusals.{number}
-use borrow.Author.Needs.{needs}
 use Rattle.asking.proofs.closing_next.Statement.{statement}
 use Rattle.asking.proofs.closing_next.Tie as tie
 
 peek-requires : tie.Need-peek-requires
-peek-requires c κs = search needs
+peek-requires c κs = tt
 
 enum-told : tie.Need-enum-told
-enum-told c = search needs
+enum-told c = c .match .keys1
 
 enum-told-2 : tie.Need-enum-told-2
-enum-told-2 c = search needs
+enum-told-2 c = c .match .keys2
 
 enum-known-seen : tie.Need-enum-known-seen
-enum-known-seen c = search needs
+enum-known-seen c = c .match .keys3
 
 enum-told-3 : tie.Need-enum-told-3
-enum-told-3 c = search needs
+enum-told-3 c = c .match2 .keys1
 
 enum-told-4 : tie.Need-enum-told-4
-enum-told-4 c = search needs
+enum-told-4 c = c .match2 .keys2
 
 enum-told-5 : tie.Need-enum-told-5
-enum-told-5 c = search needs
+enum-told-5 c = c .match2 .keys3
 
 closing-due-requires : tie.Need-closing-due-requires
-closing-due-requires c κs = search needs
+closing-due-requires c κs = tt
 
 enum-known-p : tie.Need-enum-known-p
-enum-known-p c = search needs
+enum-known-p c = c .match3 .keys1
 
 enum-known-p-2 : tie.Need-enum-known-p-2
-enum-known-p-2 c = search needs
+enum-known-p-2 c = c .match3 .keys2
 
 returns : tie.Need-returns
 unfolding closingNext answer number

@@ -1,20 +1,19 @@
 -- `asking::list_due` meets its contract. Assumes nothing.
 use Rattle.asking.specs.Asking.{listDue}
-use borrow.Author.Needs.{needs}
 use Rattle.asking.proofs.list_due.Statement.{statement}
 use Rattle.asking.proofs.list_due.Tie as tie
 
 item-due-requires : tie.Need-item-due-requires
-item-due-requires c κs = search needs
+item-due-requires c κs = tt
 
 enum-known-answer : tie.Need-enum-known-answer
-enum-known-answer c = search needs
+enum-known-answer c = c .match .keys1
 
 enum-told : tie.Need-enum-told
-enum-told c = search needs
+enum-told c = c .match .keys2
 
 enum-known-answer-2 : tie.Need-enum-known-answer-2
-enum-known-answer-2 c = search needs
+enum-known-answer-2 c = c .match .keys3
 
 returns : tie.Need-returns
 unfolding listDue

@@ -20,7 +20,7 @@ abbrev μ-loop : tie.MeasureT-loop
 μ-loop text goals rules table₀ store₀ stack₀ heap₀ r₀ now₀ fuel₀ table store stack heap r now fuel = fuel
 
 new-requires : tie.Need-new-requires Inv-loop μ-loop
-new-requires c κs = search needs
+new-requires c κs = tt
 
 add-fuel : tie.Need-add-fuel Inv-loop μ-loop
 add-fuel c = search needs
@@ -29,10 +29,10 @@ loop-holds : tie.Need-loop-holds Inv-loop μ-loop
 loop-holds c = (refl, refl, refl, refl, refl)
 
 form-due-requires : tie.Need-form-due-requires Inv-loop μ-loop
-form-due-requires c κs = search needs
+form-due-requires c κs = tt
 
 enum-known-next : tie.Need-enum-known-next Inv-loop μ-loop
-enum-known-next c = search needs
+enum-known-next c = c .match .keys1
 
 same-length : tie.Need-same-length Inv-loop μ-loop
 same-length c = c .before .before .before .before .before .loop .inv .1
@@ -50,7 +50,7 @@ returns : tie.Need-returns Inv-loop μ-loop
 returns c = rw (← c .before .before .before .before .before .before .new .ensures) (sym (c .before .before .before .before .before .loop .inv .0 ∙ forms-bad _ _ _ _ _ _ _ _ _ _ (c .before .before .before .before .loop-test .taken) (sym (c .before .before .before .form-due .ensures) ∙ ap begun (c .before .next .given .1))))
 
 enum-told : tie.Need-enum-told Inv-loop μ-loop
-enum-told c = search needs
+enum-told c = c .match .keys2
 
 same-length-5 : tie.Need-same-length-5 Inv-loop μ-loop
 same-length-5 c = c .before .before .before .before .loop .inv .1
@@ -68,13 +68,13 @@ returns-2 : tie.Need-returns-2 Inv-loop μ-loop
 returns-2 c = rw (← c .before .before .before .before .before .new .ensures) (sym (c .before .before .before .before .loop .inv .0 ∙ forms-over _ _ _ _ _ _ _ _ _ _ (c .before .before .before .loop-test .taken) (sym (c .before .before .form-due .ensures) ∙ ap begun (c .enum-told .given .1))))
 
 enum-known-next-2 : tie.Need-enum-known-next-2 Inv-loop μ-loop
-enum-known-next-2 c = search needs
+enum-known-next-2 c = c .match .keys3
 
 read-form-requires : tie.Need-read-form-requires Inv-loop μ-loop
-read-form-requires c κs = search needs
+read-form-requires c κs = tt
 
 enum-known-f : tie.Need-enum-known-f Inv-loop μ-loop
-enum-known-f c = search needs
+enum-known-f c = c .match2 .keys1
 
 same-length-9 : tie.Need-same-length-9 Inv-loop μ-loop
 same-length-9 c = c .before .before .before .before .before .before .before .before .before .before .table .given ∙ c .before .before .before .before .before .before .before .before .before .before .before .before .before .before .before .before .before .before .before .before .before .loop .inv .1
@@ -92,7 +92,7 @@ returns-3 : tie.Need-returns-3 Inv-loop μ-loop
 returns-3 c = rw (← c .before .before .before .before .before .before .before .before .before .before .before .before .before .before .before .before .before .before .before .before .before .before .new .ensures) (sym (c .before .before .before .before .before .before .before .before .before .before .before .before .before .before .before .before .before .before .before .before .before .loop .inv .0 ∙ form-refused _ _ _ _ _ _ _ _ _ _ (c .before .before .before .before .before .before .before .before .before .before .before .before .before .before .before .before .before .before .before .before .loop-test .taken) (sym (c .before .before .before .before .before .before .before .before .before .before .before .before .before .before .before .before .before .before .before .form-due .ensures) ∙ ap begun (c .before .before .before .before .before .before .before .before .before .before .before .before .before .before .before .before .before .next2 .given .1)) (sym (c .before .before .before .before .before .before .before .before .before .before .before .read-form .ensures)) (ap formed (c .before .f .given .1))))
 
 enum-known-f-2 : tie.Need-enum-known-f-2 Inv-loop μ-loop
-enum-known-f-2 c = search needs
+enum-known-f-2 c = c .match2 .keys2
 
 sub-fuel : tie.Need-sub-fuel Inv-loop μ-loop
 sub-fuel c = search needs

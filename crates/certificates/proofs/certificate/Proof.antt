@@ -1,18 +1,17 @@
 -- `certificates::certificate` meets its contract. Assumes nothing.
 use borrow.Author.Tests.{eq-eqb, ne-eqb}
 use Rattle.certificates.specs.Certificates as models
-use borrow.Author.Needs.{needs}
 use Rattle.certificates.proofs.certificate.Statement.{statement}
 use Rattle.certificates.proofs.certificate.Tie as tie
 
 all-forms-requires : tie.Need-all-forms-requires
-all-forms-requires c κs = search needs
+all-forms-requires c κs = tt
 
 enum-known-all : tie.Need-enum-known-all
-enum-known-all c = search needs
+enum-known-all c = c .match .keys1
 
 enum-known-all-2 : tie.Need-enum-known-all-2
-enum-known-all-2 c = search needs
+enum-known-all-2 c = c .match .keys2
 
 same-length : tie.Need-same-length
 same-length c = c .before .before .before .before .before .before .before .before .before .before .before .before .table .given

@@ -1,37 +1,36 @@
 -- `certificates::def_form` meets its contract. Assumes nothing.
 use mathlib.Core.Path.{refl}
 use Rattle.certificates.specs.Certificates.{defForm}
-use borrow.Author.Needs.{needs}
 use Rattle.certificates.proofs.def_form.Statement.{statement}
 use Rattle.certificates.proofs.def_form.Tie as tie
 
 def-name-requires : tie.Need-def-name-requires
-def-name-requires c κs = search needs
+def-name-requires c κs = tt
 
 enum-known-d : tie.Need-enum-known-d
-enum-known-d c = search needs
+enum-known-d c = c .match .keys1
 
 enum-told : tie.Need-enum-told
-enum-told c = search needs
+enum-told c = c .match .keys2
 
 named-refusal-requires : tie.Need-named-refusal-requires
-named-refusal-requires c κs = search needs
+named-refusal-requires c κs = tt
 
 returns : tie.Need-returns
 unfolding defForm
 returns c = rw (c .named-refusal .ensures, ← c .before .before .before .def-name .ensures, c .before .enum-told .given .1)
 
 term-requires : tie.Need-term-requires
-term-requires c κs = search needs
+term-requires c κs = tt
 
 enum-known-a : tie.Need-enum-known-a
-enum-known-a c = search needs
+enum-known-a c = c .match2 .keys1
 
 enum-told-2 : tie.Need-enum-told-2
-enum-told-2 c = search needs
+enum-told-2 c = c .match2 .keys2
 
 numbered-refusal-requires : tie.Need-numbered-refusal-requires
-numbered-refusal-requires c κs = search needs
+numbered-refusal-requires c κs = tt
 
 same-length : tie.Need-same-length
 same-length c = refl
@@ -47,13 +46,13 @@ unfolding defForm
 returns-2 c = rw (← c .before .before .before .before .before .before .before .before .before .before .before .before .before .before .def-name .ensures, c .before .before .before .before .before .before .before .before .before .before .before .before .d .given .1, ← c .before .before .before .before .before .before .before .term .ensures, c .numbered-refusal .ensures, c .before .enum-told2 .given .1)
 
 find-def-requires : tie.Need-find-def-requires
-find-def-requires c κs = search needs
+find-def-requires c κs = tt
 
 enum-told-3 : tie.Need-enum-told-3
-enum-told-3 c = search needs
+enum-told-3 c = c .match3 .keys1
 
 enum-told-4 : tie.Need-enum-told-4
-enum-told-4 c = search needs
+enum-told-4 c = c .match3 .keys2
 
 same-length-4 : tie.Need-same-length-4
 same-length-4 c = refl
@@ -69,16 +68,16 @@ unfolding defForm
 returns-3 c = rw (← c .before .before .before .before .before .before .before .before .before .before .before .before .before .before .before .before .before .before .def-name .ensures, c .before .before .before .before .before .before .before .before .before .before .before .before .before .before .before .before .d .given .1, ← c .before .before .before .before .before .before .before .before .before .before .before .term .ensures, c .before .before .before .before .before .a .given .1, ← c .before .before .find-def .ensures, c .enum-told4 .given .1)
 
 closing-due-requires : tie.Need-closing-due-requires
-closing-due-requires c κs = search needs
+closing-due-requires c κs = tt
 
 enum-known-c : tie.Need-enum-known-c
-enum-known-c c = search needs
+enum-known-c c = c .match4 .keys1
 
 enum-told-5 : tie.Need-enum-told-5
-enum-told-5 c = search needs
+enum-told-5 c = c .match4 .keys2
 
 passed-refusal-requires : tie.Need-passed-refusal-requires
-passed-refusal-requires c κs = search needs
+passed-refusal-requires c κs = tt
 
 same-length-7 : tie.Need-same-length-7
 same-length-7 c = refl
@@ -94,7 +93,7 @@ unfolding defForm
 returns-4 c = rw (← c .before .before .before .before .before .before .before .before .before .before .before .before .before .before .before .before .before .before .before .before .before .before .def-name .ensures, c .before .before .before .before .before .before .before .before .before .before .before .before .before .before .before .before .before .before .before .before .d .given .1, ← c .before .before .before .before .before .before .before .before .before .before .before .before .before .before .before .term .ensures, c .before .before .before .before .before .before .before .before .before .a .given .1, ← c .before .before .before .before .before .before .find-def .ensures, c .before .before .before .before .enum-told3 .given .1, ← c .before .before .before .closing-due .ensures, c .passed-refusal .ensures, c .before .enum-told5 .given .1)
 
 add-def-requires : tie.Need-add-def-requires
-add-def-requires c κs = search needs
+add-def-requires c κs = tt
 
 same-length-10 : tie.Need-same-length-10
 same-length-10 c = c .before .table .given

@@ -2,32 +2,31 @@
 use mathlib.Core.Path.{sym, _∙_}
 use Rattle.certificates.specs.Certificates.{defNamed}
 use borrow.Author.Tests.{not-true, not-false}
-use borrow.Author.Needs.{needs}
 use Rattle.certificates.proofs.def_name.Statement.{statement}
 use Rattle.certificates.proofs.def_name.Tie as tie
 
 atom-due-requires : tie.Need-atom-due-requires
-atom-due-requires c κs = search needs
+atom-due-requires c κs = tt
 
 enum-known-a : tie.Need-enum-known-a
-enum-known-a c = search needs
+enum-known-a c = c .match .keys1
 
 enum-told : tie.Need-enum-told
-enum-told c = search needs
+enum-told c = c .match .keys2
 
 returns : tie.Need-returns
 unfolding defNamed
 returns c = rw (← c .before .before .atom-due .ensures, c .enum-told .given .1)
 
 is-question-requires : tie.Need-is-question-requires
-is-question-requires c κs = search needs
+is-question-requires c κs = tt
 
 returns-2 : tie.Need-returns-2
 unfolding defNamed
 returns-2 c = rw (← c .before .before .before .before .before .atom-due .ensures, c .before .before .before .a .given .1, sym (c .before .is-question .ensures) ∙ not-true _ (c .if1 .taken))
 
 is-bare-requires : tie.Need-is-bare-requires
-is-bare-requires c κs = search needs
+is-bare-requires c κs = tt
 
 returns-3 : tie.Need-returns-3
 unfolding defNamed

@@ -9,7 +9,7 @@ slice-aggregate-same-bytes : tie.Need-slice-aggregate-same-bytes
 slice-aggregate-same-bytes c = search needs
 
 same-bytes-requires : tie.Need-same-bytes-requires
-same-bytes-requires c κs = search needs
+same-bytes-requires c κs = tt
 
 returns : tie.Need-returns
 unfolding keywordOf part
@@ -19,7 +19,7 @@ slice-aggregate-same-bytes-2 : tie.Need-slice-aggregate-same-bytes-2
 slice-aggregate-same-bytes-2 c = search needs
 
 same-bytes-requires-2 : tie.Need-same-bytes-requires-2
-same-bytes-requires-2 c κs = search needs
+same-bytes-requires-2 c κs = tt
 
 returns-2 : tie.Need-returns-2
 unfolding keywordOf part
@@ -29,7 +29,7 @@ slice-aggregate-same-bytes-3 : tie.Need-slice-aggregate-same-bytes-3
 slice-aggregate-same-bytes-3 c = search needs
 
 same-bytes-requires-3 : tie.Need-same-bytes-requires-3
-same-bytes-requires-3 c κs = search needs
+same-bytes-requires-3 c κs = tt
 
 returns-3 : tie.Need-returns-3
 unfolding keywordOf part

@@ -1,49 +1,48 @@
 -- `certificates::read_form` meets its contract. Assumes nothing.
 use mathlib.Core.Path.{refl}
 use Rattle.certificates.specs.Certificates.{formRead}
-use borrow.Author.Needs.{needs}
 use Rattle.certificates.proofs.read_form.Statement.{statement}
 use Rattle.certificates.proofs.read_form.Tie as tie
 
 atom-due-requires : tie.Need-atom-due-requires
-atom-due-requires c κs = search needs
+atom-due-requires c κs = tt
 
 enum-known-a : tie.Need-enum-known-a
-enum-known-a c = search needs
+enum-known-a c = c .match .keys1
 
 enum-told : tie.Need-enum-told
-enum-told c = search needs
+enum-told c = c .match .keys2
 
 named-refusal-requires : tie.Need-named-refusal-requires
-named-refusal-requires c κs = search needs
+named-refusal-requires c κs = tt
 
 returns : tie.Need-returns
 unfolding formRead
 returns c = rw (c .named-refusal .ensures, ← c .before .before .before .atom-due .ensures, c .before .enum-told .given .1)
 
 keyword-of-requires : tie.Need-keyword-of-requires
-keyword-of-requires c κs = search needs
+keyword-of-requires c κs = tt
 
 enum-told-2 : tie.Need-enum-told-2
-enum-told-2 c = search needs
+enum-told-2 c = c .match2 .keys1
 
 step-form-requires : tie.Need-step-form-requires
-step-form-requires c κs = search needs
+step-form-requires c κs = tt
 
 enum-told-3 : tie.Need-enum-told-3
-enum-told-3 c = search needs
+enum-told-3 c = c .match2 .keys2
 
 result-form-requires : tie.Need-result-form-requires
-result-form-requires c κs = search needs
+result-form-requires c κs = tt
 
 enum-told-4 : tie.Need-enum-told-4
-enum-told-4 c = search needs
+enum-told-4 c = c .match2 .keys3
 
 def-form-requires : tie.Need-def-form-requires
-def-form-requires c κs = search needs
+def-form-requires c κs = tt
 
 enum-told-5 : tie.Need-enum-told-5
-enum-told-5 c = search needs
+enum-told-5 c = c .match2 .keys4
 
 same-length : tie.Need-same-length
 same-length c = c .before .before .before .before .before .before .before .table .given

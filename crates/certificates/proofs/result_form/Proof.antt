@@ -3,34 +3,33 @@ use mathlib.Core.Path.{refl}
 use borrow.Author.Tests.{eq-eqb, ne-eqb}
 use Rattle.certificates.specs.Certificates.{resultForm}
 use Rattle.certificates.proofs.Turns.{next-is}
-use borrow.Author.Needs.{needs}
 use Rattle.certificates.proofs.result_form.Statement.{statement}
 use Rattle.certificates.proofs.result_form.Tie as tie
 
 atom-due-requires : tie.Need-atom-due-requires
-atom-due-requires c κs = search needs
+atom-due-requires c κs = tt
 
 enum-known-a : tie.Need-enum-known-a
-enum-known-a c = search needs
+enum-known-a c = c .match .keys1
 
 enum-told : tie.Need-enum-told
-enum-told c = search needs
+enum-told c = c .match .keys2
 
 named-refusal-requires : tie.Need-named-refusal-requires
-named-refusal-requires c κs = search needs
+named-refusal-requires c κs = tt
 
 returns : tie.Need-returns
 unfolding resultForm
 returns c = rw (c .named-refusal .ensures, ← c .before .before .before .atom-due .ensures, c .before .enum-told .given .1)
 
 open-goal-requires : tie.Need-open-goal-requires
-open-goal-requires c κs = search needs
+open-goal-requires c κs = tt
 
 enum-known-goal : tie.Need-enum-known-goal
-enum-known-goal c = search needs
+enum-known-goal c = c .match2 .keys1
 
 enum-told-2 : tie.Need-enum-told-2
-enum-told-2 c = search needs
+enum-told-2 c = c .match2 .keys2
 
 same-length : tie.Need-same-length
 same-length c = refl
@@ -40,22 +39,22 @@ unfolding resultForm
 returns-2 c = rw (← c .before .before .before .before .before .before .before .atom-due .ensures, c .before .before .before .before .before .a .given .1, ← c .before .before .open-goal .ensures, c .enum-told2 .given .1)
 
 number-due-requires : tie.Need-number-due-requires
-number-due-requires c κs = search needs
+number-due-requires c κs = tt
 
 enum-known-i : tie.Need-enum-known-i
-enum-known-i c = search needs
+enum-known-i c = c .match3 .keys1
 
 enum-known-i-2 : tie.Need-enum-known-i-2
-enum-known-i-2 c = search needs
+enum-known-i-2 c = c .match3 .keys2
 
 step-word-requires : tie.Need-step-word-requires
-step-word-requires c κs = search needs
+step-word-requires c κs = tt
 
 enum-known-judged : tie.Need-enum-known-judged
-enum-known-judged c = search needs
+enum-known-judged c = c .match4 .keys1
 
 enum-told-3 : tie.Need-enum-told-3
-enum-told-3 c = search needs
+enum-told-3 c = c .match4 .keys2
 
 same-length-2 : tie.Need-same-length-2
 same-length-2 c = refl
@@ -72,16 +71,16 @@ unfolding resultForm
 returns-4 c = rw (← c .before .before .before .before .before .before .before .before .before .before .before .before .before .before .before .before .before .before .atom-due .ensures, c .before .before .before .before .before .before .before .before .before .before .before .before .before .before .before .before .a .given .1, ← c .before .before .before .before .before .before .before .before .before .before .before .before .before .open-goal .ensures, c .before .before .before .before .before .before .before .before .before .before .before .goal .given .1, ← c .before .before .before .before .before .before .before .before .before .number-due .ensures, c .before .before .before .before .before .before .before .i2 .given .1, ← c .before .before .before .before .step-word .ensures, c .before .before .judged .given .1, ne-eqb (c .before .before .judged .given .0 .0) (c .before .before .before .before .before .before .before .before .before .before .before .goal .given .0 .1 .0) (c .if1 .taken))
 
 closing-due-requires : tie.Need-closing-due-requires
-closing-due-requires c κs = search needs
+closing-due-requires c κs = tt
 
 enum-known-c : tie.Need-enum-known-c
-enum-known-c c = search needs
+enum-known-c c = c .match5 .keys1
 
 enum-told-4 : tie.Need-enum-told-4
-enum-told-4 c = search needs
+enum-told-4 c = c .match5 .keys2
 
 passed-refusal-requires : tie.Need-passed-refusal-requires
-passed-refusal-requires c κs = search needs
+passed-refusal-requires c κs = tt
 
 same-length-4 : tie.Need-same-length-4
 same-length-4 c = refl
@@ -91,7 +90,7 @@ unfolding resultForm
 returns-5 c = rw (← c .before .before .before .before .before .before .before .before .before .before .before .before .before .before .before .before .before .before .before .before .before .before .atom-due .ensures, c .before .before .before .before .before .before .before .before .before .before .before .before .before .before .before .before .before .before .before .before .a .given .1, ← c .before .before .before .before .before .before .before .before .before .before .before .before .before .before .before .before .before .open-goal .ensures, c .before .before .before .before .before .before .before .before .before .before .before .before .before .before .before .goal .given .1, ← c .before .before .before .before .before .before .before .before .before .before .before .before .before .number-due .ensures, c .before .before .before .before .before .before .before .before .before .before .before .i2 .given .1, ← c .before .before .before .before .before .before .before .before .step-word .ensures, c .before .before .before .before .before .before .judged .given .1, eq-eqb (c .before .before .before .before .before .before .judged .given .0 .0) (c .before .before .before .before .before .before .before .before .before .before .before .before .before .before .before .goal .given .0 .1 .0) (c .before .before .before .before .if1 .left), ← c .before .before .before .closing-due .ensures, c .passed-refusal .ensures, c .before .enum-told4 .given .1)
 
 close-goal-requires : tie.Need-close-goal-requires
-close-goal-requires c κs = search needs
+close-goal-requires c κs = tt
 
 same-length-5 : tie.Need-same-length-5
 same-length-5 c = refl

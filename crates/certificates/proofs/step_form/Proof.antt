@@ -1,21 +1,20 @@
 -- `certificates::step_form` meets its contract. Assumes nothing.
 use mathlib.Core.Path.{refl}
 use Rattle.certificates.specs.Certificates.{stepForm}
-use borrow.Author.Needs.{needs}
 use Rattle.certificates.proofs.step_form.Statement.{statement}
 use Rattle.certificates.proofs.step_form.Tie as tie
 
 step-requires : tie.Need-step-requires
-step-requires c κs = search needs
+step-requires c κs = tt
 
 enum-known-s : tie.Need-enum-known-s
-enum-known-s c = search needs
+enum-known-s c = c .match .keys1
 
 enum-known-s-2 : tie.Need-enum-known-s-2
-enum-known-s-2 c = search needs
+enum-known-s-2 c = c .match .keys2
 
 add-step-requires : tie.Need-add-step-requires
-add-step-requires c κs = search needs
+add-step-requires c κs = tt
 
 same-length : tie.Need-same-length
 same-length c = refl

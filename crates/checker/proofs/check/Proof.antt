@@ -1,77 +1,76 @@
 -- `checker::check` meets its contract. Assumes nothing.
 use mathlib.Core.Path.{_∙_}
 use Rattle.checker.specs.Checker as models
-use borrow.Author.Needs.{needs}
 use Rattle.checker.proofs.check.Statement.{statement}
 use Rattle.checker.proofs.check.Tie as tie
 
 theory-requires : tie.Need-theory-requires
-theory-requires c κs = search needs
+theory-requires c κs = tt
 
 enum-known-judged : tie.Need-enum-known-judged
-enum-known-judged c = search needs
+enum-known-judged c = c .match .keys1
 
 same-length : tie.Need-same-length
-same-length c = search needs
+same-length c = c .before .before .before .before .before .before .before .before .table .given
 
 same-length-2 : tie.Need-same-length-2
-same-length-2 c = search needs
+same-length-2 c = c .before .before .before .before .before .before .stack .given
 
 same-length-3 : tie.Need-same-length-3
-same-length-3 c = search needs
+same-length-3 c = c .before .before .before .before .heap .given
 
 returns : tie.Need-returns
 unfolding models.check
 returns c = rw (← c .before .before .before .before .before .before .before .before .before .theory .ensures, c .before .judged .given .1)
 
 enum-told : tie.Need-enum-told
-enum-told c = search needs
+enum-told c = c .match .keys2
 
 empty-requires : tie.Need-empty-requires
-empty-requires c κs = search needs
+empty-requires c κs = tt
 
 begin-requires : tie.Need-begin-requires
-begin-requires c κs = search needs
+begin-requires c κs = tt
 
 goals-requires : tie.Need-goals-requires
-goals-requires c κs = search needs
+goals-requires c κs = tt
 
 enum-known-gathered : tie.Need-enum-known-gathered
-enum-known-gathered c = search needs
+enum-known-gathered c = c .match2 .keys1
 
 enum-told-2 : tie.Need-enum-told-2
-enum-told-2 c = search needs
+enum-told-2 c = c .match2 .keys2
 
 forms-refusal-requires : tie.Need-forms-refusal-requires
-forms-refusal-requires c κs = search needs
+forms-refusal-requires c κs = tt
 
 same-length-4 : tie.Need-same-length-4
-same-length-4 c = search needs
+same-length-4 c = c .before .before .before .before .before .before .store2 .given ∙ c .before .before .before .before .before .before .before .before .before .before .before .before .before .before .before .before .before .before .before .store .given
 
 same-length-5 : tie.Need-same-length-5
-same-length-5 c = search needs
+same-length-5 c = c .before .before .before .before .before .before .before .before .table3 .given ∙ c .before .before .before .before .before .before .before .before .before .before .before .before .before .before .before .table2 .given ∙ c .before .before .before .before .before .before .before .before .before .before .before .before .before .before .before .before .before .before .before .before .before .before .before .before .before .before .before .before .before .table .given
 
 same-length-6 : tie.Need-same-length-6
-same-length-6 c = search needs
+same-length-6 c = c .before .before .before .before .stack2 .given ∙ c .before .before .before .before .before .before .before .before .before .before .before .before .before .before .before .before .before .before .before .before .before .before .before .before .before .before .before .stack .given
 
 same-length-7 : tie.Need-same-length-7
-same-length-7 c = search needs
+same-length-7 c = c .before .before .before .before .before .before .before .before .before .before .before .before .before .before .before .before .before .before .before .before .before .before .before .before .before .heap .given
 
 returns-2 : tie.Need-returns-2
 unfolding models.check
 returns-2 c = rw (← c .before .before .before .before .before .before .before .before .before .before .before .before .before .before .before .before .before .before .before .before .before .before .before .before .before .before .before .before .before .before .theory .ensures, c .before .before .before .before .before .before .before .before .before .before .before .before .before .before .before .before .before .before .before .before .before .before .enum-told .given .1, ← c .before .before .before .before .before .before .before .before .before .before .before .before .before .before .before .before .before .before .before .before .empty .ensures, ← c .before .before .before .before .before .before .before .before .before .before .before .before .before .before .before .before .begin .ensures .0, ← c .before .before .before .before .before .before .before .before .before .before .before .before .before .before .before .before .begin .ensures .1, ← c .before .before .before .before .before .before .before .before .before .goals .ensures, c .forms-refusal .ensures, c .before .enum-told2 .given .1)
 
 certificate-requires : tie.Need-certificate-requires
-certificate-requires c κs = search needs
+certificate-requires c κs = tt
 
 enum-known-all : tie.Need-enum-known-all
-enum-known-all c = search needs
+enum-known-all c = c .match3 .keys1
 
 enum-told-3 : tie.Need-enum-told-3
-enum-told-3 c = search needs
+enum-told-3 c = c .match3 .keys2
 
 forms-refusal-requires-2 : tie.Need-forms-refusal-requires-2
-forms-refusal-requires-2 c κs = search needs
+forms-refusal-requires-2 c κs = tt
 
 same-length-8 : tie.Need-same-length-8
 same-length-8 c = c .before .before .before .before .before .before .before .before .store3 .given ∙ c .before .before .before .before .before .before .before .before .before .before .before .before .before .before .before .before .before .before .before .before .before .before .store2 .given ∙ c .before .before .before .before .before .before .before .before .before .before .before .before .before .before .before .before .before .before .before .before .before .before .before .before .before .before .before .before .before .before .before .before .before .before .before .store .given
@@ -90,7 +89,7 @@ unfolding models.check
 returns-3 c = rw (← c .before .before .before .before .before .before .before .before .before .before .before .before .before .before .before .before .before .before .before .before .before .before .before .before .before .before .before .before .before .before .before .before .before .before .before .before .before .before .before .before .before .before .before .before .before .before .theory .ensures, c .before .before .before .before .before .before .before .before .before .before .before .before .before .before .before .before .before .before .before .before .before .before .before .before .before .before .before .before .before .before .before .before .before .before .before .before .before .before .enum-told .given .1, ← c .before .before .before .before .before .before .before .before .before .before .before .before .before .before .before .before .before .before .before .before .before .before .before .before .before .before .before .before .before .before .before .before .before .before .before .before .empty .ensures, ← c .before .before .before .before .before .before .before .before .before .before .before .before .before .before .before .before .before .before .before .before .before .before .before .before .before .before .before .before .before .before .before .before .begin .ensures .0, ← c .before .before .before .before .before .before .before .before .before .before .before .before .before .before .before .before .before .before .before .before .before .before .before .before .before .before .before .before .before .before .before .before .begin .ensures .1, ← c .before .before .before .before .before .before .before .before .before .before .before .before .before .before .before .before .before .before .before .before .before .before .before .before .before .goals .ensures, c .before .before .before .before .before .before .before .before .before .before .before .before .before .before .before .before .before .gathered .given .1, ← c .before .before .before .before .before .before .before .before .before .before .before .certificate .ensures, c .forms-refusal2 .ensures, c .before .enum-told3 .given .1)
 
 node-count-requires : tie.Need-node-count-requires
-node-count-requires c κs = search needs
+node-count-requires c κs = tt
 
 same-length-12 : tie.Need-same-length-12
 same-length-12 c = c .before .before .before .before .before .before .before .before .before .before .store3 .given ∙ c .before .before .before .before .before .before .before .before .before .before .before .before .before .before .before .before .before .before .before .before .before .before .before .before .store2 .given ∙ c .before .before .before .before .before .before .before .before .before .before .before .before .before .before .before .before .before .before .before .before .before .before .before .before .before .before .before .before .before .before .before .before .before .before .before .before .before .store .given

@@ -8,16 +8,16 @@ use Rattle.goals.proofs.goal_name.Statement.{statement}
 use Rattle.goals.proofs.goal_name.Tie as tie
 
 atom-due-requires : tie.Need-atom-due-requires
-atom-due-requires c κs = search needs
+atom-due-requires c κs = tt
 
 enum-known-h : tie.Need-enum-known-h
-enum-known-h c = search needs
+enum-known-h c = c .match .keys1
 
 enum-told : tie.Need-enum-told
-enum-told c = search needs
+enum-told c = c .match .keys2
 
 named-refusal-requires : tie.Need-named-refusal-requires
-named-refusal-requires c κs = search needs
+named-refusal-requires c κs = tt
 
 returns : tie.Need-returns
 unfolding goalName
@@ -27,30 +27,30 @@ slice-aggregate-same-bytes : tie.Need-slice-aggregate-same-bytes
 slice-aggregate-same-bytes c = search needs
 
 same-bytes-requires : tie.Need-same-bytes-requires
-same-bytes-requires c κs = search needs
+same-bytes-requires c κs = tt
 
 returns-2 : tie.Need-returns-2
 unfolding goalName part
 returns-2 c = rw (← c .before .before .before .before .before .before .atom-due .ensures, c .before .before .before .before .h .given .1, sym (c .before .same-bytes .ensures) ∙ not-true _ (c .if1 .taken))
 
 atom-due-requires-2 : tie.Need-atom-due-requires-2
-atom-due-requires-2 c κs = search needs
+atom-due-requires-2 c κs = tt
 
 enum-known-n : tie.Need-enum-known-n
-enum-known-n c = search needs
+enum-known-n c = c .match2 .keys1
 
 enum-told-2 : tie.Need-enum-told-2
-enum-told-2 c = search needs
+enum-told-2 c = c .match2 .keys2
 
 named-refusal-requires-2 : tie.Need-named-refusal-requires-2
-named-refusal-requires-2 c κs = search needs
+named-refusal-requires-2 c κs = tt
 
 returns-3 : tie.Need-returns-3
 unfolding goalName part
 returns-3 c = rw (← c .before .before .before .before .before .before .before .before .before .before .atom-due .ensures, c .before .before .before .before .before .before .before .before .h .given .1, sym (c .before .before .before .before .before .same-bytes .ensures) ∙ not-false _ (c .before .before .before .before .if1 .left), ← c .before .before .before .atom-due2 .ensures, c .named-refusal2 .ensures, c .before .enum-told2 .given .1)
 
 is-question-requires : tie.Need-is-question-requires
-is-question-requires c κs = search needs
+is-question-requires c κs = tt
 
 returns-4 : tie.Need-returns-4
 unfolding goalName part

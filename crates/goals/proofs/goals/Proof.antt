@@ -1,59 +1,58 @@
 -- `goals::goals` meets its contract. Assumes nothing.
 use borrow.Author.Tests.{eq-eqb, ne-eqb}
 use Rattle.goals.specs.Goals as models
-use borrow.Author.Needs.{needs}
 use Rattle.goals.proofs.goals.Statement.{statement}
 use Rattle.goals.proofs.goals.Tie as tie
 
 new-requires : tie.Need-new-requires
-new-requires c κs = search needs
+new-requires c κs = tt
 
 goals-from-requires : tie.Need-goals-from-requires
-goals-from-requires c κs = search needs
+goals-from-requires c κs = tt
 
 enum-known-all : tie.Need-enum-known-all
-enum-known-all c = search needs
+enum-known-all c = c .match .keys1
 
 enum-told : tie.Need-enum-told
-enum-told c = search needs
+enum-told c = c .match .keys2
 
 forms-refusal-requires : tie.Need-forms-refusal-requires
-forms-refusal-requires c κs = search needs
+forms-refusal-requires c κs = tt
 
 same-length : tie.Need-same-length
-same-length c = search needs
+same-length c = c .before .before .before .before .before .before .before .before .table .given
 
 same-length-2 : tie.Need-same-length-2
-same-length-2 c = search needs
+same-length-2 c = c .before .before .before .before .before .before .store .given
 
 same-length-3 : tie.Need-same-length-3
-same-length-3 c = search needs
+same-length-3 c = c .before .before .before .before .stack .given
 
 returns : tie.Need-returns
 unfolding models.goals
 returns c = rw (c .forms-refusal .ensures, ← c .before .before .before .before .before .before .before .before .before .before .before .before .before .new .ensures, ← c .before .before .before .before .before .before .before .before .before .goals-from .ensures, c .before .enum-told .given .1)
 
 same-length-4 : tie.Need-same-length-4
-same-length-4 c = search needs
+same-length-4 c = c .before .before .before .before .before .before .before .before .before .before .table .given
 
 same-length-5 : tie.Need-same-length-5
-same-length-5 c = search needs
+same-length-5 c = c .before .before .before .before .before .before .before .before .store .given
 
 same-length-6 : tie.Need-same-length-6
-same-length-6 c = search needs
+same-length-6 c = c .before .before .before .before .before .before .stack .given
 
 returns-2 : tie.Need-returns-2
 unfolding models.goals
 returns-2 c = rw (← c .before .before .before .before .before .before .before .before .before .before .before .before .before .before .before .new .ensures, ← c .before .before .before .before .before .before .before .before .before .before .before .goals-from .ensures, c .before .before .before .all .given .1, eq-eqb _ _ (c .if1 .taken))
 
 same-length-7 : tie.Need-same-length-7
-same-length-7 c = search needs
+same-length-7 c = c .before .before .before .before .before .before .before .before .before .before .table .given
 
 same-length-8 : tie.Need-same-length-8
-same-length-8 c = search needs
+same-length-8 c = c .before .before .before .before .before .before .before .before .store .given
 
 same-length-9 : tie.Need-same-length-9
-same-length-9 c = search needs
+same-length-9 c = c .before .before .before .before .before .before .stack .given
 
 returns-3 : tie.Need-returns-3
 unfolding models.goals

@@ -18,64 +18,64 @@ add-fuel : tie.Need-add-fuel Inv-loop μ-loop
 add-fuel c = search needs
 
 loop-holds : tie.Need-loop-holds Inv-loop μ-loop
-loop-holds c = (refl, search needs, search needs, search needs)
+loop-holds c = (refl, refl, refl, refl)
 
 form-due-requires : tie.Need-form-due-requires Inv-loop μ-loop
-form-due-requires c κs = search needs
+form-due-requires c κs = tt
 
 enum-known-next : tie.Need-enum-known-next Inv-loop μ-loop
-enum-known-next c = search needs
+enum-known-next c = c .match .keys1
 
 same-length : tie.Need-same-length Inv-loop μ-loop
-same-length c = search needs
+same-length c = c .before .before .before .before .before .loop .inv .1
 
 same-length-2 : tie.Need-same-length-2 Inv-loop μ-loop
-same-length-2 c = search needs
+same-length-2 c = c .before .before .before .before .before .loop .inv .2
 
 same-length-3 : tie.Need-same-length-3 Inv-loop μ-loop
-same-length-3 c = search needs
+same-length-3 c = c .before .before .before .before .before .loop .inv .3
 
 returns : tie.Need-returns Inv-loop μ-loop
 returns c = sym (c .before .before .before .before .before .loop .inv .0 ∙ form-refused _ _ _ _ _ _ _ _ _ (c .before .before .before .before .loop-test .taken) (rw (← c .before .before .before .form-due .ensures, c .before .next .given .1)))
 
 enum-told : tie.Need-enum-told Inv-loop μ-loop
-enum-told c = search needs
+enum-told c = c .match .keys2
 
 same-length-4 : tie.Need-same-length-4 Inv-loop μ-loop
-same-length-4 c = search needs
+same-length-4 c = c .before .before .before .before .loop .inv .1
 
 same-length-5 : tie.Need-same-length-5 Inv-loop μ-loop
-same-length-5 c = search needs
+same-length-5 c = c .before .before .before .before .loop .inv .2
 
 same-length-6 : tie.Need-same-length-6 Inv-loop μ-loop
-same-length-6 c = search needs
+same-length-6 c = c .before .before .before .before .loop .inv .3
 
 returns-2 : tie.Need-returns-2 Inv-loop μ-loop
 returns-2 c = sym (c .before .before .before .before .loop .inv .0 ∙ goals-over _ _ _ _ _ _ _ _ _ (c .before .before .before .loop-test .taken) (rw (← c .before .before .form-due .ensures, c .enum-told .given .1)))
 
 enum-known-next-2 : tie.Need-enum-known-next-2 Inv-loop μ-loop
-enum-known-next-2 c = search needs
+enum-known-next-2 c = c .match .keys3
 
 goal-requires : tie.Need-goal-requires Inv-loop μ-loop
-goal-requires c κs = search needs
+goal-requires c κs = tt
 
 enum-known-f : tie.Need-enum-known-f Inv-loop μ-loop
-enum-known-f c = search needs
+enum-known-f c = c .match2 .keys1
 
 enum-told-2 : tie.Need-enum-told-2 Inv-loop μ-loop
-enum-told-2 c = search needs
+enum-told-2 c = c .match2 .keys2
 
 form-refusal-requires : tie.Need-form-refusal-requires Inv-loop μ-loop
-form-refusal-requires c κs = search needs
+form-refusal-requires c κs = tt
 
 same-length-7 : tie.Need-same-length-7 Inv-loop μ-loop
-same-length-7 c = search needs
+same-length-7 c = c .before .before .before .before .before .before .before .before .table .given ∙ c .before .before .before .before .before .before .before .before .before .before .before .before .before .before .before .before .before .before .loop .inv .1
 
 same-length-8 : tie.Need-same-length-8 Inv-loop μ-loop
-same-length-8 c = search needs
+same-length-8 c = c .before .before .before .before .before .before .store .given ∙ c .before .before .before .before .before .before .before .before .before .before .before .before .before .before .before .before .before .before .loop .inv .2
 
 same-length-9 : tie.Need-same-length-9 Inv-loop μ-loop
-same-length-9 c = search needs
+same-length-9 c = c .before .before .before .before .stack .given ∙ c .before .before .before .before .before .before .before .before .before .before .before .before .before .before .before .before .before .before .loop .inv .3
 
 returns-3 : tie.Need-returns-3 Inv-loop μ-loop
 returns-3 c = sym (c .before .before .before .before .before .before .before .before .before .before .before .before .before .before .before .before .before .before .loop .inv .0 ∙ goal-refused _ _ _ _ _ _ _ _ _ (c .before .before .before .before .before .before .before .before .before .before .before .before .before .before .before .before .before .loop-test .taken) (sym (c .before .before .before .before .before .before .before .before .before .before .before .before .before .before .before .before .form-due .ensures) ∙ ap begun (c .before .before .before .before .before .before .before .before .before .before .before .before .before .before .next2 .given .1)) (rw (c .form-refusal .ensures, ← c .before .before .before .before .before .before .before .before .before .goal .ensures, c .before .enum-told2 .given .1)))
@@ -87,16 +87,16 @@ loop-less : tie.Need-loop-less Inv-loop μ-loop
 loop-less c = search needs
 
 loop-again : tie.Need-loop-again Inv-loop μ-loop
-loop-again c = (c .before .before .before .before .before .before .before .before .before .before .before .before .before .before .before .before .before .before .loop .inv .0 ∙ goals-on _ _ _ _ _ _ _ _ _ (c .before .before .before .before .before .before .before .before .before .before .before .before .before .before .before .before .before .loop-test .taken) (sym (c .before .before .before .before .before .before .before .before .before .before .before .before .before .before .before .before .form-due .ensures) ∙ ap begun (c .before .before .before .before .before .before .before .before .before .before .before .before .before .before .next2 .given .1)) (sym (c .before .before .before .before .before .before .before .before .before .goal .ensures)) (ap formed (c .before .f .given .1)), search (c .before .before .before .before .before .before .before .slice-known4 .given, c .before .before .before .before .before .before .before .before .table .given, c .before .before .before .before .before .before .before .before .before .before .before .before .before .before .before .before .before .before .loop .inv .1, needs), search (c .before .before .before .before .before .slice-known5 .given, c .before .before .before .before .before .before .store .given, c .before .before .before .before .before .before .before .before .before .before .before .before .before .before .before .before .before .before .loop .inv .2, needs), search (c .before .before .before .slice-known6 .given, c .before .before .before .before .stack .given, c .before .before .before .before .before .before .before .before .before .before .before .before .before .before .before .before .before .before .loop .inv .3, needs))
+loop-again c = (c .before .before .before .before .before .before .before .before .before .before .before .before .before .before .before .before .before .before .loop .inv .0 ∙ goals-on _ _ _ _ _ _ _ _ _ (c .before .before .before .before .before .before .before .before .before .before .before .before .before .before .before .before .before .loop-test .taken) (sym (c .before .before .before .before .before .before .before .before .before .before .before .before .before .before .before .before .form-due .ensures) ∙ ap begun (c .before .before .before .before .before .before .before .before .before .before .before .before .before .before .next2 .given .1)) (sym (c .before .before .before .before .before .before .before .before .before .goal .ensures)) (ap formed (c .before .f .given .1)), c .before .before .before .before .before .before .before .before .table .given ∙ c .before .before .before .before .before .before .before .before .before .before .before .before .before .before .before .before .before .before .loop .inv .1, c .before .before .before .before .before .before .store .given ∙ c .before .before .before .before .before .before .before .before .before .before .before .before .before .before .before .before .before .before .loop .inv .2, c .before .before .before .before .stack .given ∙ c .before .before .before .before .before .before .before .before .before .before .before .before .before .before .before .before .before .before .loop .inv .3)
 
 same-length-10 : tie.Need-same-length-10 Inv-loop μ-loop
-same-length-10 c = search needs
+same-length-10 c = c .before .loop .inv .1
 
 same-length-11 : tie.Need-same-length-11 Inv-loop μ-loop
-same-length-11 c = search needs
+same-length-11 c = c .before .loop .inv .2
 
 same-length-12 : tie.Need-same-length-12 Inv-loop μ-loop
-same-length-12 c = search needs
+same-length-12 c = c .before .loop .inv .3
 
 returns-4 : tie.Need-returns-4 Inv-loop μ-loop
 returns-4 c = sym (c .before .loop .inv .0 ∙ goals-none _ _ _ _ _ _ _ _ _ (c .loop-test .left))

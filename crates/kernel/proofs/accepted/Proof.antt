@@ -1,16 +1,15 @@
 -- `kernel::accepted` meets its contract. Assumes nothing.
-use borrow.Author.Needs.{needs}
 use Rattle.kernel.proofs.accepted.Statement.{statement}
 use Rattle.kernel.proofs.accepted.Tie as tie
 
 enum-known-checked : tie.Need-enum-known-checked
-enum-known-checked c = search needs
+enum-known-checked c = c .match .keys1
 
 unreleased-requires : tie.Need-unreleased-requires
-unreleased-requires c κs = search needs
+unreleased-requires c κs = tt
 
 enum-known-checked-2 : tie.Need-enum-known-checked-2
-enum-known-checked-2 c = search needs
+enum-known-checked-2 c = c .match .keys2
 
 returns : tie.Need-returns
 returns c = rw (c .unreleased .ensures, c .before .before .checked .given .1)

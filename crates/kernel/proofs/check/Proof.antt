@@ -6,30 +6,29 @@ use Rattle.patterns.specs.Leaving.{Did}
 use Rattle.certificates.specs.Certificates.{AllAreas}
 use Rattle.checker.specs.declared.Counts.{Counts}
 use Rattle.kernel.specs.Release.{releasedBy}
-use borrow.Author.Needs.{needs}
 use Rattle.kernel.proofs.check.Statement.{statement}
 use Rattle.kernel.proofs.check.Tie as tie
 
 check-requires : tie.Need-check-requires
-check-requires c κs = search needs
+check-requires c κs = tt
 
 clear-all-requires : tie.Need-clear-all-requires
-clear-all-requires c κs = search needs
+clear-all-requires c κs = tt
 
 accepted-requires : tie.Need-accepted-requires
-accepted-requires c κs = search needs
+accepted-requires c κs = tt
 
 same-length : tie.Need-same-length
-same-length c = search needs
+same-length c = c .before .before .before .before .before .before .before .before .a2 .given ∙ c .before .before .before .before .before .before .before .before .before .before .before .before .before .before .before .before .before .before .before .before .before .a .given
 
 same-length-2 : tie.Need-same-length-2
-same-length-2 c = search needs
+same-length-2 c = c .before .before .before .before .before .before .b2 .given ∙ c .before .before .before .before .before .before .before .before .before .before .before .before .before .before .before .before .before .before .before .b .given
 
 same-length-3 : tie.Need-same-length-3
-same-length-3 c = search needs
+same-length-3 c = c .before .before .before .before .c2 .given ∙ c .before .before .before .before .before .before .before .before .before .before .before .before .before .before .before .before .before .c .given
 
 same-length-4 : tie.Need-same-length-4
-same-length-4 c = search needs
+same-length-4 c = c .before .before .d2 .given ∙ c .before .before .before .before .before .before .before .before .before .before .before .before .before .before .before .d .given
 
 returns : tie.Need-returns
 returns c = (

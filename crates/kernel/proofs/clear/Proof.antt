@@ -1,17 +1,16 @@
 use mathlib.Core.Path.{_∙_}
 use Rattle.kernel.proofs.Areas.{zeros}
 use denote.Ref.{now}
-use borrow.Author.Needs.{needs}
 use Rattle.kernel.proofs.clear.Statement.{statement}
 use Rattle.kernel.proofs.clear.Tie as tie
 
 -- src/lib.rt:54:5
 clear-requires : tie.Need-clear-requires
-clear-requires c κs = search needs
+clear-requires c κs = tt
 
 -- src/lib.rt:50:1
 same-length : tie.Need-same-length
-same-length c = search needs
+same-length c = c .before .s .given
 
 -- src/lib.rt:50:1
 returns : tie.Need-returns

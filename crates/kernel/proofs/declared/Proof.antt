@@ -1,16 +1,15 @@
 -- `kernel::declared` meets its contract. Assumes nothing.
-use borrow.Author.Needs.{needs}
 use Rattle.kernel.proofs.declared.Statement.{statement}
 use Rattle.kernel.proofs.declared.Tie as tie
 
 enum-known-judged : tie.Need-enum-known-judged
-enum-known-judged c = search needs
+enum-known-judged c = c .match .keys1
 
 refused-requires : tie.Need-refused-requires
-refused-requires c κs = search needs
+refused-requires c κs = tt
 
 enum-known-judged-2 : tie.Need-enum-known-judged-2
-enum-known-judged-2 c = search needs
+enum-known-judged-2 c = c .match .keys2
 
 returns : tie.Need-returns
 returns c = rw (c .refused .ensures, c .before .before .judged .given .1)

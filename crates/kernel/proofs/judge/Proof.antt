@@ -6,30 +6,29 @@ use Rattle.patterns.specs.Leaving.{Did}
 use Rattle.theory.specs.Walks.{AllAreas}
 use Rattle.theory.specs.declared.Counts.{Counts}
 use Rattle.kernel.specs.Rulebook.{reportedBy}
-use borrow.Author.Needs.{needs}
 use Rattle.kernel.proofs.judge.Statement.{statement}
 use Rattle.kernel.proofs.judge.Tie as tie
 
 theory-requires : tie.Need-theory-requires
-theory-requires c κs = search needs
+theory-requires c κs = tt
 
 clear-all-requires : tie.Need-clear-all-requires
-clear-all-requires c κs = search needs
+clear-all-requires c κs = tt
 
 declared-requires : tie.Need-declared-requires
-declared-requires c κs = search needs
+declared-requires c κs = tt
 
 same-length : tie.Need-same-length
-same-length c = search needs
+same-length c = c .before .before .before .before .before .before .before .before .a .given
 
 same-length-2 : tie.Need-same-length-2
-same-length-2 c = search needs
+same-length-2 c = c .before .before .before .before .before .before .b2 .given ∙ c .before .before .before .before .before .before .before .before .before .before .before .before .before .before .before .before .before .before .before .b .given
 
 same-length-3 : tie.Need-same-length-3
-same-length-3 c = search needs
+same-length-3 c = c .before .before .before .before .c2 .given ∙ c .before .before .before .before .before .before .before .before .before .before .before .before .before .before .before .before .before .c .given
 
 same-length-4 : tie.Need-same-length-4
-same-length-4 c = search needs
+same-length-4 c = c .before .before .d2 .given ∙ c .before .before .before .before .before .before .before .before .before .before .before .before .before .before .before .d .given
 
 returns : tie.Need-returns
 returns c = (

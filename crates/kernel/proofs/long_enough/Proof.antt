@@ -1,7 +1,6 @@
 -- `kernel::long_enough` meets its contract. Assumes nothing.
 use borrow.Author.Tests.{le-leb, lt-leb}
 use Rattle.kernel.specs.Lengths.{longEnough}
-use borrow.Author.Needs.{needs}
 use Rattle.kernel.proofs.long_enough.Statement.{statement}
 use Rattle.kernel.proofs.long_enough.Tie as tie
 

@@ -10,28 +10,28 @@ use Rattle.kernel.proofs.release.Statement.{statement}
 use Rattle.kernel.proofs.release.Tie as tie
 
 long-enough-requires : tie.Need-long-enough-requires
-long-enough-requires c κs = search needs
+long-enough-requires c κs = tt
 
 unreleased-requires : tie.Need-unreleased-requires
-unreleased-requires c κs = search needs
+unreleased-requires c κs = tt
 
 returns : tie.Need-returns
 returns c = area-short _ _ _ _ _ _ _ _ (sym (c .before .before .long-enough .ensures) ∙ not-true _ (c .before .if1 .taken)) (c .unreleased .ensures)
 
 unreleased-requires-2 : tie.Need-unreleased-requires-2
-unreleased-requires-2 c κs = search needs
+unreleased-requires-2 c κs = tt
 
 returns-2 : tie.Need-returns-2
 returns-2 c = rulebook-long _ _ _ _ _ _ _ (sym (c .before .before .before .long-enough .ensures) ∙ not-false _ (c .before .before .if1 .left)) _ (c .before .if2 .taken) (c .unreleased2 .ensures)
 
 unreleased-requires-3 : tie.Need-unreleased-requires-3
-unreleased-requires-3 c κs = search needs
+unreleased-requires-3 c κs = tt
 
 returns-3 : tie.Need-returns-3
 returns-3 c = goals-long _ _ _ _ _ _ _ (sym (c .before .before .before .before .long-enough .ensures) ∙ not-false _ (c .before .before .before .if1 .left)) (c .before .before .if2 .left) _ (c .before .if3 .taken) (c .unreleased3 .ensures)
 
 unreleased-requires-4 : tie.Need-unreleased-requires-4
-unreleased-requires-4 c κs = search needs
+unreleased-requires-4 c κs = tt
 
 returns-4 : tie.Need-returns-4
 returns-4 c = certificate-long _ _ _ _ _ _ _ (sym (c .before .before .before .before .before .long-enough .ensures) ∙ not-false _ (c .before .before .before .before .if1 .left)) (c .before .before .before .if2 .left) (c .before .before .if3 .left) _ (c .before .if4 .taken) (c .unreleased4 .ensures)
@@ -64,7 +64,7 @@ slice-aggregate-check-4 : tie.Need-slice-aggregate-check-4
 slice-aggregate-check-4 c = sym (length-take-le 16384 (now (c .before .before .before .before .before .before .before .before .before .before .before .before .before .before .before .before .args .d)) (long _ _ _ _ (sym (c .before .before .before .before .before .before .before .before .long-enough .ensures) ∙ not-false _ (c .before .before .before .before .before .before .before .if1 .left)) .fourth))
 
 check-requires : tie.Need-check-requires
-check-requires c κs = search needs
+check-requires c κs = tt
 
 same-length : tie.Need-same-length
 same-length c = search needs

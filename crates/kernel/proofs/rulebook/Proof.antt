@@ -10,16 +10,16 @@ use Rattle.kernel.proofs.rulebook.Statement.{statement}
 use Rattle.kernel.proofs.rulebook.Tie as tie
 
 long-enough-requires : tie.Need-long-enough-requires
-long-enough-requires c κs = search needs
+long-enough-requires c κs = tt
 
 refused-requires : tie.Need-refused-requires
-refused-requires c κs = search needs
+refused-requires c κs = tt
 
 returns : tie.Need-returns
 returns c = area-short _ _ _ _ _ _ (sym (c .before .before .long-enough .ensures) ∙ not-true _ (c .before .if1 .taken)) (c .refused .ensures)
 
 refused-requires-2 : tie.Need-refused-requires-2
-refused-requires-2 c κs = search needs
+refused-requires-2 c κs = tt
 
 returns-2 : tie.Need-returns-2
 returns-2 c = text-long _ _ _ _ _ (sym (c .before .before .before .long-enough .ensures) ∙ not-false _ (c .before .before .if1 .left)) _ (c .before .if2 .taken) (c .refused2 .ensures)
@@ -49,7 +49,7 @@ slice-aggregate-judge-4 : tie.Need-slice-aggregate-judge-4
 slice-aggregate-judge-4 c = sym (length-take-le 16384 (now (c .before .before .before .before .before .before .before .before .before .before .before .before .args .d)) (long _ _ _ _ (sym (c .before .before .before .before .before .before .long-enough .ensures) ∙ not-false _ (c .before .before .before .before .before .if1 .left)) .fourth))
 
 judge-requires : tie.Need-judge-requires
-judge-requires c κs = search needs
+judge-requires c κs = tt
 
 same-length : tie.Need-same-length
 same-length c = search needs

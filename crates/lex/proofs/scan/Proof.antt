@@ -5,7 +5,6 @@ use lib.ListN.{length}
 use Prim.Native.Nat.{ℕ, suc, _≤_, _-_}
 use native.Mathlib.Omega.{arith}
 use mathlib.Core.Path.{_≡_, _∙_, sym, refl}
-use borrow.Author.Needs.{needs}
 use Rattle.lex.proofs.scan.Statement.{statement}
 use Rattle.lex.proofs.scan.Tie as tie
 
@@ -16,7 +15,7 @@ abbrev μ-loop : tie.MeasureT-loop
 μ-loop text end p classes e₀ q₀ e q = length text - e
 
 classes-requires : tie.Need-classes-requires Inv-loop μ-loop
-classes-requires c κs = search needs
+classes-requires c κs = tt
 
 skip-blanks-requires : tie.Need-skip-blanks-requires Inv-loop μ-loop
 skip-blanks-requires c κs = c .before .classes .ensures
@@ -33,10 +32,10 @@ line-end-requires : tie.Need-line-end-requires Inv-loop μ-loop
 line-end-requires c κs = c .before .before .before .before .before .before .classes .ensures
 
 enum-known-line : tie.Need-enum-known-line Inv-loop μ-loop
-enum-known-line c = search needs
+enum-known-line c = c .match .keys1
 
 enum-told : tie.Need-enum-told Inv-loop μ-loop
-enum-told c = search needs
+enum-told c = c .match .keys2
 
 returns-2 : tie.Need-returns-2 Inv-loop μ-loop
 unfolding answer

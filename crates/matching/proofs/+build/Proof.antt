@@ -1,6 +1,6 @@
 -- `matching::build`, which calls itself, meets its contract. Assumes nothing.
 use native.Mathlib.Omega.{arith}
-use mathlib.Core.Path.{_≡_, sym, _∙_}
+use mathlib.Core.Path.{_≡_, sym, _∙_, refl}
 use lib.ListN.{length}
 use borrow.Author.Tests.{le-leb, lt-leb}
 use Rattle.matching.specs.Matching.{argumentsBuilt, termBuilt}
@@ -46,25 +46,25 @@ unfolding termBuilt
 build-returns t c = rw (c .if1 .taken)
 
 build-at-requires : (t : ℕ) → build-lts.Need-at-requires (build-calls t) (build-at t) build.Post build-Inv-loop build-μ-loop
-build-at-requires t c κs = search needs
+build-at-requires t c κs = tt
 
 build-bound-term-requires : (t : ℕ) → build-lts.Need-bound-term-requires (build-calls t) (build-at t) build.Post build-Inv-loop build-μ-loop
-build-bound-term-requires t c κs = search needs
+build-bound-term-requires t c κs = tt
 
 build-returns-2 : (t : ℕ) → build-lts.Need-returns-2 (build-calls t) (build-at t) build.Post build-Inv-loop build-μ-loop
 build-returns-2 t c = rw (built-within _ _ _ _ _ _ _ _ _ (c .before .before .before .if1 .left), ← c .before .before .at .ensures, le-leb _ _ (c .before .if2 .taken), ← c .bound-term .ensures)
 
 build-arity-requires : (t : ℕ) → build-lts.Need-arity-requires (build-calls t) (build-at t) build.Post build-Inv-loop build-μ-loop
-build-arity-requires t c κs = search needs
+build-arity-requires t c κs = tt
 
 build-push-requires : (t : ℕ) → build-lts.Need-push-requires (build-calls t) (build-at t) build.Post build-Inv-loop build-μ-loop
-build-push-requires t c κs = search needs
+build-push-requires t c κs = tt
 
 build-plus-requires : (t : ℕ) → build-lts.Need-plus-requires (build-calls t) (build-at t) build.Post build-Inv-loop build-μ-loop
-build-plus-requires t c κs = search needs
+build-plus-requires t c κs = tt
 
 build-loop-holds : (t : ℕ) → build-lts.Need-loop-holds (build-calls t) (build-at t) build.Post build-Inv-loop build-μ-loop
-build-loop-holds t c = (search needs, building-first _ _ _ _ _ _ _ _ _ _, search needs, search needs)
+build-loop-holds t c = (search needs, building-first _ _ _ _ _ _ _ _ _ _, refl, refl)
 
 build-sub-build : (t : ℕ) → build-lts.Need-sub-build (build-calls t) (build-at t) build.Post build-Inv-loop build-μ-loop
 build-sub-build t c = search needs
@@ -73,25 +73,25 @@ build-build-requires : (t : ℕ) → build-lts.Need-build-requires (build-calls 
 build-build-requires t c κs = (omega (arith, c .before .before .before .before .before .before .before .before .before .before .before .before .if1 .left, c .before .before .before .before .before .before .before .before .before .before .before .before .before .before .before .before .pre .0), tt)
 
 build-enum-known-b : (t : ℕ) → build-lts.Need-enum-known-b (build-calls t) (build-at t) build.Post build-Inv-loop build-μ-loop
-build-enum-known-b t c = search needs
+build-enum-known-b t c = c .match .keys1
 
 build-enum-told : (t : ℕ) → build-lts.Need-enum-told (build-calls t) (build-at t) build.Post build-Inv-loop build-μ-loop
-build-enum-told t c = search needs
+build-enum-told t c = c .match .keys2
 
 build-built-refusal-requires : (t : ℕ) → build-lts.Need-built-refusal-requires (build-calls t) (build-at t) build.Post build-Inv-loop build-μ-loop
-build-built-refusal-requires t c κs = search needs
+build-built-refusal-requires t c κs = tt
 
 build-same-length : (t : ℕ) → build-lts.Need-same-length (build-calls t) (build-at t) build.Post build-Inv-loop build-μ-loop
-build-same-length t c = search needs
+build-same-length t c = c .before .before .before .before .before .before .store .given ∙ c .before .before .before .before .before .before .before .before .before .before .before .loop .inv .2
 
 build-same-length-2 : (t : ℕ) → build-lts.Need-same-length-2 (build-calls t) (build-at t) build.Post build-Inv-loop build-μ-loop
-build-same-length-2 t c = search needs
+build-same-length-2 t c = c .before .before .before .before .stack2 .given ∙ c .before .before .before .before .before .before .before .before .before .before .before .loop .inv .3 ∙ c .before .before .before .before .before .before .before .before .before .before .before .before .before .before .stack .given
 
 build-returns-3 : (t : ℕ) → build-lts.Need-returns-3 (build-calls t) (build-at t) build.Post build-Inv-loop build-μ-loop
 build-returns-3 t c = rw (built-within _ _ _ _ _ _ _ _ _ (c .before .before .before .before .before .before .before .before .before .before .before .before .before .before .before .before .before .before .before .before .if1 .left), ← c .before .before .before .before .before .before .before .before .before .before .before .before .before .before .before .before .before .before .before .at .ensures, lt-leb _ _ (c .before .before .before .before .before .before .before .before .before .before .before .before .before .before .before .before .before .before .if2 .left), ← c .before .before .before .before .before .before .before .before .before .before .before .before .before .before .before .before .before .arity .ensures, ← c .before .before .before .before .before .before .before .before .before .before .before .before .plus .ensures, ← c .before .before .before .before .before .before .before .before .before .before .before .before .before .before .before .push .ensures .0, ← c .before .before .before .before .before .before .before .before .before .before .before .before .before .before .before .push .ensures .1) (sym (c .before .before .before .before .before .before .before .before .before .before .before .loop .inv .1 ∙ building-refused _ _ _ _ _ _ _ _ _ _ _ (c .before .before .before .before .before .before .before .before .before .before .loop-test .taken) (rw (c .built-refusal .ensures, ← c .before .before .before .before .before .before .before .build .ensures, c .before .enum-told .given .1))))
 
 build-push-requires-2 : (t : ℕ) → build-lts.Need-push-requires-2 (build-calls t) (build-at t) build.Post build-Inv-loop build-μ-loop
-build-push-requires-2 t c κs = search needs
+build-push-requires-2 t c κs = tt
 
 build-add-j : (t : ℕ) → build-lts.Need-add-j (build-calls t) (build-at t) build.Post build-Inv-loop build-μ-loop
 build-add-j t c = search needs
@@ -100,16 +100,16 @@ build-loop-less : (t : ℕ) → build-lts.Need-loop-less (build-calls t) (build-
 build-loop-less t c = search needs
 
 build-loop-again : (t : ℕ) → build-lts.Need-loop-again (build-calls t) (build-at t) build.Post build-Inv-loop build-μ-loop
-build-loop-again t c = (search needs, c .before .before .before .before .before .before .before .before .before .before .before .before .before .before .before .loop .inv .1 ∙ building-on _ _ _ _ _ _ _ _ _ _ _ (c .before .before .before .before .before .before .before .before .before .before .before .before .before .before .loop-test .taken) (c .before .before .before .before .before .before .before .before .before .before .before .build .ensures) (c .before .before .before .before .before .b .given .1) (c .before .before .push2 .ensures .0) (c .before .before .push2 .ensures .1), search needs, search needs)
+build-loop-again t c = (search needs, c .before .before .before .before .before .before .before .before .before .before .before .before .before .before .before .loop .inv .1 ∙ building-on _ _ _ _ _ _ _ _ _ _ _ (c .before .before .before .before .before .before .before .before .before .before .before .before .before .before .loop-test .taken) (c .before .before .before .before .before .before .before .before .before .before .before .build .ensures) (c .before .before .before .before .before .b .given .1) (c .before .before .push2 .ensures .0) (c .before .before .push2 .ensures .1), c .before .before .before .before .before .before .before .before .before .before .store .given ∙ c .before .before .before .before .before .before .before .before .before .before .before .before .before .before .before .loop .inv .2, c .before .stack3 .given ∙ c .before .before .before .before .before .before .before .before .stack2 .given ∙ c .before .before .before .before .before .before .before .before .before .before .before .before .before .before .before .loop .inv .3)
 
 build-make-node-requires : (t : ℕ) → build-lts.Need-make-node-requires (build-calls t) (build-at t) build.Post build-Inv-loop build-μ-loop
-build-make-node-requires t c κs = search needs
+build-make-node-requires t c κs = tt
 
 build-same-length-3 : (t : ℕ) → build-lts.Need-same-length-3 (build-calls t) (build-at t) build.Post build-Inv-loop build-μ-loop
-build-same-length-3 t c = search needs
+build-same-length-3 t c = c .before .store2 .given ∙ c .before .before .before .before .before .before .loop .inv .2
 
 build-same-length-4 : (t : ℕ) → build-lts.Need-same-length-4 (build-calls t) (build-at t) build.Post build-Inv-loop build-μ-loop
-build-same-length-4 t c = search needs
+build-same-length-4 t c = c .before .before .before .before .before .before .loop .inv .3 ∙ c .before .before .before .before .before .before .before .before .before .stack .given
 
 build-returns-4 : (t : ℕ) → build-lts.Need-returns-4 (build-calls t) (build-at t) build.Post build-Inv-loop build-μ-loop
 build-returns-4 t c = rw (built-within _ _ _ _ _ _ _ _ _ (c .before .before .before .before .before .before .before .before .before .before .before .before .before .before .before .if1 .left), ← c .before .before .before .before .before .before .before .before .before .before .before .before .before .before .at .ensures, lt-leb _ _ (c .before .before .before .before .before .before .before .before .before .before .before .before .before .if2 .left), ← c .before .before .before .before .before .before .before .before .before .before .before .before .arity .ensures, ← c .before .before .before .before .before .before .before .plus .ensures, ← c .before .before .before .before .before .before .before .before .before .before .push .ensures .0, ← c .before .before .before .before .before .before .before .before .before .before .push .ensures .1) (sym (c .before .before .before .before .before .before .loop .inv .1 ∙ building-end _ _ _ _ _ _ _ _ _ _ _ (c .before .before .before .before .before .loop-test .left) ∙ rw (← c .before .before .make-node .ensures)))

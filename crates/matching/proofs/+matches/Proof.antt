@@ -1,6 +1,6 @@
 -- `matching::matches`, which calls itself, meets its contract. Assumes nothing.
 use native.Mathlib.Omega.{arith}
-use mathlib.Core.Path.{_≡_, sym, _∙_}
+use mathlib.Core.Path.{_≡_, sym, _∙_, refl}
 use lib.ListN.{length}
 use borrow.Author.Tests.{le-leb, lt-leb, eq-eqb, ne-eqb}
 use Rattle.matching.specs.Matching.{argumentsMatched, variableMatched, matched}
@@ -45,48 +45,48 @@ unfolding matched
 matches-returns t c = rw (c .if1 .taken)
 
 matches-at-requires : (t : ℕ) → matches-lts.Need-at-requires (matches-calls t) (matches-at t) matches.Post matches-Inv-loop matches-μ-loop
-matches-at-requires t c κs = search needs
+matches-at-requires t c κs = tt
 
 matches-match-variable-requires : (t : ℕ) → matches-lts.Need-match-variable-requires (matches-calls t) (matches-at t) matches.Post matches-Inv-loop matches-μ-loop
-matches-match-variable-requires t c κs = search needs
+matches-match-variable-requires t c κs = tt
 
 matches-plus-requires : (t : ℕ) → matches-lts.Need-plus-requires (matches-calls t) (matches-at t) matches.Post matches-Inv-loop matches-μ-loop
-matches-plus-requires t c κs = search needs
+matches-plus-requires t c κs = tt
 
 matches-same-length : (t : ℕ) → matches-lts.Need-same-length (matches-calls t) (matches-at t) matches.Post matches-Inv-loop matches-μ-loop
-matches-same-length t c = search needs
+matches-same-length t c = c .before .before .before .heap .given
 
 matches-returns-2 : (t : ℕ) → matches-lts.Need-returns-2 (matches-calls t) (matches-at t) matches.Post matches-Inv-loop matches-μ-loop
 unfolding variableMatched
 matches-returns-2 t c = rw (matched-within _ _ _ _ _ _ _ (c .before .before .before .before .before .before .before .before .before .if1 .left), ← c .before .before .before .before .before .before .before .at .ensures, le-leb _ _ (c .before .before .before .before .before .before .if2 .taken), ← c .before .before .before .before .match-variable .ensures .0, c .before .if3 .taken, ← c .before .before .before .before .match-variable .ensures .1, ← c .plus .ensures)
 
 matches-same-length-2 : (t : ℕ) → matches-lts.Need-same-length-2 (matches-calls t) (matches-at t) matches.Post matches-Inv-loop matches-μ-loop
-matches-same-length-2 t c = search needs
+matches-same-length-2 t c = c .before .before .heap .given
 
 matches-returns-3 : (t : ℕ) → matches-lts.Need-returns-3 (matches-calls t) (matches-at t) matches.Post matches-Inv-loop matches-μ-loop
 unfolding variableMatched
 matches-returns-3 t c = rw (matched-within _ _ _ _ _ _ _ (c .before .before .before .before .before .before .before .before .if1 .left), ← c .before .before .before .before .before .before .at .ensures, le-leb _ _ (c .before .before .before .before .before .if2 .taken), ← c .before .before .before .match-variable .ensures .0, c .if3 .left, ← c .before .before .before .match-variable .ensures .1)
 
 matches-node-head-requires : (t : ℕ) → matches-lts.Need-node-head-requires (matches-calls t) (matches-at t) matches.Post matches-Inv-loop matches-μ-loop
-matches-node-head-requires t c κs = search needs
+matches-node-head-requires t c κs = tt
 
 matches-same-length-3 : (t : ℕ) → matches-lts.Need-same-length-3 (matches-calls t) (matches-at t) matches.Post matches-Inv-loop matches-μ-loop
-matches-same-length-3 t c = search needs
+matches-same-length-3 t c = refl
 
 matches-returns-4 : (t : ℕ) → matches-lts.Need-returns-4 (matches-calls t) (matches-at t) matches.Post matches-Inv-loop matches-μ-loop
 matches-returns-4 t c = rw (matched-within _ _ _ _ _ _ _ (c .before .before .before .before .before .if1 .left), ← c .before .before .before .at .ensures, lt-leb _ _ (c .before .before .if2 .left), ← c .before .node-head .ensures, ne-eqb _ _ (c .if4 .taken))
 
 matches-arity-requires : (t : ℕ) → matches-lts.Need-arity-requires (matches-calls t) (matches-at t) matches.Post matches-Inv-loop matches-μ-loop
-matches-arity-requires t c κs = search needs
+matches-arity-requires t c κs = tt
 
 matches-plus-requires-2 : (t : ℕ) → matches-lts.Need-plus-requires-2 (matches-calls t) (matches-at t) matches.Post matches-Inv-loop matches-μ-loop
-matches-plus-requires-2 t c κs = search needs
+matches-plus-requires-2 t c κs = tt
 
 matches-loop-holds : (t : ℕ) → matches-lts.Need-loop-holds (matches-calls t) (matches-at t) matches.Post matches-Inv-loop matches-μ-loop
-matches-loop-holds t c = (search needs, arguments-first _ _ _ _ _ _ _ _, search needs)
+matches-loop-holds t c = (search needs, arguments-first _ _ _ _ _ _ _ _, refl)
 
 matches-node-argument-requires : (t : ℕ) → matches-lts.Need-node-argument-requires (matches-calls t) (matches-at t) matches.Post matches-Inv-loop matches-μ-loop
-matches-node-argument-requires t c κs = search needs
+matches-node-argument-requires t c κs = tt
 
 matches-sub-matches : (t : ℕ) → matches-lts.Need-sub-matches (matches-calls t) (matches-at t) matches.Post matches-Inv-loop matches-μ-loop
 matches-sub-matches t c = search needs
@@ -95,13 +95,13 @@ matches-matches-requires : (t : ℕ) → matches-lts.Need-matches-requires (matc
 matches-matches-requires t c κs = (omega (arith, c .before .before .before .before .before .before .before .before .before .before .before .before .if1 .left, c .before .before .before .before .before .before .before .before .before .before .before .before .before .before .before .pre .0), tt)
 
 matches-enum-known-m : (t : ℕ) → matches-lts.Need-enum-known-m (matches-calls t) (matches-at t) matches.Post matches-Inv-loop matches-μ-loop
-matches-enum-known-m t c = search needs
+matches-enum-known-m t c = c .match .keys1
 
 matches-enum-told : (t : ℕ) → matches-lts.Need-enum-told (matches-calls t) (matches-at t) matches.Post matches-Inv-loop matches-μ-loop
-matches-enum-told t c = search needs
+matches-enum-told t c = c .match .keys2
 
 matches-same-length-4 : (t : ℕ) → matches-lts.Need-same-length-4 (matches-calls t) (matches-at t) matches.Post matches-Inv-loop matches-μ-loop
-matches-same-length-4 t c = search needs
+matches-same-length-4 t c = c .before .before .before .heap2 .given ∙ c .before .before .before .before .before .before .before .before .loop .inv .2
 
 matches-returns-5 : (t : ℕ) → matches-lts.Need-returns-5 (matches-calls t) (matches-at t) matches.Post matches-Inv-loop matches-μ-loop
 matches-returns-5 t c = rw (matched-within _ _ _ _ _ _ _ (c .before .before .before .before .before .before .before .before .before .before .before .before .before .before .before .before .before .if1 .left), ← c .before .before .before .before .before .before .before .before .before .before .before .before .before .before .before .at .ensures, lt-leb _ _ (c .before .before .before .before .before .before .before .before .before .before .before .before .before .before .if2 .left), ← c .before .before .before .before .before .before .before .before .before .before .before .before .before .node-head .ensures, eq-eqb _ _ (c .before .before .before .before .before .before .before .before .before .before .before .before .if4 .left), ← c .before .before .before .before .before .before .before .before .before .before .arity .ensures, ← c .before .before .before .before .before .before .before .before .before .plus2 .ensures) (sym (c .before .before .before .before .before .before .before .before .loop .inv .1 ∙ argument-differs _ _ _ _ _ _ _ _ _ (c .before .before .before .before .before .before .before .loop-test .taken) (rw (← c .before .before .before .before .before .before .node-argument .ensures, ← c .before .before .before .before .matches .ensures, c .enum-told .given .1))))
@@ -113,10 +113,10 @@ matches-loop-less : (t : ℕ) → matches-lts.Need-loop-less (matches-calls t) (
 matches-loop-less t c = search needs
 
 matches-loop-again : (t : ℕ) → matches-lts.Need-loop-again (matches-calls t) (matches-at t) matches.Post matches-Inv-loop matches-μ-loop
-matches-loop-again t c = (search needs, c .before .before .before .before .before .before .before .before .before .loop .inv .1 ∙ arguments-on _ _ _ _ _ _ _ _ _ (c .before .before .before .before .before .before .before .before .loop-test .taken) (rw (← c .before .before .before .before .before .before .before .node-argument .ensures, ← c .before .before .before .before .before .matches .ensures, c .before .m .given .1)), search needs)
+matches-loop-again t c = (search needs, c .before .before .before .before .before .before .before .before .before .loop .inv .1 ∙ arguments-on _ _ _ _ _ _ _ _ _ (c .before .before .before .before .before .before .before .before .loop-test .taken) (rw (← c .before .before .before .before .before .before .before .node-argument .ensures, ← c .before .before .before .before .before .matches .ensures, c .before .m .given .1)), c .before .before .before .before .heap2 .given ∙ c .before .before .before .before .before .before .before .before .before .loop .inv .2)
 
 matches-same-length-5 : (t : ℕ) → matches-lts.Need-same-length-5 (matches-calls t) (matches-at t) matches.Post matches-Inv-loop matches-μ-loop
-matches-same-length-5 t c = search needs
+matches-same-length-5 t c = c .before .loop .inv .2
 
 matches-returns-6 : (t : ℕ) → matches-lts.Need-returns-6 (matches-calls t) (matches-at t) matches.Post matches-Inv-loop matches-μ-loop
 matches-returns-6 t c = rw (matched-within _ _ _ _ _ _ _ (c .before .before .before .before .before .before .before .before .before .before .if1 .left), ← c .before .before .before .before .before .before .before .before .at .ensures, lt-leb _ _ (c .before .before .before .before .before .before .before .if2 .left), ← c .before .before .before .before .before .before .node-head .ensures, eq-eqb _ _ (c .before .before .before .before .before .if4 .left), ← c .before .before .before .arity .ensures, ← c .before .before .plus2 .ensures) (sym (c .before .loop .inv .1 ∙ arguments-end _ _ _ _ _ _ _ _ _ (c .loop-test .left)))

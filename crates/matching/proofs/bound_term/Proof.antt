@@ -9,7 +9,7 @@ add-at : tie.Need-add-at
 add-at c = search needs
 
 at-requires : tie.Need-at-requires
-at-requires c κs = search needs
+at-requires c κs = tt
 
 returns : tie.Need-returns
 unfolding boundTerm bindingOf
@@ -19,7 +19,7 @@ sub-t8 : tie.Need-sub-t8
 sub-t8 c = search needs
 
 plus-requires : tie.Need-plus-requires
-plus-requires c κs = search needs
+plus-requires c κs = tt
 
 returns-2 : tie.Need-returns-2
 unfolding boundTerm bindingOf

@@ -1,4 +1,5 @@
 -- `matching::conclude` meets its contract. Assumes nothing.
+use mathlib.Core.Path.{refl}
 use borrow.Author.Tests.{eq-eqb, ne-eqb}
 use Rattle.matching.specs.Matching.{stepConcluded}
 use borrow.Author.Needs.{needs}
@@ -6,16 +7,16 @@ use Rattle.matching.proofs.conclude.Statement.{statement}
 use Rattle.matching.proofs.conclude.Tie as tie
 
 conclude-built-requires : tie.Need-conclude-built-requires
-conclude-built-requires c κs = search needs
+conclude-built-requires c κs = tt
 
 same-length : tie.Need-same-length
-same-length c = search needs
+same-length c = c .before .before .before .before .before .store .given
 
 same-length-2 : tie.Need-same-length-2
-same-length-2 c = search needs
+same-length-2 c = c .before .before .before .stack .given
 
 same-length-3 : tie.Need-same-length-3
-same-length-3 c = search needs
+same-length-3 c = c .before .heap .given
 
 returns : tie.Need-returns
 unfolding stepConcluded
@@ -25,16 +26,16 @@ sub-conclude-stated : tie.Need-sub-conclude-stated
 sub-conclude-stated c = search needs
 
 conclude-stated-requires : tie.Need-conclude-stated-requires
-conclude-stated-requires c κs = search needs
+conclude-stated-requires c κs = tt
 
 same-length-4 : tie.Need-same-length-4
-same-length-4 c = search needs
+same-length-4 c = refl
 
 same-length-5 : tie.Need-same-length-5
-same-length-5 c = search needs
+same-length-5 c = refl
 
 same-length-6 : tie.Need-same-length-6
-same-length-6 c = search needs
+same-length-6 c = c .before .heap2 .given
 
 returns-2 : tie.Need-returns-2
 unfolding stepConcluded

@@ -1,40 +1,39 @@
 -- `matching::make_node` meets its contract. Assumes nothing.
 use Rattle.matching.specs.Matching.{nodeMade}
-use borrow.Author.Needs.{needs}
 use Rattle.matching.proofs.make_node.Statement.{statement}
 use Rattle.matching.proofs.make_node.Tie as tie
 
 words-part-requires : tie.Need-words-part-requires
-words-part-requires c κs = search needs
+words-part-requires c κs = tt
 
 intern-requires : tie.Need-intern-requires
-intern-requires c κs = search needs
+intern-requires c κs = tt
 
 enum-known-a : tie.Need-enum-known-a
-enum-known-a c = search needs
+enum-known-a c = c .match .keys1
 
 enum-known-a-2 : tie.Need-enum-known-a-2
-enum-known-a-2 c = search needs
+enum-known-a-2 c = c .match .keys2
 
 enum-told : tie.Need-enum-told
-enum-told c = search needs
+enum-told c = c .match .keys3
 
 same-length : tie.Need-same-length
-same-length c = search needs
+same-length c = c .before .before .before .before .store .given
 
 returns : tie.Need-returns
 unfolding nodeMade
 returns c = rw (← c .before .before .before .before .before .before .before .words-part .ensures, ← c .before .before .before .before .before .intern .ensures .0, ← c .before .before .before .before .before .intern .ensures .1 .0, c .before .a .given .1)
 
 same-length-2 : tie.Need-same-length-2
-same-length-2 c = search needs
+same-length-2 c = c .before .before .before .before .store .given
 
 returns-2 : tie.Need-returns-2
 unfolding nodeMade
 returns-2 c = rw (← c .before .before .before .before .before .before .before .words-part .ensures, ← c .before .before .before .before .before .intern .ensures .0, ← c .before .before .before .before .before .intern .ensures .1 .0, c .before .a2 .given .1)
 
 same-length-3 : tie.Need-same-length-3
-same-length-3 c = search needs
+same-length-3 c = c .before .before .before .store .given
 
 returns-3 : tie.Need-returns-3
 unfolding nodeMade

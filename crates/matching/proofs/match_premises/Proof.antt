@@ -1,6 +1,6 @@
 -- `matching::match_premises` meets its contract. Assumes nothing.
 use Prim.Native.Nat.{_≤_, _-_}
-use mathlib.Core.Path.{_≡_, sym, _∙_}
+use mathlib.Core.Path.{_≡_, sym, _∙_, refl}
 use lib.ListN.{length}
 use Rattle.matching.specs.Matching.{premisesMatched}
 use Rattle.matching.proofs.Turns.{premises-first, premises-on, premise-differs, no-step, premises-end}
@@ -15,34 +15,34 @@ abbrev μ-loop : tie.MeasureT-loop
 μ-loop store table stack heap₀ nodes places steps premises o place₀ k₀ heap place k = premises - k
 
 loop-holds : tie.Need-loop-holds Inv-loop μ-loop
-loop-holds c = (search needs, premises-first _ _ _ _ _ _ _ _ _, search needs)
+loop-holds c = (search needs, premises-first _ _ _ _ _ _ _ _ _, refl)
 
 cast-at : tie.Need-cast-at Inv-loop μ-loop
 cast-at c = search needs
 
 at-requires : tie.Need-at-requires Inv-loop μ-loop
-at-requires c κs = search needs
+at-requires c κs = tt
 
 same-length : tie.Need-same-length Inv-loop μ-loop
-same-length c = search needs
+same-length c = c .before .before .before .loop .inv .2
 
 returns : tie.Need-returns Inv-loop μ-loop
 returns c = sym (c .before .before .before .loop .inv .1 ∙ no-step _ _ _ _ _ _ _ _ _ _ (c .before .before .loop-test .taken) (rw (← c .before .at .ensures) (c .if1 .taken)))
 
 step-judgment-requires : tie.Need-step-judgment-requires Inv-loop μ-loop
-step-judgment-requires c κs = search needs
+step-judgment-requires c κs = tt
 
 matches-requires : tie.Need-matches-requires Inv-loop μ-loop
-matches-requires c κs = search needs
+matches-requires c κs = tt
 
 enum-known-m : tie.Need-enum-known-m Inv-loop μ-loop
-enum-known-m c = search needs
+enum-known-m c = c .match .keys1
 
 enum-told : tie.Need-enum-told Inv-loop μ-loop
-enum-told c = search needs
+enum-told c = c .match .keys2
 
 same-length-2 : tie.Need-same-length-2 Inv-loop μ-loop
-same-length-2 c = search needs
+same-length-2 c = c .before .before .before .heap .given ∙ c .before .before .before .before .before .before .before .before .before .before .loop .inv .2
 
 returns-2 : tie.Need-returns-2 Inv-loop μ-loop
 returns-2 c = sym (c .before .before .before .before .before .before .before .before .before .before .loop .inv .1 ∙ premise-differs _ _ _ _ _ _ _ _ _ _ (c .before .before .before .before .before .before .before .before .before .loop-test .taken) (rw (← c .before .before .before .before .before .before .before .before .at .ensures) (c .before .before .before .before .before .before .before .if1 .left)) (rw (← c .before .before .before .before .before .before .before .before .at .ensures, ← c .before .before .before .before .before .before .step-judgment .ensures, ← c .before .before .before .before .matches .ensures, c .enum-told .given .1)))
@@ -54,10 +54,10 @@ loop-less : tie.Need-loop-less Inv-loop μ-loop
 loop-less c = search needs
 
 loop-again : tie.Need-loop-again Inv-loop μ-loop
-loop-again c = (search needs, c .before .before .before .before .before .before .before .before .before .before .before .loop .inv .1 ∙ premises-on _ _ _ _ _ _ _ _ _ _ (c .before .before .before .before .before .before .before .before .before .before .loop-test .taken) (rw (← c .before .before .before .before .before .before .before .before .before .at .ensures) (c .before .before .before .before .before .before .before .before .if1 .left)) (rw (← c .before .before .before .before .before .before .before .before .before .at .ensures, ← c .before .before .before .before .before .before .before .step-judgment .ensures, ← c .before .before .before .before .before .matches .ensures, c .before .m .given .1)), search needs)
+loop-again c = (search needs, c .before .before .before .before .before .before .before .before .before .before .before .loop .inv .1 ∙ premises-on _ _ _ _ _ _ _ _ _ _ (c .before .before .before .before .before .before .before .before .before .before .loop-test .taken) (rw (← c .before .before .before .before .before .before .before .before .before .at .ensures) (c .before .before .before .before .before .before .before .before .if1 .left)) (rw (← c .before .before .before .before .before .before .before .before .before .at .ensures, ← c .before .before .before .before .before .before .before .step-judgment .ensures, ← c .before .before .before .before .before .matches .ensures, c .before .m .given .1)), c .before .before .before .before .heap .given ∙ c .before .before .before .before .before .before .before .before .before .before .before .loop .inv .2)
 
 same-length-3 : tie.Need-same-length-3 Inv-loop μ-loop
-same-length-3 c = search needs
+same-length-3 c = c .before .loop .inv .2
 
 returns-3 : tie.Need-returns-3 Inv-loop μ-loop
 returns-3 c = sym (c .before .loop .inv .1 ∙ premises-end _ _ _ _ _ _ _ _ _ _ (c .loop-test .left))

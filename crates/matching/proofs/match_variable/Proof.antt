@@ -10,23 +10,23 @@ add-at : tie.Need-add-at
 add-at c = search needs
 
 at-requires : tie.Need-at-requires
-at-requires c κs = search needs
+at-requires c κs = tt
 
 plus-requires : tie.Need-plus-requires
-plus-requires c κs = search needs
+plus-requires c κs = tt
 
 set-binding-requires : tie.Need-set-binding-requires
-set-binding-requires c κs = search needs
+set-binding-requires c κs = tt
 
 same-length : tie.Need-same-length
-same-length c = search needs
+same-length c = c .before .heap .given
 
 returns : tie.Need-returns
 unfolding agrees withBinding bindingOf
 returns c = rw (← c .before .before .before .before .before .before .at .ensures, eq-eqb _ _ (c .before .before .before .before .if1 .taken), ← c .before .before .before .before .before .plus .ensures) (refl, c .before .before .set-binding .ensures)
 
 same-length-2 : tie.Need-same-length-2
-same-length-2 c = search needs
+same-length-2 c = refl
 
 returns-2 : tie.Need-returns-2
 unfolding agrees withBinding bindingOf

@@ -1,14 +1,13 @@
 -- `matching::step_judgment` meets its contract. Assumes nothing.
 use Rattle.matching.specs.Matching.{stepJudgment}
-use borrow.Author.Needs.{needs}
 use Rattle.matching.proofs.step_judgment.Statement.{statement}
 use Rattle.matching.proofs.step_judgment.Tie as tie
 
 step-at-requires : tie.Need-step-at-requires
-step-at-requires c κs = search needs
+step-at-requires c κs = tt
 
 at-requires : tie.Need-at-requires
-at-requires c κs = search needs
+at-requires c κs = tt
 
 returns : tie.Need-returns
 unfolding stepJudgment

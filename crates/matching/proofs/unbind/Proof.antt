@@ -14,22 +14,22 @@ abbrev μ-loop : tie.MeasureT-loop
 μ-loop heap₀ n v₀ heap v = v
 
 loop-holds : tie.Need-loop-holds Inv-loop μ-loop
-loop-holds c = (refl, search needs)
+loop-holds c = (refl, refl)
 
 sub-v : tie.Need-sub-v Inv-loop μ-loop
 sub-v c = search needs
 
 set-binding-requires : tie.Need-set-binding-requires Inv-loop μ-loop
-set-binding-requires c κs = search needs
+set-binding-requires c κs = tt
 
 loop-less : tie.Need-loop-less Inv-loop μ-loop
 loop-less c = search needs
 
 loop-again : tie.Need-loop-again Inv-loop μ-loop
-loop-again c = (c .before .before .before .before .before .loop .inv .0 ∙ unbound-on _ _ (c .before .before .before .before .loop-test .taken) ∙ rw (← c .before .before .set-binding .ensures), search needs)
+loop-again c = (c .before .before .before .before .before .loop .inv .0 ∙ unbound-on _ _ (c .before .before .before .before .loop-test .taken) ∙ rw (← c .before .before .set-binding .ensures), c .before .heap .given ∙ c .before .before .before .before .before .loop .inv .1)
 
 same-length : tie.Need-same-length Inv-loop μ-loop
-same-length c = search needs
+same-length c = c .before .loop .inv .1
 
 returns : tie.Need-returns Inv-loop μ-loop
 returns c = sym (c .before .loop .inv .0 ∙ unbound-end _ _ (c .loop-test .left))

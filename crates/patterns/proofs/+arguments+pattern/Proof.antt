@@ -3,7 +3,7 @@ use native.Mathlib.Omega.{arith}
 use borrow.Author.Needs.{needs}
 use Prim.Native.Nat.{ℕ, _<_, _≤_, _-_, _+_, _*_}
 use lib.ListN.{length}
-use mathlib.Core.Path.{_≡_, sym, _∙_}
+use mathlib.Core.Path.{_≡_, sym, _∙_, refl}
 use borrow.Fn.Kinds.{In}
 use borrow.Fn.PlainCycle.{Measures, is, falls, and}
 use Rattle.patterns.specs.Patterns as models
@@ -61,10 +61,10 @@ arguments-add-at : (t : ℕ) → arguments-lts.Need-add-at (arguments-calls t) (
 arguments-add-at t c = search needs
 
 arguments-at-requires : (t : ℕ) → arguments-lts.Need-at-requires (arguments-calls t) (arguments-at t) arguments.Post arguments-Inv-loop arguments-μ-loop
-arguments-at-requires t c κs = search needs
+arguments-at-requires t c κs = tt
 
 arguments-loop-holds : (t : ℕ) → arguments-lts.Need-loop-holds (arguments-calls t) (arguments-at t) arguments.Post arguments-Inv-loop arguments-μ-loop
-arguments-loop-holds t c = (search needs, arguments-first _ _ _ _ _ _ _, search needs, search needs)
+arguments-loop-holds t c = (search needs, arguments-first _ _ _ _ _ _ _, refl, refl)
 
 arguments-add-at-2 : (t : ℕ) → arguments-lts.Need-add-at-2 (arguments-calls t) (arguments-at t) arguments.Post arguments-Inv-loop arguments-μ-loop
 arguments-add-at-2 t c = search needs
@@ -76,25 +76,25 @@ arguments-add-at-3 : (t : ℕ) → arguments-lts.Need-add-at-3 (arguments-calls 
 arguments-add-at-3 t c = search needs
 
 arguments-at-requires-2 : (t : ℕ) → arguments-lts.Need-at-requires-2 (arguments-calls t) (arguments-at t) arguments.Post arguments-Inv-loop arguments-μ-loop
-arguments-at-requires-2 t c κs = search needs
+arguments-at-requires-2 t c κs = tt
 
 arguments-pattern-requires : (t : ℕ) → arguments-lts.Need-pattern-requires (arguments-calls t) (arguments-at t) arguments.Post arguments-Inv-loop arguments-μ-loop
 arguments-pattern-requires t c κs = search needs
 
 arguments-enum-known-p : (t : ℕ) → arguments-lts.Need-enum-known-p (arguments-calls t) (arguments-at t) arguments.Post arguments-Inv-loop arguments-μ-loop
-arguments-enum-known-p t c = search needs
+arguments-enum-known-p t c = c .match .keys1
 
 arguments-enum-told : (t : ℕ) → arguments-lts.Need-enum-told (arguments-calls t) (arguments-at t) arguments.Post arguments-Inv-loop arguments-μ-loop
-arguments-enum-told t c = search needs
+arguments-enum-told t c = c .match .keys2
 
 arguments-walked-refusal-requires : (t : ℕ) → arguments-lts.Need-walked-refusal-requires (arguments-calls t) (arguments-at t) arguments.Post arguments-Inv-loop arguments-μ-loop
-arguments-walked-refusal-requires t c κs = search needs
+arguments-walked-refusal-requires t c κs = tt
 
 arguments-same-length : (t : ℕ) → arguments-lts.Need-same-length (arguments-calls t) (arguments-at t) arguments.Post arguments-Inv-loop arguments-μ-loop
-arguments-same-length t c = search needs
+arguments-same-length t c = c .before .before .before .before .before .before .vars .given ∙ c .before .before .before .before .before .before .before .before .before .before .before .before .before .loop .inv .2
 
 arguments-same-length-2 : (t : ℕ) → arguments-lts.Need-same-length-2 (arguments-calls t) (arguments-at t) arguments.Post arguments-Inv-loop arguments-μ-loop
-arguments-same-length-2 t c = search needs
+arguments-same-length-2 t c = c .before .before .before .before .heap .given ∙ c .before .before .before .before .before .before .before .before .before .before .before .before .before .loop .inv .3
 
 arguments-returns : (t : ℕ) → arguments-lts.Need-returns (arguments-calls t) (arguments-at t) arguments.Post arguments-Inv-loop arguments-μ-loop
 unfolding models.arguments
@@ -107,16 +107,16 @@ arguments-loop-less : (t : ℕ) → arguments-lts.Need-loop-less (arguments-call
 arguments-loop-less t c = search needs
 
 arguments-loop-again : (t : ℕ) → arguments-lts.Need-loop-again (arguments-calls t) (arguments-at t) arguments.Post arguments-Inv-loop arguments-μ-loop
-arguments-loop-again t c = (search needs, c .before .before .before .before .before .before .before .before .before .before .before .before .before .loop .inv .1 ∙ arguments-on _ _ _ _ _ _ _ _ (c .before .before .before .before .before .before .before .before .before .before .before .before .loop-test .taken) (rw (← c .before .before .before .before .before .before .before .before .before .before .at2 .ensures, ← c .before .before .before .before .before .before .before .pattern .ensures, c .before .p .given .1)), search needs, search needs)
+arguments-loop-again t c = (search needs, c .before .before .before .before .before .before .before .before .before .before .before .before .before .loop .inv .1 ∙ arguments-on _ _ _ _ _ _ _ _ (c .before .before .before .before .before .before .before .before .before .before .before .before .loop-test .taken) (rw (← c .before .before .before .before .before .before .before .before .before .before .at2 .ensures, ← c .before .before .before .before .before .before .before .pattern .ensures, c .before .p .given .1)), c .before .before .before .before .before .before .vars .given ∙ c .before .before .before .before .before .before .before .before .before .before .before .before .before .loop .inv .2, c .before .before .before .before .heap .given ∙ c .before .before .before .before .before .before .before .before .before .before .before .before .before .loop .inv .3)
 
 arguments-close-requires : (t : ℕ) → arguments-lts.Need-close-requires (arguments-calls t) (arguments-at t) arguments.Post arguments-Inv-loop arguments-μ-loop
-arguments-close-requires t c κs = search needs
+arguments-close-requires t c κs = tt
 
 arguments-same-length-3 : (t : ℕ) → arguments-lts.Need-same-length-3 (arguments-calls t) (arguments-at t) arguments.Post arguments-Inv-loop arguments-μ-loop
-arguments-same-length-3 t c = search needs
+arguments-same-length-3 t c = c .before .before .loop .inv .2
 
 arguments-same-length-4 : (t : ℕ) → arguments-lts.Need-same-length-4 (arguments-calls t) (arguments-at t) arguments.Post arguments-Inv-loop arguments-μ-loop
-arguments-same-length-4 t c = search needs
+arguments-same-length-4 t c = c .before .before .loop .inv .3
 
 arguments-returns-2 : (t : ℕ) → arguments-lts.Need-returns-2 (arguments-calls t) (arguments-at t) arguments.Post arguments-Inv-loop arguments-μ-loop
 unfolding models.arguments
@@ -127,28 +127,28 @@ unfolding models.pattern
 pattern-returns t c = rw (c .if1 .taken)
 
 pattern-next-item-requires : (t : ℕ) → pattern-lts.Need-next-item-requires (pattern-calls t) (pattern-at t) pattern.Post
-pattern-next-item-requires t c κs = search needs
+pattern-next-item-requires t c κs = tt
 
 pattern-enum-known-i : (t : ℕ) → pattern-lts.Need-enum-known-i (pattern-calls t) (pattern-at t) pattern.Post
-pattern-enum-known-i t c = search needs
+pattern-enum-known-i t c = c .match .keys1
 
 pattern-enum-known-i-2 : (t : ℕ) → pattern-lts.Need-enum-known-i-2 (pattern-calls t) (pattern-at t) pattern.Post
-pattern-enum-known-i-2 t c = search needs
+pattern-enum-known-i-2 t c = c .match .keys2
 
 pattern-leaf-requires : (t : ℕ) → pattern-lts.Need-leaf-requires (pattern-calls t) (pattern-at t) pattern.Post
-pattern-leaf-requires t c κs = search needs
+pattern-leaf-requires t c κs = tt
 
 pattern-enum-known-i-3 : (t : ℕ) → pattern-lts.Need-enum-known-i-3 (pattern-calls t) (pattern-at t) pattern.Post
-pattern-enum-known-i-3 t c = search needs
+pattern-enum-known-i-3 t c = c .match .keys3
 
 pattern-compound-head-requires : (t : ℕ) → pattern-lts.Need-compound-head-requires (pattern-calls t) (pattern-at t) pattern.Post
-pattern-compound-head-requires t c κs = search needs
+pattern-compound-head-requires t c κs = tt
 
 pattern-enum-known-h : (t : ℕ) → pattern-lts.Need-enum-known-h (pattern-calls t) (pattern-at t) pattern.Post
-pattern-enum-known-h t c = search needs
+pattern-enum-known-h t c = c .match2 .keys1
 
 pattern-enum-known-h-2 : (t : ℕ) → pattern-lts.Need-enum-known-h-2 (pattern-calls t) (pattern-at t) pattern.Post
-pattern-enum-known-h-2 t c = search needs
+pattern-enum-known-h-2 t c = c .match2 .keys2
 
 pattern-sub-arguments : (t : ℕ) → pattern-lts.Need-sub-arguments (pattern-calls t) (pattern-at t) pattern.Post
 pattern-sub-arguments t c = search needs
@@ -160,25 +160,25 @@ pattern-returns-2 : (t : ℕ) → pattern-lts.Need-returns-2 (pattern-calls t) (
 pattern-returns-2 t c = rw (pattern-within _ _ _ _ _ _ _ (c .before .before .before .before .if1 .left), ← c .before .before .before .next-item .ensures, c .before .i .given .1)
 
 pattern-same-length : (t : ℕ) → pattern-lts.Need-same-length (pattern-calls t) (pattern-at t) pattern.Post
-pattern-same-length t c = search needs
+pattern-same-length t c = c .before .before .before .vars .given
 
 pattern-same-length-2 : (t : ℕ) → pattern-lts.Need-same-length-2 (pattern-calls t) (pattern-at t) pattern.Post
-pattern-same-length-2 t c = search needs
+pattern-same-length-2 t c = c .before .heap .given
 
 pattern-returns-3 : (t : ℕ) → pattern-lts.Need-returns-3 (pattern-calls t) (pattern-at t) pattern.Post
 pattern-returns-3 t c = rw (pattern-within _ _ _ _ _ _ _ (c .before .before .before .before .before .before .before .before .before .before .before .if1 .left), ← c .before .before .before .before .before .before .before .before .before .before .next-item .ensures, c .before .before .before .before .before .before .before .before .i2 .given .1, ← c .before .before .before .before .leaf .ensures)
 
 pattern-same-length-3 : (t : ℕ) → pattern-lts.Need-same-length-3 (pattern-calls t) (pattern-at t) pattern.Post
-pattern-same-length-3 t c = search needs
+pattern-same-length-3 t c = c .before .before .before .before .heap2 .given
 
 pattern-returns-4 : (t : ℕ) → pattern-lts.Need-returns-4 (pattern-calls t) (pattern-at t) pattern.Post
 pattern-returns-4 t c = rw (pattern-within _ _ _ _ _ _ _ (c .before .before .before .before .before .before .before .before .before .before .before .if1 .left), ← c .before .before .before .before .before .before .before .before .before .before .next-item .ensures, c .before .before .before .before .before .before .before .before .i3 .given .1, ← c .before .before .before .before .before .compound-head .ensures, c .before .h .given .1)
 
 pattern-same-length-4 : (t : ℕ) → pattern-lts.Need-same-length-4 (pattern-calls t) (pattern-at t) pattern.Post
-pattern-same-length-4 t c = search needs
+pattern-same-length-4 t c = c .before .before .before .vars2 .given
 
 pattern-same-length-5 : (t : ℕ) → pattern-lts.Need-same-length-5 (pattern-calls t) (pattern-at t) pattern.Post
-pattern-same-length-5 t c = search needs
+pattern-same-length-5 t c = c .before .heap3 .given ∙ c .before .before .before .before .before .before .before .before .before .before .before .heap2 .given
 
 pattern-returns-5 : (t : ℕ) → pattern-lts.Need-returns-5 (pattern-calls t) (pattern-at t) pattern.Post
 unfolding models.arguments

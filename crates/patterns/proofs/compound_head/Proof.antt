@@ -1,21 +1,20 @@
 -- `patterns::compound_head` meets its contract. Assumes nothing.
 use borrow.Author.Tests.{eq-eqb, ne-eqb}
-use borrow.Author.Needs.{needs}
 use Rattle.patterns.specs.Patterns.{compoundHead}
 use Rattle.patterns.proofs.compound_head.Statement.{statement}
 use Rattle.patterns.proofs.compound_head.Tie as tie
 
 head-requires : tie.Need-head-requires
-head-requires c κs = search needs
+head-requires c κs = tt
 
 enum-known-h : tie.Need-enum-known-h
-enum-known-h c = search needs
+enum-known-h c = c .match .keys1
 
 enum-told : tie.Need-enum-told
-enum-told c = search needs
+enum-told c = c .match .keys2
 
 named-refusal-requires : tie.Need-named-refusal-requires
-named-refusal-requires c κs = search needs
+named-refusal-requires c κs = tt
 
 returns : tie.Need-returns
 unfolding compoundHead
@@ -26,10 +25,10 @@ unfolding compoundHead
 returns-2 c = rw (← c .before .before .before .before .head .ensures, c .before .before .h .given .1, eq-eqb _ _ (c .if1 .taken))
 
 apply-requires : tie.Need-apply-requires
-apply-requires c κs = search needs
+apply-requires c κs = tt
 
 same-length : tie.Need-same-length
-same-length c = search needs
+same-length c = c .before .heap .given
 
 returns-3 : tie.Need-returns-3
 unfolding compoundHead

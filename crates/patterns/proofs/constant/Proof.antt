@@ -1,27 +1,26 @@
 -- `patterns::constant` meets its contract. Assumes nothing.
-use borrow.Author.Needs.{needs}
 use Rattle.patterns.specs.Patterns.{constant}
 use Rattle.patterns.proofs.constant.Statement.{statement}
 use Rattle.patterns.proofs.constant.Tie as tie
 
 apply-requires : tie.Need-apply-requires
-apply-requires c κs = search needs
+apply-requires c κs = tt
 
 enum-known-a : tie.Need-enum-known-a
-enum-known-a c = search needs
+enum-known-a c = c .match .keys1
 
 enum-known-a-2 : tie.Need-enum-known-a-2
-enum-known-a-2 c = search needs
+enum-known-a-2 c = c .match .keys2
 
 same-length : tie.Need-same-length
-same-length c = search needs
+same-length c = c .before .before .before .before .heap .given
 
 returns : tie.Need-returns
 unfolding constant
 returns c = rw (← c .before .before .before .before .before .apply .ensures, c .before .a .given .1)
 
 same-length-2 : tie.Need-same-length-2
-same-length-2 c = search needs
+same-length-2 c = c .before .before .before .before .heap .given
 
 returns-2 : tie.Need-returns-2
 unfolding constant

@@ -24,13 +24,13 @@ mul-v : tie.Need-mul-v Inv-loop μ-loop
 mul-v c = search needs
 
 at-requires : tie.Need-at-requires Inv-loop μ-loop
-at-requires c κs = search needs
+at-requires c κs = tt
 
 add-at : tie.Need-add-at Inv-loop μ-loop
 add-at c = search needs
 
 at-requires-2 : tie.Need-at-requires-2 Inv-loop μ-loop
-at-requires-2 c κs = search needs
+at-requires-2 c κs = tt
 
 cast-same-bytes : tie.Need-cast-same-bytes Inv-loop μ-loop
 cast-same-bytes c = search needs
@@ -39,7 +39,7 @@ cast-same-bytes-2 : tie.Need-cast-same-bytes-2 Inv-loop μ-loop
 cast-same-bytes-2 c = search needs
 
 same-bytes-requires : tie.Need-same-bytes-requires Inv-loop μ-loop
-same-bytes-requires c κs = search needs
+same-bytes-requires c κs = tt
 
 returns : tie.Need-returns Inv-loop μ-loop
 unfolding variableName

@@ -1,4 +1,5 @@
 -- `patterns::introduce` meets its contract. Assumes nothing.
+use mathlib.Core.Path.{_∙_}
 use borrow.Author.Needs.{needs}
 use Rattle.patterns.specs.Patterns.{introduced, withVariable, variableWord}
 use Rattle.patterns.proofs.introduce.Statement.{statement}
@@ -11,40 +12,40 @@ mul-place : tie.Need-mul-place
 mul-place c = search needs
 
 low-requires : tie.Need-low-requires
-low-requires c κs = search needs
+low-requires c κs = tt
 
 put-requires : tie.Need-put-requires
-put-requires c κs = search needs
+put-requires c κs = tt
 
 add-put : tie.Need-add-put
 add-put c = search needs
 
 low-requires-2 : tie.Need-low-requires-2
-low-requires-2 c κs = search needs
+low-requires-2 c κs = tt
 
 put-requires-2 : tie.Need-put-requires-2
-put-requires-2 c κs = search needs
+put-requires-2 c κs = tt
 
 add-put-2 : tie.Need-add-put-2
 add-put-2 c = search needs
 
 put-requires-3 : tie.Need-put-requires-3
-put-requires-3 c κs = search needs
+put-requires-3 c κs = tt
 
 plus-requires : tie.Need-plus-requires
-plus-requires c κs = search needs
+plus-requires c κs = tt
 
 plus-requires-2 : tie.Need-plus-requires-2
-plus-requires-2 c κs = search needs
+plus-requires-2 c κs = tt
 
 push-requires : tie.Need-push-requires
-push-requires c κs = search needs
+push-requires c κs = tt
 
 same-length : tie.Need-same-length
-same-length c = search needs
+same-length c = c .before .before .before .before .before .before .before .before .vars3 .given ∙ c .before .before .before .before .before .before .before .before .before .before .before .before .vars2 .given ∙ c .before .before .before .before .before .before .before .before .before .before .before .before .before .before .before .before .before .vars .given
 
 same-length-2 : tie.Need-same-length-2
-same-length-2 c = search needs
+same-length-2 c = c .before .heap .given
 
 returns : tie.Need-returns
 unfolding introduced withVariable variableWord

@@ -14,25 +14,25 @@ abbrev μ-loop : tie.MeasureT-loop
 μ-loop text counts vars₀ heap₀ n v₀ left₀ vars heap v left = left
 
 loop-holds : tie.Need-loop-holds Inv-loop μ-loop
-loop-holds c = (refl, search needs, search needs)
+loop-holds c = (refl, refl, refl)
 
 judgment-requires : tie.Need-judgment-requires Inv-loop μ-loop
-judgment-requires c κs = search needs
+judgment-requires c κs = tt
 
 enum-known-j : tie.Need-enum-known-j Inv-loop μ-loop
-enum-known-j c = search needs
+enum-known-j c = c .match .keys1
 
 enum-told : tie.Need-enum-told Inv-loop μ-loop
-enum-told c = search needs
+enum-told c = c .match .keys2
 
 walked-refusal-requires : tie.Need-walked-refusal-requires Inv-loop μ-loop
-walked-refusal-requires c κs = search needs
+walked-refusal-requires c κs = tt
 
 same-length : tie.Need-same-length Inv-loop μ-loop
-same-length c = search needs
+same-length c = c .before .before .before .before .before .before .vars .given ∙ c .before .before .before .before .before .before .before .before .before .before .before .loop .inv .1
 
 same-length-2 : tie.Need-same-length-2 Inv-loop μ-loop
-same-length-2 c = search needs
+same-length-2 c = c .before .before .before .before .heap .given ∙ c .before .before .before .before .before .before .before .before .before .before .before .loop .inv .2
 
 returns : tie.Need-returns Inv-loop μ-loop
 returns c = sym (c .before .before .before .before .before .before .before .before .before .before .before .loop .inv .0 ∙ judgment-refused _ _ _ _ _ _ (c .before .before .before .before .before .before .before .before .before .before .loop-test .taken) (rw (c .walked-refusal .ensures, ← c .before .before .before .before .before .before .before .judgment .ensures, c .before .enum-told .given .1)))
@@ -44,16 +44,16 @@ loop-less : tie.Need-loop-less Inv-loop μ-loop
 loop-less c = search needs
 
 loop-again : tie.Need-loop-again Inv-loop μ-loop
-loop-again c = (c .before .before .before .before .before .before .before .before .before .before .before .loop .inv .0 ∙ judgments-on _ _ _ _ _ _ (c .before .before .before .before .before .before .before .before .before .before .loop-test .taken) (rw (← c .before .before .before .before .before .before .before .judgment .ensures, c .before .j .given .1)), search needs, search needs)
+loop-again c = (c .before .before .before .before .before .before .before .before .before .before .before .loop .inv .0 ∙ judgments-on _ _ _ _ _ _ (c .before .before .before .before .before .before .before .before .before .before .loop-test .taken) (rw (← c .before .before .before .before .before .before .before .judgment .ensures, c .before .j .given .1)), c .before .before .before .before .before .before .vars .given ∙ c .before .before .before .before .before .before .before .before .before .before .before .loop .inv .1, c .before .before .before .before .heap .given ∙ c .before .before .before .before .before .before .before .before .before .before .before .loop .inv .2)
 
 close-requires : tie.Need-close-requires Inv-loop μ-loop
-close-requires c κs = search needs
+close-requires c κs = tt
 
 same-length-3 : tie.Need-same-length-3 Inv-loop μ-loop
-same-length-3 c = search needs
+same-length-3 c = c .before .before .loop .inv .1
 
 same-length-4 : tie.Need-same-length-4 Inv-loop μ-loop
-same-length-4 c = search needs
+same-length-4 c = c .before .before .loop .inv .2
 
 returns-2 : tie.Need-returns-2 Inv-loop μ-loop
 returns-2 c = sym (c .before .before .loop .inv .0 ∙ judgments-end _ _ _ _ _ _ (c .before .loop-test .left) ∙ rw (← c .close .ensures))

@@ -12,20 +12,20 @@ add-at : tie.Need-add-at
 add-at c = search needs
 
 at-requires : tie.Need-at-requires
-at-requires c κs = search needs
+at-requires c κs = tt
 
 returns : tie.Need-returns
 unfolding metAgain
 returns c = rw (← c .before .at .ensures, ne-eqb _ _ (c .if1 .taken))
 
 plus-requires : tie.Need-plus-requires
-plus-requires c κs = search needs
+plus-requires c κs = tt
 
 push-requires : tie.Need-push-requires
-push-requires c κs = search needs
+push-requires c κs = tt
 
 same-length : tie.Need-same-length
-same-length c = search needs
+same-length c = c .before .heap .given
 
 returns-2 : tie.Need-returns-2
 unfolding metAgain variableWord

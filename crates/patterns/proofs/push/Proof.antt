@@ -8,13 +8,13 @@ cast-put : tie.Need-cast-put
 cast-put c = search needs
 
 put-requires : tie.Need-put-requires
-put-requires c κs = search needs
+put-requires c κs = tt
 
 plus-requires : tie.Need-plus-requires
-plus-requires c κs = search needs
+plus-requires c κs = tt
 
 same-length : tie.Need-same-length
-same-length c = search needs
+same-length c = c .before .before .before .heap .given
 
 returns : tie.Need-returns
 unfolding pushed

@@ -16,7 +16,7 @@ abbrev μ-loop : tie.MeasureT-loop
 μ-loop heap store stack c from n k₀ k = n - k
 
 arity-requires : tie.Need-arity-requires Inv-loop μ-loop
-arity-requires c κs = search needs
+arity-requires c κs = tt
 
 returns : tie.Need-returns Inv-loop μ-loop
 returns c = sym (not-accepted _ _ _ _ (rw (← c .before .arity .ensures) (c .if1 .taken)))
@@ -31,13 +31,13 @@ add-at : tie.Need-add-at Inv-loop μ-loop
 add-at c = search needs
 
 at-requires : tie.Need-at-requires Inv-loop μ-loop
-at-requires c κs = search needs
+at-requires c κs = tt
 
 node-head-requires : tie.Need-node-head-requires Inv-loop μ-loop
-node-head-requires c κs = search needs
+node-head-requires c κs = tt
 
 fits-input-requires : tie.Need-fits-input-requires Inv-loop μ-loop
-fits-input-requires c κs = search needs
+fits-input-requires c κs = tt
 
 returns-2 : tie.Need-returns-2 Inv-loop μ-loop
 returns-2 c = sym (c .before .before .before .before .before .loop .inv .1 ∙ not-fit _ _ _ _ _ (c .before .before .before .before .loop-test .taken) (rw (← c .before .before .before .at .ensures, ← c .before .before .node-head .ensures, ← c .before .fits-input .ensures) (not-true _ (c .if2 .taken))))

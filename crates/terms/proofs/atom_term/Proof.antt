@@ -1,20 +1,19 @@
 -- `terms::atom_term` meets its contract. Assumes nothing.
 use Rattle.terms.specs.Terms.{atomTerm}
-use borrow.Author.Needs.{needs}
 use Rattle.terms.proofs.atom_term.Statement.{statement}
 use Rattle.terms.proofs.atom_term.Tie as tie
 
 is-question-requires : tie.Need-is-question-requires
-is-question-requires c κs = search needs
+is-question-requires c κs = tt
 
 meaning-requires : tie.Need-meaning-requires
-meaning-requires c κs = search needs
+meaning-requires c κs = tt
 
 enum-known-known : tie.Need-enum-known-known
-enum-known-known c = search needs
+enum-known-known c = c .match .keys1
 
 enum-told : tie.Need-enum-told
-enum-told c = search needs
+enum-told c = c .match .keys2
 
 returns : tie.Need-returns
 unfolding atomTerm
@@ -25,26 +24,26 @@ unfolding atomTerm
 returns-2 c = rw (← c .before .before .before .before .before .is-question .ensures, c .before .before .before .before .if1 .taken, ← c .before .before .before .meaning .ensures, c .before .known .given .1)
 
 constructor-due-requires : tie.Need-constructor-due-requires
-constructor-due-requires c κs = search needs
+constructor-due-requires c κs = tt
 
 enum-known-h : tie.Need-enum-known-h
-enum-known-h c = search needs
+enum-known-h c = c .match2 .keys1
 
 enum-known-h-2 : tie.Need-enum-known-h-2
-enum-known-h-2 c = search needs
+enum-known-h-2 c = c .match2 .keys2
 
 make-requires : tie.Need-make-requires
-make-requires c κs = search needs
+make-requires c κs = tt
 
 returns-3 : tie.Need-returns-3
 unfolding atomTerm
 returns-3 c = rw (← c .before .before .before .before .before .is-question .ensures, c .before .before .before .before .if1 .left, ← c .before .before .before .constructor-due .ensures, c .before .h .given .1)
 
 same-length : tie.Need-same-length
-same-length c = search needs
+same-length c = c .before .before .before .store .given
 
 same-length-2 : tie.Need-same-length-2
-same-length-2 c = search needs
+same-length-2 c = c .before .stack .given
 
 returns-4 : tie.Need-returns-4
 unfolding atomTerm

@@ -1,17 +1,16 @@
 -- `terms::constructor_due` meets its contract. Assumes nothing.
 use Rattle.terms.specs.Terms.{constructorDue}
-use borrow.Author.Needs.{needs}
 use Rattle.terms.proofs.constructor_due.Statement.{statement}
 use Rattle.terms.proofs.constructor_due.Tie as tie
 
 find-constructor-requires : tie.Need-find-constructor-requires
-find-constructor-requires c κs = search needs
+find-constructor-requires c κs = tt
 
 enum-known-found : tie.Need-enum-known-found
-enum-known-found c = search needs
+enum-known-found c = c .match .keys1
 
 enum-told : tie.Need-enum-told
-enum-told c = search needs
+enum-told c = c .match .keys2
 
 returns : tie.Need-returns
 unfolding constructorDue

@@ -1,27 +1,26 @@
 -- `terms::head` meets its contract. Assumes nothing.
 use Rattle.terms.specs.Terms.{headDue}
-use borrow.Author.Needs.{needs}
 use Rattle.terms.proofs.head.Statement.{statement}
 use Rattle.terms.proofs.head.Tie as tie
 
 atom-due-requires : tie.Need-atom-due-requires
-atom-due-requires c κs = search needs
+atom-due-requires c κs = tt
 
 enum-known-a : tie.Need-enum-known-a
-enum-known-a c = search needs
+enum-known-a c = c .match .keys1
 
 enum-told : tie.Need-enum-told
-enum-told c = search needs
+enum-told c = c .match .keys2
 
 named-refusal-requires : tie.Need-named-refusal-requires
-named-refusal-requires c κs = search needs
+named-refusal-requires c κs = tt
 
 returns : tie.Need-returns
 unfolding headDue
 returns c = rw (c .named-refusal .ensures, ← c .before .before .before .atom-due .ensures, c .before .enum-told .given .1)
 
 constructor-due-requires : tie.Need-constructor-due-requires
-constructor-due-requires c κs = search needs
+constructor-due-requires c κs = tt
 
 returns-2 : tie.Need-returns-2
 unfolding headDue

@@ -1,58 +1,58 @@
 -- `terms::headed_judgment` meets its contract. Assumes nothing.
+use mathlib.Core.Path.{_∙_}
 use Rattle.terms.specs.Terms.{headedJudgment}
-use borrow.Author.Needs.{needs}
 use Rattle.terms.proofs.headed_judgment.Statement.{statement}
 use Rattle.terms.proofs.headed_judgment.Tie as tie
 
 predicate-due-requires : tie.Need-predicate-due-requires
-predicate-due-requires c κs = search needs
+predicate-due-requires c κs = tt
 
 enum-known-h : tie.Need-enum-known-h
-enum-known-h c = search needs
+enum-known-h c = c .match .keys1
 
 enum-told : tie.Need-enum-told
-enum-told c = search needs
+enum-told c = c .match .keys2
 
 numbered-refusal-requires : tie.Need-numbered-refusal-requires
-numbered-refusal-requires c κs = search needs
+numbered-refusal-requires c κs = tt
 
 returns : tie.Need-returns
 unfolding headedJudgment
 returns c = rw (c .numbered-refusal .ensures, ← c .before .before .before .predicate-due .ensures, c .before .enum-told .given .1)
 
 plus-requires : tie.Need-plus-requires
-plus-requires c κs = search needs
+plus-requires c κs = tt
 
 args-requires : tie.Need-args-requires
-args-requires c κs = search needs
+args-requires c κs = tt
 
 enum-known-a : tie.Need-enum-known-a
-enum-known-a c = search needs
+enum-known-a c = c .match2 .keys1
 
 enum-told-2 : tie.Need-enum-told-2
-enum-told-2 c = search needs
+enum-told-2 c = c .match2 .keys2
 
 numbered-refusal-requires-2 : tie.Need-numbered-refusal-requires-2
-numbered-refusal-requires-2 c κs = search needs
+numbered-refusal-requires-2 c κs = tt
 
 same-length : tie.Need-same-length
-same-length c = search needs
+same-length c = c .before .before .before .before .before .before .store .given
 
 same-length-2 : tie.Need-same-length-2
-same-length-2 c = search needs
+same-length-2 c = c .before .before .before .before .stack .given
 
 returns-2 : tie.Need-returns-2
 unfolding headedJudgment
 returns-2 c = rw (← c .before .before .before .before .before .before .before .before .before .before .before .before .before .before .predicate-due .ensures, c .before .before .before .before .before .before .before .before .before .before .before .before .h .given .1, ← c .before .before .before .before .before .before .before .before .before .before .plus .ensures, ← c .before .before .before .before .before .before .before .args2 .ensures, c .numbered-refusal2 .ensures, c .before .enum-told2 .given .1)
 
 make-requires : tie.Need-make-requires
-make-requires c κs = search needs
+make-requires c κs = tt
 
 same-length-3 : tie.Need-same-length-3
-same-length-3 c = search needs
+same-length-3 c = c .before .before .before .store2 .given ∙ c .before .before .before .before .before .before .before .before .before .before .before .before .before .store .given
 
 same-length-4 : tie.Need-same-length-4
-same-length-4 c = search needs
+same-length-4 c = c .before .stack2 .given ∙ c .before .before .before .before .before .before .before .before .before .before .before .stack .given
 
 returns-3 : tie.Need-returns-3
 unfolding headedJudgment

@@ -1,14 +1,13 @@
 -- `terms::sort_of` meets its contract. Assumes nothing.
 use Rattle.terms.specs.Terms.{sortOf}
-use borrow.Author.Needs.{needs}
 use Rattle.terms.proofs.sort_of.Statement.{statement}
 use Rattle.terms.proofs.sort_of.Tie as tie
 
 node-head-requires : tie.Need-node-head-requires
-node-head-requires c κs = search needs
+node-head-requires c κs = tt
 
 output-requires : tie.Need-output-requires
-output-requires c κs = search needs
+output-requires c κs = tt
 
 returns : tie.Need-returns
 unfolding sortOf

@@ -1,11 +1,10 @@
 -- `theory::begin_walk` meets its contract. Assumes nothing.
-use borrow.Author.Needs.{needs}
 use Rattle.theory.specs.Declarations.{startWalk}
 use Rattle.theory.proofs.begin_walk.Statement.{statement}
 use Rattle.theory.proofs.begin_walk.Tie as tie
 
 new-requires : tie.Need-new-requires
-new-requires c κs = search needs
+new-requires c κs = tt
 
 returns : tie.Need-returns
 unfolding startWalk

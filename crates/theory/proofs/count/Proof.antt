@@ -1,34 +1,33 @@
 -- `theory::count` meets its contract. Assumes nothing.
-use borrow.Author.Needs.{needs}
 use Rattle.theory.proofs.count.Statement.{statement}
 use Rattle.theory.proofs.count.Tie as tie
 
 enum-told : tie.Need-enum-told
-enum-told c = search needs
+enum-told c = c .match .keys1
 
 plus-requires : tie.Need-plus-requires
-plus-requires c κs = search needs
+plus-requires c κs = tt
 
 enum-told-2 : tie.Need-enum-told-2
-enum-told-2 c = search needs
+enum-told-2 c = c .match .keys2
 
 plus-requires-2 : tie.Need-plus-requires-2
-plus-requires-2 c κs = search needs
+plus-requires-2 c κs = tt
 
 enum-told-3 : tie.Need-enum-told-3
-enum-told-3 c = search needs
+enum-told-3 c = c .match .keys3
 
 plus-requires-3 : tie.Need-plus-requires-3
-plus-requires-3 c κs = search needs
+plus-requires-3 c κs = tt
 
 enum-told-4 : tie.Need-enum-told-4
-enum-told-4 c = search needs
+enum-told-4 c = c .match .keys4
 
 plus-requires-4 : tie.Need-plus-requires-4
-plus-requires-4 c κs = search needs
+plus-requires-4 c κs = tt
 
 enum-told-5 : tie.Need-enum-told-5
-enum-told-5 c = search needs
+enum-told-5 c = c .match .keys5
 
 returns : tie.Need-returns
 returns c = rw (c .plus .ensures, c .before .enum-told .given .1)

@@ -14,73 +14,73 @@ abbrev μ-loop : tie.MeasureT-loop
 μ-loop text vars₀ counts heap₀ w₀ c₀ fuel₀ vars heap w c fuel = fuel
 
 begin-walk-requires : tie.Need-begin-walk-requires Inv-loop μ-loop
-begin-walk-requires c κs = search needs
+begin-walk-requires c κs = tt
 
 no-counts-requires : tie.Need-no-counts-requires Inv-loop μ-loop
-no-counts-requires c κs = search needs
+no-counts-requires c κs = tt
 
 add-fuel : tie.Need-add-fuel Inv-loop μ-loop
 add-fuel c = search needs
 
 loop-holds : tie.Need-loop-holds Inv-loop μ-loop
-loop-holds c = (refl, search needs, search needs)
+loop-holds c = (refl, refl, refl)
 
 look-requires : tie.Need-look-requires Inv-loop μ-loop
-look-requires c κs = search needs
+look-requires c κs = tt
 
 enum-known-m : tie.Need-enum-known-m Inv-loop μ-loop
-enum-known-m c = search needs
+enum-known-m c = c .match .keys1
 
 same-length : tie.Need-same-length Inv-loop μ-loop
-same-length c = search needs
+same-length c = c .before .before .before .before .before .loop .inv .1
 
 same-length-2 : tie.Need-same-length-2 Inv-loop μ-loop
-same-length-2 c = search needs
+same-length-2 c = c .before .before .before .before .before .loop .inv .2
 
 returns : tie.Need-returns Inv-loop μ-loop
 unfolding declarations
 returns c = rw (← c .before .before .before .before .before .before .no-counts .ensures, ← c .before .before .before .before .before .before .before .begin-walk .ensures) (sym (c .before .before .before .before .before .loop .inv .0 ∙ look-refused _ _ _ _ _ _ _ (c .before .before .before .before .loop-test .taken) (rw (← c .before .before .before .look .ensures, c .before .m .given .1))))
 
 enum-told : tie.Need-enum-told Inv-loop μ-loop
-enum-told c = search needs
+enum-told c = c .match .keys2
 
 same-length-3 : tie.Need-same-length-3 Inv-loop μ-loop
-same-length-3 c = search needs
+same-length-3 c = c .before .before .before .before .loop .inv .1
 
 same-length-4 : tie.Need-same-length-4 Inv-loop μ-loop
-same-length-4 c = search needs
+same-length-4 c = c .before .before .before .before .loop .inv .2
 
 returns-2 : tie.Need-returns-2 Inv-loop μ-loop
 unfolding declarations
 returns-2 c = rw (← c .before .before .before .before .before .no-counts .ensures, ← c .before .before .before .before .before .before .begin-walk .ensures) (sym (c .before .before .before .before .loop .inv .0 ∙ declarations-end _ _ _ _ _ _ _ (c .before .before .before .loop-test .taken) (rw (← c .before .before .look .ensures, c .enum-told .given .1))))
 
 enum-known-m-2 : tie.Need-enum-known-m-2 Inv-loop μ-loop
-enum-known-m-2 c = search needs
+enum-known-m-2 c = c .match .keys3
 
 judge-requires : tie.Need-judge-requires Inv-loop μ-loop
-judge-requires c κs = search needs
+judge-requires c κs = tt
 
 enum-known-d : tie.Need-enum-known-d Inv-loop μ-loop
-enum-known-d c = search needs
+enum-known-d c = c .match2 .keys1
 
 enum-told-2 : tie.Need-enum-told-2 Inv-loop μ-loop
-enum-told-2 c = search needs
+enum-told-2 c = c .match2 .keys2
 
 declared-refusal-requires : tie.Need-declared-refusal-requires Inv-loop μ-loop
-declared-refusal-requires c κs = search needs
+declared-refusal-requires c κs = tt
 
 same-length-5 : tie.Need-same-length-5 Inv-loop μ-loop
-same-length-5 c = search needs
+same-length-5 c = c .before .before .before .before .before .before .vars .given ∙ c .before .before .before .before .before .before .before .before .before .before .before .before .before .before .before .loop .inv .1
 
 same-length-6 : tie.Need-same-length-6 Inv-loop μ-loop
-same-length-6 c = search needs
+same-length-6 c = c .before .before .before .before .heap .given ∙ c .before .before .before .before .before .before .before .before .before .before .before .before .before .before .before .loop .inv .2
 
 returns-3 : tie.Need-returns-3 Inv-loop μ-loop
 unfolding declarations
 returns-3 c = rw (← c .before .before .before .before .before .before .before .before .before .before .before .before .before .before .before .before .no-counts .ensures, ← c .before .before .before .before .before .before .before .before .before .before .before .before .before .before .before .before .before .begin-walk .ensures) (sym (c .before .before .before .before .before .before .before .before .before .before .before .before .before .before .before .loop .inv .0 ∙ declaration-refused _ _ _ _ _ _ _ {v = c .before .before .before .before .before .before .before .before .before .before .before .m2 .given .0 .0} (c .before .before .before .before .before .before .before .before .before .before .before .before .before .before .loop-test .taken) (rw (← c .before .before .before .before .before .before .before .before .before .before .before .before .before .look .ensures, c .before .before .before .before .before .before .before .before .before .before .before .m2 .given .1)) (rw (c .declared-refusal .ensures, ← c .before .before .before .before .before .before .before .judge .ensures, c .before .enum-told2 .given .1))))
 
 count-requires : tie.Need-count-requires Inv-loop μ-loop
-count-requires c κs = search needs
+count-requires c κs = tt
 
 sub-fuel : tie.Need-sub-fuel Inv-loop μ-loop
 sub-fuel c = search needs
@@ -89,13 +89,13 @@ loop-less : tie.Need-loop-less Inv-loop μ-loop
 loop-less c = search needs
 
 loop-again : tie.Need-loop-again Inv-loop μ-loop
-loop-again c = (rw (c .count .ensures) (c .before .before .before .before .before .before .before .before .before .before .before .before .before .before .before .before .loop .inv .0 ∙ declarations-on _ _ _ _ _ _ _ {v = c .before .before .before .before .before .before .before .before .before .before .before .before .m2 .given .0 .0} {form = c .before .before .d .given .0 .0} (c .before .before .before .before .before .before .before .before .before .before .before .before .before .before .before .loop-test .taken) (rw (← c .before .before .before .before .before .before .before .before .before .before .before .before .before .before .look .ensures, c .before .before .before .before .before .before .before .before .before .before .before .before .m2 .given .1)) (rw (← c .before .before .before .before .before .before .before .before .judge .ensures, c .before .before .d .given .1))), search (c .before .before .before .before .before .before .slice-known3 .given, c .before .before .before .before .before .before .before .vars .given, c .before .before .before .before .before .before .before .before .before .before .before .before .before .before .before .before .loop .inv .1, needs), search (c .before .before .before .before .slice-known4 .given, c .before .before .before .before .before .heap .given, c .before .before .before .before .before .before .before .before .before .before .before .before .before .before .before .before .loop .inv .2, needs))
+loop-again c = (rw (c .count .ensures) (c .before .before .before .before .before .before .before .before .before .before .before .before .before .before .before .before .loop .inv .0 ∙ declarations-on _ _ _ _ _ _ _ {v = c .before .before .before .before .before .before .before .before .before .before .before .before .m2 .given .0 .0} {form = c .before .before .d .given .0 .0} (c .before .before .before .before .before .before .before .before .before .before .before .before .before .before .before .loop-test .taken) (rw (← c .before .before .before .before .before .before .before .before .before .before .before .before .before .before .look .ensures, c .before .before .before .before .before .before .before .before .before .before .before .before .m2 .given .1)) (rw (← c .before .before .before .before .before .before .before .before .judge .ensures, c .before .before .d .given .1))), c .before .before .before .before .before .before .before .vars .given ∙ c .before .before .before .before .before .before .before .before .before .before .before .before .before .before .before .before .loop .inv .1, c .before .before .before .before .before .heap .given ∙ c .before .before .before .before .before .before .before .before .before .before .before .before .before .before .before .before .loop .inv .2)
 
 same-length-7 : tie.Need-same-length-7 Inv-loop μ-loop
-same-length-7 c = search needs
+same-length-7 c = c .before .loop .inv .1
 
 same-length-8 : tie.Need-same-length-8 Inv-loop μ-loop
-same-length-8 c = search needs
+same-length-8 c = c .before .loop .inv .2
 
 returns-4 : tie.Need-returns-4 Inv-loop μ-loop
 unfolding declarations

@@ -10,7 +10,7 @@ slice-aggregate-same-bytes : tie.Need-slice-aggregate-same-bytes
 slice-aggregate-same-bytes c = search needs
 
 same-bytes-requires : tie.Need-same-bytes-requires
-same-bytes-requires c κs = search needs
+same-bytes-requires c κs = tt
 
 returns : tie.Need-returns
 unfolding formOf formNamed part
@@ -24,7 +24,7 @@ slice-aggregate-same-bytes-2 : tie.Need-slice-aggregate-same-bytes-2
 slice-aggregate-same-bytes-2 c = search needs
 
 same-bytes-requires-2 : tie.Need-same-bytes-requires-2
-same-bytes-requires-2 c κs = search needs
+same-bytes-requires-2 c κs = tt
 
 returns-3 : tie.Need-returns-3
 unfolding formOf formNamed part
@@ -38,7 +38,7 @@ slice-aggregate-same-bytes-3 : tie.Need-slice-aggregate-same-bytes-3
 slice-aggregate-same-bytes-3 c = search needs
 
 same-bytes-requires-3 : tie.Need-same-bytes-requires-3
-same-bytes-requires-3 c κs = search needs
+same-bytes-requires-3 c κs = tt
 
 returns-5 : tie.Need-returns-5
 unfolding formOf formNamed part
@@ -52,7 +52,7 @@ slice-aggregate-same-bytes-4 : tie.Need-slice-aggregate-same-bytes-4
 slice-aggregate-same-bytes-4 c = search needs
 
 same-bytes-requires-4 : tie.Need-same-bytes-requires-4
-same-bytes-requires-4 c κs = search needs
+same-bytes-requires-4 c κs = tt
 
 returns-7 : tie.Need-returns-7
 unfolding formOf formNamed part

@@ -1,71 +1,70 @@
 -- `theory::judge` meets its contract. Assumes nothing.
-use borrow.Author.Needs.{needs}
 use Rattle.theory.specs.Declarations.{declaration}
 use Rattle.theory.proofs.judge.Statement.{statement}
 use Rattle.theory.proofs.judge.Tie as tie
 
 next-list-requires : tie.Need-next-list-requires
-next-list-requires c κs = search needs
+next-list-requires c κs = tt
 
 enum-known-l : tie.Need-enum-known-l
-enum-known-l c = search needs
+enum-known-l c = c .match .keys1
 
 enum-told : tie.Need-enum-told
-enum-told c = search needs
+enum-told c = c .match .keys2
 
 numbered-refusal-requires : tie.Need-numbered-refusal-requires
-numbered-refusal-requires c κs = search needs
+numbered-refusal-requires c κs = tt
 
 returns : tie.Need-returns
 unfolding declaration
 returns c = rw (c .numbered-refusal .ensures, ← c .before .before .before .next-list .ensures, c .before .enum-told .given .1)
 
 head-requires : tie.Need-head-requires
-head-requires c κs = search needs
+head-requires c κs = tt
 
 enum-known-h : tie.Need-enum-known-h
-enum-known-h c = search needs
+enum-known-h c = c .match2 .keys1
 
 enum-told-2 : tie.Need-enum-told-2
-enum-told-2 c = search needs
+enum-told-2 c = c .match2 .keys2
 
 named-refusal-requires : tie.Need-named-refusal-requires
-named-refusal-requires c κs = search needs
+named-refusal-requires c κs = tt
 
 returns-2 : tie.Need-returns-2
 unfolding declaration
 returns-2 c = rw (c .named-refusal .ensures, ← c .before .before .before .before .before .before .before .next-list .ensures, c .before .before .before .before .before .l .given .1, ← c .before .before .before .head .ensures, c .before .enum-told2 .given .1)
 
 form-of-requires : tie.Need-form-of-requires
-form-of-requires c κs = search needs
+form-of-requires c κs = tt
 
 declare-requires : tie.Need-declare-requires
-declare-requires c κs = search needs
+declare-requires c κs = tt
 
 enum-known-d : tie.Need-enum-known-d
-enum-known-d c = search needs
+enum-known-d c = c .match3 .keys1
 
 enum-told-3 : tie.Need-enum-told-3
-enum-told-3 c = search needs
+enum-told-3 c = c .match3 .keys2
 
 walked-refusal-requires : tie.Need-walked-refusal-requires
-walked-refusal-requires c κs = search needs
+walked-refusal-requires c κs = tt
 
 same-length : tie.Need-same-length
-same-length c = search needs
+same-length c = c .before .before .before .before .before .before .vars .given
 
 same-length-2 : tie.Need-same-length-2
-same-length-2 c = search needs
+same-length-2 c = c .before .before .before .before .heap .given
 
 returns-3 : tie.Need-returns-3
 unfolding declaration
 returns-3 c = rw (c .walked-refusal .ensures, ← c .before .before .before .before .before .before .before .before .before .before .before .before .before .before .before .before .before .before .next-list .ensures, c .before .before .before .before .before .before .before .before .before .before .before .before .before .before .before .before .l .given .1, ← c .before .before .before .before .before .before .before .before .before .before .before .before .before .before .head .ensures, c .before .before .before .before .before .before .before .before .before .before .before .before .h .given .1, ← c .before .before .before .before .before .before .before .before .before .before .form-of .ensures, ← c .before .before .before .before .before .before .before .declare .ensures, c .before .enum-told3 .given .1)
 
 same-length-3 : tie.Need-same-length-3
-same-length-3 c = search needs
+same-length-3 c = c .before .before .before .before .before .before .vars .given
 
 same-length-4 : tie.Need-same-length-4
-same-length-4 c = search needs
+same-length-4 c = c .before .before .before .before .heap .given
 
 returns-4 : tie.Need-returns-4
 unfolding declaration

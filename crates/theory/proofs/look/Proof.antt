@@ -1,5 +1,4 @@
 -- `theory::look` meets its contract. Assumes nothing.
-use borrow.Author.Needs.{needs}
 use Rattle.theory.specs.Declarations.{moreDue}
 use Rattle.lex.specs.Answers.{answer}
 use Rattle.horn.specs.Refusals.{number}
@@ -7,16 +6,16 @@ use Rattle.theory.proofs.look.Statement.{statement}
 use Rattle.theory.proofs.look.Tie as tie
 
 peek-requires : tie.Need-peek-requires
-peek-requires c κs = search needs
+peek-requires c κs = tt
 
 enum-told : tie.Need-enum-told
-enum-told c = search needs
+enum-told c = c .match .keys1
 
 enum-told-2 : tie.Need-enum-told-2
-enum-told-2 c = search needs
+enum-told-2 c = c .match .keys2
 
 enum-known-read : tie.Need-enum-known-read
-enum-known-read c = search needs
+enum-known-read c = c .match .keys3
 
 returns : tie.Need-returns
 unfolding moreDue answer

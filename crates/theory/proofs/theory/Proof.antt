@@ -1,40 +1,40 @@
 -- `theory::theory` meets its contract. Assumes nothing.
-use borrow.Author.Needs.{needs}
+use mathlib.Core.Path.{_∙_}
 use Rattle.theory.specs.Walks.{theory}
 use Rattle.sexp.specs.Walk.{walkAnswer}
 use Rattle.theory.proofs.theory.Statement.{statement}
 use Rattle.theory.proofs.theory.Tie as tie
 
 count-members-requires : tie.Need-count-members-requires
-count-members-requires c κs = search needs
+count-members-requires c κs = tt
 
 enum-known-first : tie.Need-enum-known-first
-enum-known-first c = search needs
+enum-known-first c = c .match .keys1
 
 enum-told : tie.Need-enum-told
-enum-told c = search needs
+enum-told c = c .match .keys2
 
 clear-requires : tie.Need-clear-requires
-clear-requires c κs = search needs
+clear-requires c κs = tt
 
 declarations-requires : tie.Need-declarations-requires
-declarations-requires c κs = search needs
+declarations-requires c κs = tt
 
 same-length : tie.Need-same-length
-same-length c = search needs
+same-length c = c .before .before .before .before .counts .given
 
 returns : tie.Need-returns
 unfolding theory walkAnswer
 returns c = rw (← c .before .before .before .before .before .count-members .ensures .0, ← c .before .before .before .before .before .count-members .ensures .1, c .before .first .given .1)
 
 same-length-2 : tie.Need-same-length-2
-same-length-2 c = search needs
+same-length-2 c = c .before .before .before .vars .given
 
 same-length-3 : tie.Need-same-length-3
-same-length-3 c = search needs
+same-length-3 c = c .before .before .before .before .before .before .before .before .before .before .before .before .before .before .before .counts .given
 
 same-length-4 : tie.Need-same-length-4
-same-length-4 c = search needs
+same-length-4 c = c .before .heap2 .given ∙ c .before .before .before .before .before .before .before .before .before .heap .given
 
 returns-2 : tie.Need-returns-2
 unfolding theory walkAnswer

@@ -1,31 +1,30 @@
 -- `lex::Reader::peek` meets its contract. Assumes nothing.
 use Rattle.lex.specs.Answers.{answer, peeked, peekedBy, taken, takenBy, holding}
 use mathlib.Core.Path.{_≡_, _∙_, ap, sym, refl}
-use borrow.Author.Needs.{needs}
 use Rattle.lex.proofs.Reader.peek.Statement.{statement}
 use Rattle.lex.proofs.Reader.peek.Tie as tie
 
 enum-known-ahead : tie.Need-enum-known-ahead
-enum-known-ahead c = search needs
+enum-known-ahead c = c .match .keys1
 
 returns : tie.Need-returns
 unfolding answer peeked peekedBy
 returns c = rw (c .before .ahead .given .1)
 
 enum-told : tie.Need-enum-told
-enum-told c = search needs
+enum-told c = c .match .keys2
 
 scan-requires : tie.Need-scan-requires
-scan-requires c κs = search needs
+scan-requires c κs = tt
 
 enum-known-read : tie.Need-enum-known-read
-enum-known-read c = search needs
+enum-known-read c = c .match2 .keys1
 
 enum-told-2 : tie.Need-enum-told-2
-enum-told-2 c = search needs
+enum-told-2 c = c .match2 .keys2
 
 enum-told-3 : tie.Need-enum-told-3
-enum-told-3 c = search needs
+enum-told-3 c = c .match2 .keys3
 
 returns-2 : tie.Need-returns-2
 unfolding answer peeked peekedBy holding

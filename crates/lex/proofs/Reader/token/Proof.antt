@@ -1,22 +1,21 @@
 -- `lex::Reader::token` meets its contract. Assumes nothing.
 use Rattle.lex.specs.Answers.{answer, peeked, peekedBy, taken, takenBy, holding}
 use mathlib.Core.Path.{_≡_, _∙_, ap, sym, refl}
-use borrow.Author.Needs.{needs}
 use Rattle.lex.proofs.Reader.token.Statement.{statement}
 use Rattle.lex.proofs.Reader.token.Tie as tie
 
 enum-known-ahead : tie.Need-enum-known-ahead
-enum-known-ahead c = search needs
+enum-known-ahead c = c .match .keys1
 
 returns : tie.Need-returns
 unfolding answer taken takenBy
 returns c = rw (c .before .ahead .given .1)
 
 enum-told : tie.Need-enum-told
-enum-told c = search needs
+enum-told c = c .match .keys2
 
 scan-requires : tie.Need-scan-requires
-scan-requires c κs = search needs
+scan-requires c κs = tt
 
 returns-2 : tie.Need-returns-2
 unfolding taken takenBy

@@ -30,7 +30,7 @@ unfolding width value
 returns-3 c = let e = first-none (c .before .before .before .before .before .before .args .s .now) (omega arith) (c .before .before .before .shared-slice-known2 .given 0 .fits) (rw (c .before .before .class .ensures) at (c .if3 .taken)) in (ap width (sym e), ap value (sym e))
 
 longer-requires : tie.Need-longer-requires
-longer-requires c κs = search needs
+longer-requires c κs = tt
 
 returns-4 : tie.Need-returns-4
 returns-4 c = let e = first-longer (c .before .before .before .before .before .before .before .args .s .now) (omega arith) (c .before .before .before .before .shared-slice-known2 .given 0 .fits) (rw (c .before .before .before .class .ensures) at (lt-of-le-of-ne (c .before .before .if2 .left) (c .before .if3 .left))) in (c .longer .ensures .0 ∙ rw (e, c .before .before .before .class .ensures), c .longer .ensures .1 ∙ rw (e, c .before .before .before .class .ensures))

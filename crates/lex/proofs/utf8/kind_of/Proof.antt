@@ -2,12 +2,11 @@
 use Rattle.lex.specs.Classes.{kindNumber}
 use Rattle.horn.specs.Tokens.{kind}
 use borrow.Author.Tests.{eq-eqb, ne-eqb}
-use borrow.Author.Needs.{needs}
 use Rattle.lex.proofs.utf8.kind_of.Statement.{statement}
 use Rattle.lex.proofs.utf8.kind_of.Tie as tie
 
 is-white-requires : tie.Need-is-white-requires
-is-white-requires c κs = search needs
+is-white-requires c κs = tt
 
 returns : tie.Need-returns
 unfolding kind kindNumber

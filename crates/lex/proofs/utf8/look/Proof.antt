@@ -32,7 +32,7 @@ returns-3 : tie.Need-returns-3
 returns-3 c = look-none (c .before .before .before .before .before .before .before .before .before .args .text .now) (c .before .before .before .before .before .before .before .before .before .args .p) (c .before .before .first-of .result .width) (rw (rest-of (c .before .before .before .before .before .before .before .before .before .args .text .now) (c .before .before .before .before .before .before .before .before .before .args .p)) at (c .before .before .first-of .ensures .0)) (c .if3 .taken)
 
 kind-of-requires : tie.Need-kind-of-requires
-kind-of-requires c κs = search needs
+kind-of-requires c κs = tt
 
 returns-4 : tie.Need-returns-4
 returns-4 c = let e = rw (rest-of (c .before .before .before .before .before .before .before .before .before .before .args .text .now) (c .before .before .before .before .before .before .before .before .before .before .args .p)) at (c .before .before .before .first-of .ensures .0) in (look-longer (c .before .before .before .before .before .before .before .before .before .before .args .text .now) (c .before .before .before .before .before .before .before .before .before .before .args .p) (c .before .before .before .first-of .result .width) (c .before .before .before .first-of .result .value) (c .kind-of .result) e (rw (rest-of (c .before .before .before .before .before .before .before .before .before .before .args .text .now) (c .before .before .before .before .before .before .before .before .before .before .args .p)) at (c .before .before .before .first-of .ensures .1)) (c .before .if3 .left) (c .kind-of .ensures), e)

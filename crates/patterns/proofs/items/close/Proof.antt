@@ -1,5 +1,4 @@
 -- `patterns::items::close` meets its contract. Assumes nothing.
-use borrow.Author.Needs.{needs}
 use Rattle.patterns.specs.Items.{closingDue}
 use Rattle.lex.specs.Answers.{answer}
 use Rattle.horn.specs.Refusals.{number}
@@ -7,25 +6,25 @@ use Rattle.patterns.proofs.items.close.Statement.{statement}
 use Rattle.patterns.proofs.items.close.Tie as tie
 
 token-requires : tie.Need-token-requires
-token-requires c κs = search needs
+token-requires c κs = tt
 
 enum-told : tie.Need-enum-told
-enum-told c = search needs
+enum-told c = c .match .keys1
 
 enum-told-2 : tie.Need-enum-told-2
-enum-told-2 c = search needs
+enum-told-2 c = c .match .keys2
 
 enum-known-read : tie.Need-enum-known-read
-enum-known-read c = search needs
+enum-known-read c = c .match .keys3
 
 enum-told-3 : tie.Need-enum-told-3
-enum-told-3 c = search needs
+enum-told-3 c = c .match2 .keys1
 
 enum-told-4 : tie.Need-enum-told-4
-enum-told-4 c = search needs
+enum-told-4 c = c .match2 .keys2
 
 enum-told-5 : tie.Need-enum-told-5
-enum-told-5 c = search needs
+enum-told-5 c = c .match2 .keys3
 
 returns : tie.Need-returns
 unfolding closingDue answer

@@ -1,27 +1,26 @@
 -- `patterns::items::declared_name` meets its contract. Assumes nothing.
-use borrow.Author.Needs.{needs}
 use Rattle.patterns.specs.Items.{declaredName}
 use Rattle.patterns.proofs.items.declared_name.Statement.{statement}
 use Rattle.patterns.proofs.items.declared_name.Tie as tie
 
 next-atom-requires : tie.Need-next-atom-requires
-next-atom-requires c κs = search needs
+next-atom-requires c κs = tt
 
 enum-known-a : tie.Need-enum-known-a
-enum-known-a c = search needs
+enum-known-a c = c .match .keys1
 
 enum-told : tie.Need-enum-told
-enum-told c = search needs
+enum-told c = c .match .keys2
 
 named-refusal-requires : tie.Need-named-refusal-requires
-named-refusal-requires c κs = search needs
+named-refusal-requires c κs = tt
 
 returns : tie.Need-returns
 unfolding declaredName
 returns c = rw (c .named-refusal .ensures, ← c .before .before .before .next-atom .ensures, c .before .enum-told .given .1)
 
 is-question-requires : tie.Need-is-question-requires
-is-question-requires c κs = search needs
+is-question-requires c κs = tt
 
 returns-2 : tie.Need-returns-2
 unfolding declaredName

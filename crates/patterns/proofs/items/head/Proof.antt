@@ -1,6 +1,5 @@
 -- `patterns::items::head` meets its contract. Assumes nothing.
 use borrow.Author.Tests.{eq-eqb, ne-eqb}
-use borrow.Author.Needs.{needs}
 use Rattle.patterns.specs.Items.{headDue}
 use Rattle.patterns.proofs.items.head.Statement.{statement}
 use Rattle.patterns.proofs.items.head.Tie as tie
@@ -10,7 +9,7 @@ unfolding headDue
 returns c = rw (eq-eqb _ _ (c .if1 .taken))
 
 next-atom-requires : tie.Need-next-atom-requires
-next-atom-requires c κs = search needs
+next-atom-requires c κs = tt
 
 returns-2 : tie.Need-returns-2
 unfolding headDue

@@ -1,11 +1,10 @@
 -- `patterns::items::is_question` meets its contract. Assumes nothing.
-use borrow.Author.Needs.{needs}
 use Rattle.patterns.specs.Items.{question}
 use Rattle.patterns.proofs.items.is_question.Statement.{statement}
 use Rattle.patterns.proofs.items.is_question.Tie as tie
 
 byte-requires : tie.Need-byte-requires
-byte-requires c κs = search needs
+byte-requires c κs = tt
 
 returns : tie.Need-returns
 unfolding question

@@ -7,34 +7,34 @@ use Rattle.patterns.proofs.items.next_item.Statement.{statement}
 use Rattle.patterns.proofs.items.next_item.Tie as tie
 
 token-requires : tie.Need-token-requires
-token-requires c κs = search needs
+token-requires c κs = tt
 
 enum-told : tie.Need-enum-told
-enum-told c = search needs
+enum-told c = c .match .keys1
 
 enum-told-2 : tie.Need-enum-told-2
-enum-told-2 c = search needs
+enum-told-2 c = c .match .keys2
 
 enum-known-read : tie.Need-enum-known-read
-enum-known-read c = search needs
+enum-known-read c = c .match .keys3
 
 enum-told-3 : tie.Need-enum-told-3
-enum-told-3 c = search needs
+enum-told-3 c = c .match2 .keys1
 
 enum-known-token : tie.Need-enum-known-token
-enum-known-token c = search needs
+enum-known-token c = c .match2 .keys2
 
 enum-told-4 : tie.Need-enum-told-4
-enum-told-4 c = search needs
+enum-told-4 c = c .match2 .keys3
 
 cast-at : tie.Need-cast-at
 cast-at c = search needs
 
 at-requires : tie.Need-at-requires
-at-requires c κs = search needs
+at-requires c κs = tt
 
 plus-requires : tie.Need-plus-requires
-plus-requires c κs = search needs
+plus-requires c κs = tt
 
 returns : tie.Need-returns
 unfolding itemDue answer

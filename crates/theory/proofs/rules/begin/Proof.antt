@@ -1,11 +1,10 @@
 -- `theory::rules::begin` meets its contract. Assumes nothing.
-use borrow.Author.Needs.{needs}
 use Rattle.theory.specs.Rules.{begun}
 use Rattle.theory.proofs.rules.begin.Statement.{statement}
 use Rattle.theory.proofs.rules.begin.Tie as tie
 
 plus-requires : tie.Need-plus-requires
-plus-requires c κs = search needs
+plus-requires c κs = tt
 
 returns : tie.Need-returns
 unfolding begun

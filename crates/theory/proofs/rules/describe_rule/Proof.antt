@@ -1,4 +1,5 @@
 -- `theory::rules::describe_rule` meets its contract. Assumes nothing.
+use mathlib.Core.Path.{_∙_}
 use borrow.Author.Needs.{needs}
 use Rattle.theory.specs.Rules.{ruleDescribed}
 use Rattle.theory.proofs.rules.describe_rule.Statement.{statement}
@@ -8,28 +9,28 @@ add-put : tie.Need-add-put
 add-put c = search needs
 
 put-requires : tie.Need-put-requires
-put-requires c κs = search needs
+put-requires c κs = tt
 
 add-put-2 : tie.Need-add-put-2
 add-put-2 c = search needs
 
 put-requires-2 : tie.Need-put-requires-2
-put-requires-2 c κs = search needs
+put-requires-2 c κs = tt
 
 add-put-3 : tie.Need-add-put-3
 add-put-3 c = search needs
 
 put-requires-3 : tie.Need-put-requires-3
-put-requires-3 c κs = search needs
+put-requires-3 c κs = tt
 
 add-put-4 : tie.Need-add-put-4
 add-put-4 c = search needs
 
 put-requires-4 : tie.Need-put-requires-4
-put-requires-4 c κs = search needs
+put-requires-4 c κs = tt
 
 same-length : tie.Need-same-length
-same-length c = search needs
+same-length c = c .before .heap4 .given ∙ c .before .before .before .before .before .heap3 .given ∙ c .before .before .before .before .before .before .before .before .before .heap2 .given ∙ c .before .before .before .before .before .before .before .before .before .before .before .before .before .heap .given
 
 returns : tie.Need-returns
 unfolding ruleDescribed

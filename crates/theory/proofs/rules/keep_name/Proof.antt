@@ -1,29 +1,28 @@
 -- `theory::rules::keep_name` meets its contract. Assumes nothing.
-use borrow.Author.Needs.{needs}
 use Rattle.theory.specs.Rules.{nameKept}
 use Rattle.theory.proofs.rules.keep_name.Statement.{statement}
 use Rattle.theory.proofs.rules.keep_name.Tie as tie
 
 next-item-requires : tie.Need-next-item-requires
-next-item-requires c κs = search needs
+next-item-requires c κs = tt
 
 enum-known-i : tie.Need-enum-known-i
-enum-known-i c = search needs
+enum-known-i c = c .match .keys1
 
 enum-known-i-2 : tie.Need-enum-known-i-2
-enum-known-i-2 c = search needs
+enum-known-i-2 c = c .match .keys2
 
 enum-known-i-3 : tie.Need-enum-known-i-3
-enum-known-i-3 c = search needs
+enum-known-i-3 c = c .match .keys3
 
 skip-requires : tie.Need-skip-requires
-skip-requires c κs = search needs
+skip-requires c κs = tt
 
 enum-known-p : tie.Need-enum-known-p
-enum-known-p c = search needs
+enum-known-p c = c .match2 .keys1
 
 enum-known-p-2 : tie.Need-enum-known-p-2
-enum-known-p-2 c = search needs
+enum-known-p-2 c = c .match2 .keys2
 
 returns : tie.Need-returns
 unfolding nameKept

@@ -20,16 +20,16 @@ returns : tie.Need-returns Inv-loop μ-loop
 returns c = sym (c .before .before .loop .inv ∙ skip-short _ _ _ _ (c .before .loop-test .taken) (c .if1 .taken))
 
 pass-requires : tie.Need-pass-requires Inv-loop μ-loop
-pass-requires c κs = search needs
+pass-requires c κs = tt
 
 enum-known-p : tie.Need-enum-known-p Inv-loop μ-loop
-enum-known-p c = search needs
+enum-known-p c = c .match .keys1
 
 enum-told : tie.Need-enum-told Inv-loop μ-loop
-enum-told c = search needs
+enum-told c = c .match .keys2
 
 numbered-refusal-requires : tie.Need-numbered-refusal-requires Inv-loop μ-loop
-numbered-refusal-requires c κs = search needs
+numbered-refusal-requires c κs = tt
 
 returns-2 : tie.Need-returns-2 Inv-loop μ-loop
 returns-2 c = sym (c .before .before .before .before .before .before .loop .inv ∙ skip-refused _ _ _ _ (c .before .before .before .before .before .loop-test .taken) (c .before .before .before .before .if1 .left) (rw (c .numbered-refusal .ensures, ← c .before .before .before .pass .ensures, c .before .enum-told .given .1)))
@@ -38,7 +38,7 @@ sub-plus : tie.Need-sub-plus Inv-loop μ-loop
 sub-plus c = search needs
 
 plus-requires : tie.Need-plus-requires Inv-loop μ-loop
-plus-requires c κs = search needs
+plus-requires c κs = tt
 
 sub-fuel : tie.Need-sub-fuel Inv-loop μ-loop
 sub-fuel c = search needs

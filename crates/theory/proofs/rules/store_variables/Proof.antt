@@ -1,6 +1,6 @@
 -- `theory::rules::store_variables` meets its contract. Assumes nothing.
 use lib.ListN.{length}
-use mathlib.Core.Path.{_≡_, _∙_}
+use mathlib.Core.Path.{_≡_, _∙_, refl}
 use Prim.Native.Nat.{_≤_, _-_}
 use borrow.Author.Needs.{needs}
 use Rattle.theory.specs.Rules.{copied, variablesStored}
@@ -21,10 +21,10 @@ mul-end : tie.Need-mul-end Inv-loop μ-loop
 mul-end c = search needs
 
 loop-holds : tie.Need-loop-holds Inv-loop μ-loop
-loop-holds c = (search needs, copy-first _ _ _ _, search needs)
+loop-holds c = (search needs, copy-first _ _ _ _, refl)
 
 at-requires : tie.Need-at-requires Inv-loop μ-loop
-at-requires c κs = search needs
+at-requires c κs = tt
 
 cast-put : tie.Need-cast-put Inv-loop μ-loop
 cast-put c = search needs
@@ -33,7 +33,7 @@ add-put : tie.Need-add-put Inv-loop μ-loop
 add-put c = search needs
 
 put-requires : tie.Need-put-requires Inv-loop μ-loop
-put-requires c κs = search needs
+put-requires c κs = tt
 
 add-i : tie.Need-add-i Inv-loop μ-loop
 add-i c = search needs
@@ -42,7 +42,7 @@ loop-less : tie.Need-loop-less Inv-loop μ-loop
 loop-less c = search needs
 
 loop-again : tie.Need-loop-again Inv-loop μ-loop
-loop-again c = (search needs, c .before .before .before .before .before .before .loop .inv .1 ∙ copy-on _ _ _ _ _ (c .before .before .before .before .before .loop-test .taken) ∙ rw (← c .before .before .before .before .at .ensures, ← c .before .before .put .ensures), search needs)
+loop-again c = (search needs, c .before .before .before .before .before .before .loop .inv .1 ∙ copy-on _ _ _ _ _ (c .before .before .before .before .before .loop-test .taken) ∙ rw (← c .before .before .before .before .at .ensures, ← c .before .before .put .ensures), c .before .heap .given ∙ c .before .before .before .before .before .before .loop .inv .2)
 
 cast-low : tie.Need-cast-low Inv-loop μ-loop
 cast-low c = search needs
@@ -51,10 +51,10 @@ add-low : tie.Need-add-low Inv-loop μ-loop
 add-low c = search needs
 
 low-requires : tie.Need-low-requires Inv-loop μ-loop
-low-requires c κs = search needs
+low-requires c κs = tt
 
 same-length : tie.Need-same-length Inv-loop μ-loop
-same-length c = search needs
+same-length c = c .before .before .before .loop .inv .2
 
 returns : tie.Need-returns Inv-loop μ-loop
 unfolding variablesStored

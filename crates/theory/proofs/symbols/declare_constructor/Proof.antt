@@ -1,52 +1,52 @@
 -- `theory::symbols::declare_constructor` meets its contract. Assumes nothing.
-use borrow.Author.Needs.{needs}
+use mathlib.Core.Path.{_∙_}
 use Rattle.theory.specs.Symbols.{constructorDeclared}
 use Rattle.theory.proofs.symbols.declare_constructor.Statement.{statement}
 use Rattle.theory.proofs.symbols.declare_constructor.Tie as tie
 
 read-signature-requires : tie.Need-read-signature-requires
-read-signature-requires c κs = search needs
+read-signature-requires c κs = tt
 
 enum-known-g : tie.Need-enum-known-g
-enum-known-g c = search needs
+enum-known-g c = c .match .keys1
 
 enum-told : tie.Need-enum-told
-enum-told c = search needs
+enum-told c = c .match .keys2
 
 signature-refusal-requires : tie.Need-signature-refusal-requires
-signature-refusal-requires c κs = search needs
+signature-refusal-requires c κs = tt
 
 same-length : tie.Need-same-length
-same-length c = search needs
+same-length c = c .before .before .before .before .heap .given
 
 returns : tie.Need-returns
 unfolding constructorDeclared
 returns c = rw (c .signature-refusal .ensures, ← c .before .before .before .before .before .read-signature .ensures, c .before .enum-told .given .1)
 
 sort-named-requires : tie.Need-sort-named-requires
-sort-named-requires c κs = search needs
+sort-named-requires c κs = tt
 
 enum-known-o : tie.Need-enum-known-o
-enum-known-o c = search needs
+enum-known-o c = c .match2 .keys1
 
 enum-told-2 : tie.Need-enum-told-2
-enum-told-2 c = search needs
+enum-told-2 c = c .match2 .keys2
 
 numbered-refusal-requires : tie.Need-numbered-refusal-requires
-numbered-refusal-requires c κs = search needs
+numbered-refusal-requires c κs = tt
 
 same-length-2 : tie.Need-same-length-2
-same-length-2 c = search needs
+same-length-2 c = c .before .before .before .before .before .before .before .before .before .heap .given
 
 returns-2 : tie.Need-returns-2
 unfolding constructorDeclared
 returns-2 c = rw (c .numbered-refusal .ensures, ← c .before .before .before .before .before .before .before .before .before .before .read-signature .ensures, c .before .before .before .before .before .before .g .given .1, ← c .before .before .before .sort-named .ensures, c .before .enum-told2 .given .1)
 
 enter-symbol-requires : tie.Need-enter-symbol-requires
-enter-symbol-requires c κs = search needs
+enter-symbol-requires c κs = tt
 
 same-length-3 : tie.Need-same-length-3
-same-length-3 c = search needs
+same-length-3 c = c .before .heap2 .given ∙ c .before .before .before .before .before .before .before .before .before .before .before .before .before .heap .given
 
 returns-3 : tie.Need-returns-3
 unfolding constructorDeclared

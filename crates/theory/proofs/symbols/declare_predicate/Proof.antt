@@ -1,33 +1,33 @@
 -- `theory::symbols::declare_predicate` meets its contract. Assumes nothing.
-use borrow.Author.Needs.{needs}
+use mathlib.Core.Path.{_∙_}
 use Rattle.theory.specs.Symbols.{predicateDeclared}
 use Rattle.theory.proofs.symbols.declare_predicate.Statement.{statement}
 use Rattle.theory.proofs.symbols.declare_predicate.Tie as tie
 
 read-signature-requires : tie.Need-read-signature-requires
-read-signature-requires c κs = search needs
+read-signature-requires c κs = tt
 
 enum-known-g : tie.Need-enum-known-g
-enum-known-g c = search needs
+enum-known-g c = c .match .keys1
 
 enum-told : tie.Need-enum-told
-enum-told c = search needs
+enum-told c = c .match .keys2
 
 signature-refusal-requires : tie.Need-signature-refusal-requires
-signature-refusal-requires c κs = search needs
+signature-refusal-requires c κs = tt
 
 same-length : tie.Need-same-length
-same-length c = search needs
+same-length c = c .before .before .before .before .heap .given
 
 returns : tie.Need-returns
 unfolding predicateDeclared
 returns c = rw (c .signature-refusal .ensures, ← c .before .before .before .before .before .read-signature .ensures, c .before .enum-told .given .1)
 
 enter-symbol-requires : tie.Need-enter-symbol-requires
-enter-symbol-requires c κs = search needs
+enter-symbol-requires c κs = tt
 
 same-length-2 : tie.Need-same-length-2
-same-length-2 c = search needs
+same-length-2 c = c .before .heap2 .given ∙ c .before .before .before .before .before .before .before .before .heap .given
 
 returns-2 : tie.Need-returns-2
 unfolding predicateDeclared

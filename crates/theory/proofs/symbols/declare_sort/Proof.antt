@@ -1,52 +1,51 @@
 -- `theory::symbols::declare_sort` meets its contract. Assumes nothing.
-use borrow.Author.Needs.{needs}
 use Rattle.theory.specs.Symbols.{sortDeclared}
 use Rattle.theory.proofs.symbols.declare_sort.Statement.{statement}
 use Rattle.theory.proofs.symbols.declare_sort.Tie as tie
 
 declared-name-requires : tie.Need-declared-name-requires
-declared-name-requires c κs = search needs
+declared-name-requires c κs = tt
 
 enum-known-a : tie.Need-enum-known-a
-enum-known-a c = search needs
+enum-known-a c = c .match .keys1
 
 enum-told : tie.Need-enum-told
-enum-told c = search needs
+enum-told c = c .match .keys2
 
 named-refusal-requires : tie.Need-named-refusal-requires
-named-refusal-requires c κs = search needs
+named-refusal-requires c κs = tt
 
 returns : tie.Need-returns
 unfolding sortDeclared
 returns c = rw (c .named-refusal .ensures, ← c .before .before .before .declared-name .ensures, c .before .enum-told .given .1)
 
 enter-requires : tie.Need-enter-requires
-enter-requires c κs = search needs
+enter-requires c κs = tt
 
 enum-known-n : tie.Need-enum-known-n
-enum-known-n c = search needs
+enum-known-n c = c .match2 .keys1
 
 enum-told-2 : tie.Need-enum-told-2
-enum-told-2 c = search needs
+enum-told-2 c = c .match2 .keys2
 
 walked-refusal-requires : tie.Need-walked-refusal-requires
-walked-refusal-requires c κs = search needs
+walked-refusal-requires c κs = tt
 
 same-length : tie.Need-same-length
-same-length c = search needs
+same-length c = c .before .before .before .before .heap .given
 
 returns-2 : tie.Need-returns-2
 unfolding sortDeclared
 returns-2 c = rw (c .walked-refusal .ensures, ← c .before .before .before .before .before .before .before .before .before .before .declared-name .ensures, c .before .before .before .before .before .before .before .before .a .given .1, ← c .before .before .before .before .before .enter .ensures, c .before .enum-told2 .given .1)
 
 reserve-requires : tie.Need-reserve-requires
-reserve-requires c κs = search needs
+reserve-requires c κs = tt
 
 close-requires : tie.Need-close-requires
-close-requires c κs = search needs
+close-requires c κs = tt
 
 same-length-2 : tie.Need-same-length-2
-same-length-2 c = search needs
+same-length-2 c = c .before .before .before .before .before .before .heap .given
 
 returns-3 : tie.Need-returns-3
 unfolding sortDeclared

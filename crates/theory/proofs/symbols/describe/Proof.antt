@@ -1,4 +1,5 @@
 -- `theory::symbols::describe` meets its contract. Assumes nothing.
+use mathlib.Core.Path.{_∙_}
 use borrow.Author.Needs.{needs}
 use Rattle.theory.specs.Symbols.{described}
 use Rattle.theory.proofs.symbols.describe.Statement.{statement}
@@ -8,16 +9,16 @@ add-put : tie.Need-add-put
 add-put c = search needs
 
 put-requires : tie.Need-put-requires
-put-requires c κs = search needs
+put-requires c κs = tt
 
 add-put-2 : tie.Need-add-put-2
 add-put-2 c = search needs
 
 put-requires-2 : tie.Need-put-requires-2
-put-requires-2 c κs = search needs
+put-requires-2 c κs = tt
 
 same-length : tie.Need-same-length
-same-length c = search needs
+same-length c = c .before .heap2 .given ∙ c .before .before .before .before .before .heap .given
 
 returns : tie.Need-returns
 unfolding described

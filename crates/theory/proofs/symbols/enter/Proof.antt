@@ -1,30 +1,30 @@
 -- `theory::symbols::enter` meets its contract. Assumes nothing.
-use borrow.Author.Needs.{needs}
+use mathlib.Core.Path.{refl}
 use Rattle.theory.specs.Symbols.{entered}
 use Rattle.theory.proofs.symbols.enter.Statement.{statement}
 use Rattle.theory.proofs.symbols.enter.Tie as tie
 
 find-requires : tie.Need-find-requires
-find-requires c κs = search needs
+find-requires c κs = tt
 
 enum-told : tie.Need-enum-told
-enum-told c = search needs
+enum-told c = c .match .keys1
 
 enum-told-2 : tie.Need-enum-told-2
-enum-told-2 c = search needs
+enum-told-2 c = c .match .keys2
 
 add-requires : tie.Need-add-requires
-add-requires c κs = search needs
+add-requires c κs = tt
 
 same-length : tie.Need-same-length
-same-length c = search needs
+same-length c = refl
 
 returns : tie.Need-returns
 unfolding entered
 returns c = rw (← c .before .before .find .ensures, c .enum-told .given .1)
 
 same-length-2 : tie.Need-same-length-2
-same-length-2 c = search needs
+same-length-2 c = c .before .heap .given
 
 returns-2 : tie.Need-returns-2
 unfolding entered

@@ -1,11 +1,10 @@
 -- `theory::symbols::reserve` meets its contract. Assumes nothing.
-use borrow.Author.Needs.{needs}
 use Rattle.theory.specs.Symbols.{reserved}
 use Rattle.theory.proofs.symbols.reserve.Statement.{statement}
 use Rattle.theory.proofs.symbols.reserve.Tie as tie
 
 plus-requires : tie.Need-plus-requires
-plus-requires c κs = search needs
+plus-requires c κs = tt
 
 returns : tie.Need-returns
 unfolding reserved

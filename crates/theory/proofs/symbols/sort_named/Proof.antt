@@ -1,33 +1,32 @@
 -- `theory::symbols::sort_named` meets its contract. Assumes nothing.
-use borrow.Author.Needs.{needs}
 use Rattle.theory.specs.Symbols.{sortNamed, sortFrom}
 use Rattle.theory.proofs.symbols.sort_named.Statement.{statement}
 use Rattle.theory.proofs.symbols.sort_named.Tie as tie
 
 declared-name-requires : tie.Need-declared-name-requires
-declared-name-requires c κs = search needs
+declared-name-requires c κs = tt
 
 enum-known-a : tie.Need-enum-known-a
-enum-known-a c = search needs
+enum-known-a c = c .match .keys1
 
 enum-told : tie.Need-enum-told
-enum-told c = search needs
+enum-told c = c .match .keys2
 
 named-refusal-requires : tie.Need-named-refusal-requires
-named-refusal-requires c κs = search needs
+named-refusal-requires c κs = tt
 
 returns : tie.Need-returns
 unfolding sortNamed sortFrom
 returns c = rw (c .named-refusal .ensures, ← c .before .before .before .declared-name .ensures, c .before .enum-told .given .1)
 
 find-requires : tie.Need-find-requires
-find-requires c κs = search needs
+find-requires c κs = tt
 
 enum-known-found : tie.Need-enum-known-found
-enum-known-found c = search needs
+enum-known-found c = c .match2 .keys1
 
 enum-told-2 : tie.Need-enum-told-2
-enum-told-2 c = search needs
+enum-told-2 c = c .match2 .keys2
 
 returns-2 : tie.Need-returns-2
 unfolding sortNamed sortFrom
