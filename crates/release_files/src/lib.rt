@@ -71,19 +71,18 @@ fn call(rulebook: &[u8], goals: &[u8], certificate: &[u8]) -> Report
     let mut b = [0u32; 16384];
     let mut c = [0u32; 16384];
     let mut d = [0u32; 16384];
-    kernel::release(
-        rulebook,
-        goals,
-        certificate,
-        &mut a,
-        &mut b,
-        &mut c,
-        &mut d,
-    )
+    kernel::release(rulebook, goals, certificate, &mut a, &mut b, &mut c, &mut d)
 }
 
 // The report on three files, from what became of each and its buffer.
-pub fn answer(rulebook: &[u8], r: File, goals: &[u8], g: File, certificate: &[u8], c: File) -> Report
+pub fn answer(
+    rulebook: &[u8],
+    r: File,
+    goals: &[u8],
+    g: File,
+    certificate: &[u8],
+    c: File,
+) -> Report
     ensures { λ p. ⌜ told p ≡ answered (text r (now (rulebook .entry))) (text g (now (goals .entry))) (text c (now (certificate .entry))) ⌝ }
 {
     let File::Read(i) = r else {

@@ -53,26 +53,31 @@ counted-next (suc k) (suc zero) n h i = absurd (omega (arith, i))
 counted-next (suc k) (suc (suc j)) n h i =
     case (eqb (n % 10) 9)
     (λ e. let d = eqb-true (n % 10) 9 e in
-      by-size n
-      (λ s. ap next (one-digit k n s) ∙ next-nine n [] (omega (arith, d, s)) ∙ sym (more-digits (suc j) (suc n) (omega (arith, d, s)) ∙ rw (tens n d, ends n d) (ap (λ l. 0 ∷ l) (rw (small-tens n s) (one-digit j 1 (omega arith))))))
-      (λ s. ap next (more-digits k n s) ∙ next-nine (n % 10) _ d ∙ ap (λ l. 0 ∷ l) (counted-next k (suc j) (n / 10) (omega (arith, h, s)) (omega (arith, i, s))) ∙ sym (more-digits (suc j) (suc n) (omega (arith, s)) ∙ rw (tens n d, ends n d) refl)))
+    by-size n
+    (λ s. ap next (one-digit k n s) ∙ next-nine n [] (omega (arith, d, s)) ∙ sym (more-digits (suc j) (suc n) (omega (arith, d, s)) ∙ rw (tens n d, ends n d) (ap (λ l. 0 ∷ l) (rw (small-tens n s) (one-digit j 1 (omega arith))))))
+    (λ s. ap next (more-digits k n s) ∙ next-nine (n % 10) _ d ∙ ap (λ l. 0 ∷ l) (counted-next k (suc j) (n / 10) (omega (arith, h, s)) (omega (arith, i, s))) ∙ sym (more-digits (suc j) (suc n) (omega (arith, s)) ∙ rw (tens n d, ends n d) refl)))
     (λ e. let d = eqb-false (n % 10) 9 e in
-      by-size n
-      (λ s. ap next (one-digit k n s) ∙ next-other n [] (λ q. d (omega (arith, q))) ∙ sym (one-digit (suc j) (suc n) (below n s d)))
-      (λ s. ap next (more-digits k n s) ∙ next-other (n % 10) _ d ∙ ap (λ l. suc (n % 10) ∷ l) (enough k (suc j) (n / 10) (omega (arith, h, s)) (omega (arith, i, s))) ∙ sym (more-digits (suc j) (suc n) (omega (arith, s)) ∙ rw (same-tens n d, same-ends n d) refl)))
+    by-size n
+    (λ s. ap next (one-digit k n s) ∙ next-other n [] (λ q. d (omega (arith, q))) ∙ sym (one-digit (suc j) (suc n) (below n s d)))
+    (λ s. ap next (more-digits k n s) ∙ next-other (n % 10) _ d ∙ ap (λ l. suc (n % 10) ∷ l) (enough k (suc j) (n / 10) (omega (arith, h, s)) (omega (arith, i, s))) ∙ sym (more-digits (suc j) (suc n) (omega (arith, s)) ∙ rw (same-tens n d, same-ends n d) refl)))
   where
-  tens : (n : ℕ) → n % 10 ≡ 9 → suc n / 10 ≡ suc (n / 10)
-  tens n d = omega (arith, d)
-  ends : (n : ℕ) → n % 10 ≡ 9 → suc n % 10 ≡ 0
-  ends n d = omega (arith, d)
-  small-tens : (n : ℕ) → n < 10 → n / 10 ≡ 0
-  small-tens n s = omega (arith, s)
-  same-tens : (n : ℕ) → (n % 10 ≡ 9 → ⊥) → suc n / 10 ≡ n / 10
-  same-tens n d = omega (arith, d)
-  same-ends : (n : ℕ) → (n % 10 ≡ 9 → ⊥) → suc n % 10 ≡ suc (n % 10)
-  same-ends n d = omega (arith, d)
-  below : (n : ℕ) → n < 10 → (n % 10 ≡ 9 → ⊥) → suc n < 10
-  below n s d = omega (arith, s, d)
+    tens : (n : ℕ) → n % 10 ≡ 9 → suc n / 10 ≡ suc (n / 10)
+    tens n d = omega (arith, d)
+
+    ends : (n : ℕ) → n % 10 ≡ 9 → suc n % 10 ≡ 0
+    ends n d = omega (arith, d)
+
+    small-tens : (n : ℕ) → n < 10 → n / 10 ≡ 0
+    small-tens n s = omega (arith, s)
+
+    same-tens : (n : ℕ) → (n % 10 ≡ 9 → ⊥) → suc n / 10 ≡ n / 10
+    same-tens n d = omega (arith, d)
+
+    same-ends : (n : ℕ) → (n % 10 ≡ 9 → ⊥) → suc n % 10 ≡ suc (n % 10)
+    same-ends n d = omega (arith, d)
+
+    below : (n : ℕ) → n < 10 → (n % 10 ≡ 9 → ⊥) → suc n < 10
+    below n s d = omega (arith, s, d)
 
 counted : (n : ℕ) → countedTo n ≡ lasts (suc n) n
 unfolding countedTo
@@ -84,10 +89,10 @@ pub at-most-ten : (n k : ℕ) → n < 2 ^ 32 → Fewest 10 1 n k → k ≤ 10
 at-most-ten n k h f =
     case (ltb 10 k)
     (λ e.
-      let i = ltb-true 10 k e in
-      let long : 10 ≤ k - 1 = omega (arith, i) in
-      let big : 10 ^ 10 ≤ n = le-trans (pow-le-pow-right (zero-lt-suc 9) long) (f .2 (omega (arith, i))) in
-      absurd (omega (arith, h, big)))
+    let i = ltb-true 10 k e in
+    let long : 10 ≤ k - 1 = omega (arith, i) in
+    let big : 10 ^ 10 ≤ n = le-trans (pow-le-pow-right (zero-lt-suc 9) long) (f .2 (omega (arith, i))) in
+    absurd (omega (arith, h, big)))
     (λ e. ltb-false 10 k e)
 
 -- What is known of a number's digits is known of those before the last.
@@ -98,19 +103,20 @@ fewer-above : (n p : ℕ) → p * 10 ≤ n → p ≤ n / 10
 fewer-above n p h = omega (arith, h)
 
 fewer : (n k : ℕ) → Fewest 10 1 n (suc (suc k)) → Fewest 10 1 (n / 10) (suc k)
-fewer n k f =
-    (omega arith,
-      fewer-below n (10 ^ suc k) (subst (λ p. n < p) (pow-suc 10 (suc k)) (f .1)),
-      λ h. fewer-above n (10 ^ (suc k - 1)) (subst (λ p. p ≤ n) (ap (λ e. 10 ^ e) (step k h) ∙ pow-suc 10 (suc k - 1)) (f .2 (omega arith))))
+fewer n k f = (
+  omega arith,
+  fewer-below n (10 ^ suc k) (subst (λ p. n < p) (pow-suc 10 (suc k)) (f .1)),
+  λ h. fewer-above n (10 ^ (suc k - 1)) (subst (λ p. p ≤ n) (ap (λ e. 10 ^ e) (step k h) ∙ pow-suc 10 (suc k - 1)) (f .2 (omega arith))),
+)
   where
-  step : (k : ℕ) → 1 < suc k → suc (suc k) - 1 ≡ suc (suc k - 1)
-  step k h = omega (arith, h)
+    step : (k : ℕ) → 1 < suc k → suc (suc k) - 1 ≡ suc (suc k - 1)
+    step k h = omega (arith, h)
 
 ten-above : (n k : ℕ) → Fewest 10 1 n (suc (suc k)) → 10 ≤ n
 ten-above n k f = le-trans (pow-le-pow-right (zero-lt-suc 9) (more k)) (f .2 (omega arith))
   where
-  more : (k : ℕ) → 1 ≤ suc (suc k) - 1
-  more k = omega arith
+    more : (k : ℕ) → 1 ≤ suc (suc k) - 1
+    more k = omega arith
 
 glyph-small : (d : ℕ) → d < 10 → glyph d ≡ 0x30 + d
 glyph-small d h = rw (lt-ltb d 10 h) refl

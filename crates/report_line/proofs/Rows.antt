@@ -33,8 +33,8 @@ module _ (n k end : ℕ) (text : List ℕ) (counts : k ≡ length (take k text))
 behind : (xs ys s : List ℕ) {a : ℕ} {o q : List ℕ} → o ≡ written xs 0 s → a ≡ length xs → q ≡ written ys a o → q ≡ written (xs ++ ys) 0 s
 behind xs ys s e l w = w ∙ ap₂ (λ p t. written ys p t) (l ∙ from-zero (length xs)) e ∙ sym (written-append xs ys 0 s)
   where
-  from-zero : (n : ℕ) → n ≡ 0 + n
-  from-zero n = omega arith
+    from-zero : (n : ℕ) → n ≡ 0 + n
+    from-zero n = omega arith
 
 long-behind : (xs ys : List ℕ) {a b : ℕ} → a ≡ length xs → b ≡ length ys → a + b ≡ length (xs ++ ys)
 long-behind xs ys e f = ap₂ (λ m n. m + n) e f ∙ sym (length-append xs ys)
@@ -66,10 +66,11 @@ pub read-back : (bs s o : List ℕ) (r : ℕ) → r ≡ length bs → o ≡ writ
 read-back bs s o r e w h =
     ap₂ (λ m t. take m t) (e ∙ from-zero (length bs)) w ∙ take-written bs 0 s (room (length bs) (length s) (rw (← e) h))
   where
-  from-zero : (n : ℕ) → n ≡ 0 + n
-  from-zero n = omega arith
-  room : (m n : ℕ) → m ≤ n → 0 + m ≤ n
-  room m n h = omega (arith, h)
+    from-zero : (n : ℕ) → n ≡ 0 + n
+    from-zero n = omega arith
+
+    room : (m n : ℕ) → m ≤ n → 0 + m ≤ n
+    room m n h = omega (arith, h)
 
 pub read-back-counts : (bs s o : List ℕ) (r : ℕ) → r ≡ length bs → o ≡ written bs 0 s → r ≤ length s → Counts r o
 read-back-counts bs s o r e w h = (rw (w, length-written bs 0 s) h, e ∙ sym (ap (λ t. length t) (read-back bs s o r e w h)))

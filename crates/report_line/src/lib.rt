@@ -55,7 +55,14 @@ fn fields(out: &mut [u8], number: u32, steps: u32, goals: u32, terms: u32, bytes
 }
 
 // Puts the line of a report at the start of `out`, and answers how many bytes it has.
-pub fn line(number: u32, steps: u32, goals: u32, terms: u32, bytes: u32, out: &mut [u8; 55]) -> usize
+pub fn line(
+    number: u32,
+    steps: u32,
+    goals: u32,
+    terms: u32,
+    bytes: u32,
+    out: &mut [u8; 55],
+) -> usize
     ensures within { λ r. ⌜ Counts r (now (out .exit)) ⌝ }
     ensures text { λ r. ⌜ take r (now (out .exit)) ≡ lines.line (report number steps goals terms bytes) ⌝ }
 {

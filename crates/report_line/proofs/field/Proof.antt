@@ -33,9 +33,10 @@ same-length : tie.Need-same-length
 same-length c = search needs
 
 returns : tie.Need-returns
-returns c =
-    (field-text _ _ _ _ (c .before .before .before .before .before .before .before .before .before .decimal .ensures .0 .1) (c .before .before .before .before .before .before .before .before .before .decimal .ensures .1 .0) (c .before .before .before .before .before .before .before .before .before .decimal .ensures .1 .1) _ _ (c .before .before .before .before .before .before .push .ensures) (c .before .before .put .ensures),
-      (field-long _ _ _ _ (c .before .before .before .before .before .before .before .before .before .decimal .ensures .0 .1) (c .before .before .before .before .before .before .before .before .before .decimal .ensures .1 .0) (c .before .before .before .before .before .before .before .before .before .decimal .ensures .1 .1), search (needs, at-most-ten _ _ (search needs) (c .before .before .before .before .before .before .before .before .before .decimal .ensures .1 .0))))
+returns c = (
+  field-text _ _ _ _ (c .before .before .before .before .before .before .before .before .before .decimal .ensures .0 .1) (c .before .before .before .before .before .before .before .before .before .decimal .ensures .1 .0) (c .before .before .before .before .before .before .before .before .before .decimal .ensures .1 .1) _ _ (c .before .before .before .before .before .before .push .ensures) (c .before .before .put .ensures),
+  (field-long _ _ _ _ (c .before .before .before .before .before .before .before .before .before .decimal .ensures .0 .1) (c .before .before .before .before .before .before .before .before .before .decimal .ensures .1 .0) (c .before .before .before .before .before .before .before .before .before .decimal .ensures .1 .1), search (needs, at-most-ten _ _ (search needs) (c .before .before .before .before .before .before .before .before .before .decimal .ensures .1 .0))),
+)
 
 pub field-spec : {M : Type 1} → statement M
 field-spec =

@@ -36,10 +36,13 @@ same-length : tie.Need-same-length
 same-length c = search needs
 
 returns : tie.Need-returns
-returns c =
-    (line-text _ _ _ _ _ (c .before .before .before .before .before .before .before .before .before .before .before .before .before .before .before .before .before .before .field .ensures .1 .0) (c .before .before .before .before .before .before .before .before .before .before .before .before .before .before .field2 .ensures .1 .0) (c .before .before .before .before .before .before .before .before .before .before .field3 .ensures .1 .0) (c .before .before .before .before .before .before .field4 .ensures .1 .0) _ (c .before .before .before .before .before .before .before .before .before .before .before .before .before .before .before .before .before .before .field .ensures .0) (c .before .before .before .before .before .before .before .before .before .before .before .before .before .before .field2 .ensures .0) (c .before .before .before .before .before .before .before .before .before .before .field3 .ensures .0) (c .before .before .before .before .before .before .field4 .ensures .0) (c .before .before .field5 .ensures .0),
-      (line-long _ _ _ _ _ (c .before .before .before .before .before .before .before .before .before .before .before .before .before .before .before .before .before .before .field .ensures .1 .0) (c .before .before .before .before .before .before .before .before .before .before .before .before .before .before .field2 .ensures .1 .0) (c .before .before .before .before .before .before .before .before .before .before .field3 .ensures .1 .0) (c .before .before .before .before .before .before .field4 .ensures .1 .0) (c .before .before .field5 .ensures .1 .0),
-        omega (arith, c .before .before .before .before .before .before .before .before .before .before .before .before .before .before .before .before .before .before .field .ensures .1 .1, c .before .before .before .before .before .before .before .before .before .before .before .before .before .before .field2 .ensures .1 .1, c .before .before .before .before .before .before .before .before .before .before .field3 .ensures .1 .1, c .before .before .before .before .before .before .field4 .ensures .1 .1, c .before .before .field5 .ensures .1 .1)))
+returns c = (
+  line-text _ _ _ _ _ (c .before .before .before .before .before .before .before .before .before .before .before .before .before .before .before .before .before .before .field .ensures .1 .0) (c .before .before .before .before .before .before .before .before .before .before .before .before .before .before .field2 .ensures .1 .0) (c .before .before .before .before .before .before .before .before .before .before .field3 .ensures .1 .0) (c .before .before .before .before .before .before .field4 .ensures .1 .0) _ (c .before .before .before .before .before .before .before .before .before .before .before .before .before .before .before .before .before .before .field .ensures .0) (c .before .before .before .before .before .before .before .before .before .before .before .before .before .before .field2 .ensures .0) (c .before .before .before .before .before .before .before .before .before .before .field3 .ensures .0) (c .before .before .before .before .before .before .field4 .ensures .0) (c .before .before .field5 .ensures .0),
+  (
+    line-long _ _ _ _ _ (c .before .before .before .before .before .before .before .before .before .before .before .before .before .before .before .before .before .before .field .ensures .1 .0) (c .before .before .before .before .before .before .before .before .before .before .before .before .before .before .field2 .ensures .1 .0) (c .before .before .before .before .before .before .before .before .before .before .field3 .ensures .1 .0) (c .before .before .before .before .before .before .field4 .ensures .1 .0) (c .before .before .field5 .ensures .1 .0),
+    omega (arith, c .before .before .before .before .before .before .before .before .before .before .before .before .before .before .before .before .before .before .field .ensures .1 .1, c .before .before .before .before .before .before .before .before .before .before .before .before .before .before .field2 .ensures .1 .1, c .before .before .before .before .before .before .before .before .before .before .field3 .ensures .1 .1, c .before .before .before .before .before .before .field4 .ensures .1 .1, c .before .before .field5 .ensures .1 .1),
+  ),
+)
 
 pub fields-spec : {M : Type 1} → statement M
 fields-spec =
