@@ -1,4 +1,6 @@
-// The program's library: three named files to a report. No contract can say which bytes a file holds, so all else has one.
+// Three named files to a report, and a report to its line: what the program `release` does.
+//
+// No contract can say which bytes a file holds. So what is read goes into buffers, and `answer` says all that follows from them.
 ghost use mathlib.Core.Path.{_≡_};
 ghost use lib.ListN.{length};
 ghost use Rattle.horn.specs.Setting.{document01};
@@ -19,8 +21,8 @@ fn ended(fd: i32) -> bool {
     libc::read(fd, &mut one) == 0
 }
 
-// Fills the buffer from an open file. A buffer of one byte more than the text may have is full where the file is too
-// long, whatever its length; one that is not full must hold the file to its end.
+// Fills the buffer from an open file. It has one byte more than the text may have, so it is full where the file is too
+// long, and no more is read; where it is not full, the file must be at its end.
 fn fill(fd: i32, buffer: &mut [u8]) -> File
     ensures { λ r. ⌜ Within r (length (now (buffer .exit))) ⌝ }
 {
