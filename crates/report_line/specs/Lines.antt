@@ -1,0 +1,24 @@
+-- "30 comes only from the program": the line that the program prints.
+use Prim.Native.Nat.{ℕ, _+_}
+use mathlib.Core.List.{List, [], _∷_, _++_}
+use lib.ListN.{set}
+use Rattle.horn.specs.Calls.{Report}
+use Rattle.horn.specs.Layout.{plain}
+
+-- A number, in plain decimal digits, and the byte that ends it.
+unfoldable pub field : ℕ → ℕ → List ℕ
+field n end = plain n ++ (end ∷ [])
+
+-- "Prints number, steps, goals, terms, bytes, parted by tabs, ended by 0A."
+unfoldable pub line : Report → List ℕ
+line r =
+    field (r .number) 0x09
+    ++ field (r .steps) 0x09
+    ++ field (r .goals) 0x09
+    ++ field (r .terms) 0x09
+    ++ field (r .bytes) 0x0A
+
+-- Bytes put one behind the other from place i on, as far as there are such places.
+unfoldable pub written : List ℕ → ℕ → List ℕ → List ℕ
+written [] i s = s
+written (b ∷ bs) i s = written bs (i + 1) (set s i b)

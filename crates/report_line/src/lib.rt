@@ -1,0 +1,70 @@
+// The line of the program: "number, steps, goals, terms, bytes, parted by tabs, ended by 0A".
+ghost use Prim.Native.Nat.{_≤_};
+ghost use mathlib.Core.Path.{_≡_};
+ghost use lib.ListN.{length, set, take};
+ghost use Rattle.horn.specs.Calls.{report};
+ghost use Rattle.io.specs.Counts.{Counts};
+ghost use Rattle.report_line.specs.Lines as lines;
+ghost use Rattle.report_line.specs.Lines.{written};
+
+// Sets the byte at a place, and nothing outside.
+fn put(out: &mut [u8], i: usize, b: u8)
+    ensures { λ r. ⌜ now (out .exit) ≡ set (now (out .entry)) i b ⌝ }
+{
+    if i < out.len() {
+        out[i] = b;
+    }
+}
+
+// Puts the bytes of a text from a place on.
+fn push(out: &mut [u8], at: u32, text: &[u8])
+    ensures { λ r. ⌜ now (out .exit) ≡ written (now (text .entry)) at (now (out .entry)) ⌝ }
+{
+    let from = at as usize;
+    let mut i: usize = 0;
+    while i < text.len() {
+        put(out, from + i, text[i]);
+        i += 1;
+    }
+}
+
+// Puts a number from a place on, and one byte behind it. Answers how many bytes these are.
+fn field(out: &mut [u8], at: u32, n: u32, end: u8) -> u32
+    ensures text { λ r. ⌜ now (out .exit) ≡ written (lines.field n end) at (now (out .entry)) ⌝ }
+    ensures long { λ r. ⌜ r ≡ length (lines.field n end) ⌝ }
+    ensures few { λ r. ⌜ r ≤ 11 ⌝ }
+{
+    let mut text = [0u8; 20];
+    let k = io::decimal(n as u64, &mut text);
+    push(out, at, &text[..k]);
+    put(out, at as usize + k, end);
+    k as u32 + 1
+}
+
+// The five numbers of a report, one behind the other.
+fn fields(out: &mut [u8], number: u32, steps: u32, goals: u32, terms: u32, bytes: u32) -> u32
+    ensures text { λ r. ⌜ now (out .exit) ≡ written (lines.line (report number steps goals terms bytes)) 0 (now (out .entry)) ⌝ }
+    ensures long { λ r. ⌜ r ≡ length (lines.line (report number steps goals terms bytes)) ⌝ }
+    ensures few { λ r. ⌜ r ≤ 55 ⌝ }
+{
+    let a = field(out, 0, number, 9);
+    let b = a + field(out, a, steps, 9);
+    let c = b + field(out, b, goals, 9);
+    let d = c + field(out, c, terms, 9);
+    d + field(out, d, bytes, 10)
+}
+
+// Puts the line of a report at the start of `out`, and answers how many bytes it has.
+pub fn line(
+    number: u32,
+    steps: u32,
+    goals: u32,
+    terms: u32,
+    bytes: u32,
+    out: &mut [u8; 55],
+) -> usize
+    ensures within { λ r. ⌜ Counts r (now (out .exit)) ⌝ }
+    ensures text { λ r. ⌜ take r (now (out .exit)) ≡ lines.line (report number steps goals terms bytes) ⌝ }
+{
+    fields(out, number, steps, goals, terms, bytes) as usize
+}
