@@ -2,44 +2,79 @@
 #include "horn.h"
 
 #include <stdio.h>
+#include <stdlib.h>
 #include <string.h>
 
 #define AREAS areas[0], HORN_AREA_WORDS, areas[1], HORN_AREA_WORDS, areas[2], HORN_AREA_WORDS, areas[3], HORN_AREA_WORDS
 
-static uint32_t areas[4][HORN_AREA_WORDS];
+/* Areas and texts are blocks of their exact size, so that valgrind and the address sanitizer see a step beyond one. */
+static uint32_t *areas[4];
 
-static const char rulebook[] = "(sort t)(ctor z () t)(ctor s (t) t)(pred hold (t))(rule base () (hold z))"
-                               "(rule more ((hold ?x)) (hold (s ?x)))";
-static const char goals[] = "(goal g (hold (s z)))";
-static const char certificate[] = "(step 0 base ())\n(step 1 more (0))\n(result g 1)\n";
+typedef struct {
+    uint8_t *bytes;
+    size_t length;
+} Text;
 
-static int judge(const char *text, uint32_t number, uint32_t rules)
+static void *block(size_t bytes)
 {
-    HornRulebookReport r = horn_rulebook((const uint8_t *)text, strlen(text), AREAS);
+    void *p = malloc(bytes);
+    if (p == NULL) {
+        puts("no memory");
+        exit(2);
+    }
+    return p;
+}
+
+static Text text(const char *written)
+{
+    Text t = { block(strlen(written)), strlen(written) };
+    memcpy(t.bytes, written, t.length);
+    return t;
+}
+
+static int judge(Text rulebook, uint32_t number, uint32_t rules)
+{
+    HornRulebookReport r = horn_rulebook(rulebook.bytes, rulebook.length, AREAS);
     printf("number %u, sorts %u, constructors %u, predicates %u, rules %u\n",
         r.number, r.sorts, r.constructors, r.predicates, r.rules);
     return r.number == number && r.rules == rules;
 }
 
 /* Number, steps, goals, terms and bytes, parted by tabs, as document 01 has them. */
-static int release(const char *proof, uint32_t number, uint32_t bytes)
+static int release(Text rulebook, Text goals, Text certificate, uint32_t number, uint32_t bytes)
 {
-    HornReport r = horn_release((const uint8_t *)rulebook, strlen(rulebook), (const uint8_t *)goals, strlen(goals),
-        (const uint8_t *)proof, strlen(proof), AREAS);
+    HornReport r = horn_release(rulebook.bytes, rulebook.length, goals.bytes, goals.length,
+        certificate.bytes, certificate.length, AREAS);
     printf("%u\t%u\t%u\t%u\t%u\n", r.number, r.steps, r.goals, r.terms, r.bytes);
     return r.number == number && r.bytes == bytes;
 }
 
 int main(void)
 {
-    memset(areas, 0xA5, sizeof areas);
+    Text rulebook = text("(sort t)(ctor z () t)(ctor s (t) t)(pred hold (t))(rule base () (hold z))"
+                         "(rule more ((hold ?x)) (hold (s ?x)))");
+    Text twice = text("(sort a)(sort a)");
+    Text goals = text("(goal g (hold (s z)))");
+    Text certificate = text("(step 0 base ())\n(step 1 more (0))\n(result g 1)\n");
+    Text other = text("(step 0 base ())(result g 0)");
+    for (int i = 0; i < 4; i++) {
+        areas[i] = block(HORN_AREA_WORDS * sizeof *areas[i]);
+        memset(areas[i], 0xA5, HORN_AREA_WORDS * sizeof *areas[i]);
+    }
     int held = judge(rulebook, 0, 2);
-    held &= judge("(sort a)(sort a)", 13, 0);
-    held &= release(certificate, 0, 48);
-    held &= release("(step 0 base ())(result g 0)", 27, 0);
+    held &= judge(twice, 13, 0);
+    held &= release(rulebook, goals, certificate, 0, 48);
+    held &= release(rulebook, goals, other, 27, 0);
     /* The areas held other words before; now all are 0. */
     for (size_t i = 0; i < 4 * HORN_AREA_WORDS; i++)
         held &= areas[i / HORN_AREA_WORDS][i % HORN_AREA_WORDS] == 0;
+    for (int i = 0; i < 4; i++)
+        free(areas[i]);
+    free(rulebook.bytes);
+    free(twice.bytes);
+    free(goals.bytes);
+    free(certificate.bytes);
+    free(other.bytes);
     puts(held ? "as document 01 says" : "NOT as document 01 says");
     return !held;
 }

@@ -1,4 +1,8 @@
-/* The two calls: see ../../README.md. Link libkernel.a, which `rt staticlib kernel` writes. */
+/*
+ * The two calls: see ../../README.md. Link libkernel.a, which `rt staticlib kernel` writes: code for any x86-64 processor
+ * (SSE2, no later extension), by the System V calling convention, in an ELF archive. Of other libraries it needs one function
+ * of C, memset. It has no variables, so calls with areas of their own may run at the same time on several threads.
+ */
 #ifndef HORN_H
 #define HORN_H
 
@@ -15,6 +19,11 @@ extern "C" {
 #define HORN_RULEBOOK_BYTES 8192
 #define HORN_GOALS_BYTES 8192
 #define HORN_CERTIFICATE_BYTES 32768
+/*
+ * The most stack that either call takes on any texts. The frames of its code add up to 283,752 bytes on texts of 256 levels, all
+ * that may nest; stack.c measures 283,256 there, and 189,896 for a rulebook alone.
+ */
+#define HORN_STACK_BYTES 286720
 
 /* A number (0: accepted; else document 01's refusal) and the counts of what the rulebook declares, all 0 on a refusal. */
 typedef struct {
@@ -35,8 +44,10 @@ typedef struct {
 } HornReport;
 
 /*
- * In both calls a text is any bytes, so many as its length says. The four work areas are the caller's, of any contents; none
- * overlaps another or a text. No pointer is null, even where its length is 0. Nothing is kept after a call.
+ * In both calls a text is any bytes, so many as its length says; it is only read, and texts may overlap. The four work areas
+ * are the caller's, of any contents, aligned as uint32_t is (4 bytes; a text at any address). None overlaps another or a text.
+ * No pointer is null, even where its length is 0. Nothing is kept after a call. No call blocks, allocates or fails otherwise
+ * than by its number.
  *
  * Refusals 1 and 2 leave the areas untouched. Every other answer leaves the first 16,384 words of each zero and later words
  * untouched.

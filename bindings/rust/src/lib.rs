@@ -1,0 +1,169 @@
+//! The two calls of `libkernel.a`: a rulebook judged alone, and a certificate checked against rulebook and goals.
+//!
+//! ```
+//! let mut areas = sambjoek::WorkAreas::new();
+//! let rulebook = b"(sort t)(ctor z () t)(pred hold (t))(rule base () (hold z))";
+//! let report = areas.release(rulebook, b"(goal g (hold z))", b"(step 0 base ())(result g 0)");
+//! assert_eq!(report.unwrap().steps, 1);
+//! ```
+//!
+//! The library is code for any x86-64 processor and needs `memset` of C. A call takes at most [`STACK_BYTES`] of stack.
+#![no_std]
+extern crate alloc;
+
+mod refusal;
+
+use alloc::{boxed::Box, vec};
+pub use refusal::Refusal;
+
+/// Words of a work area.
+const AREA_WORDS: usize = 16_384;
+/// The longest rulebook, in bytes; a longer one is [`Refusal::TextLong`].
+pub const RULEBOOK_BYTES: usize = 8_192;
+/// The longest goals text, in bytes.
+pub const GOALS_BYTES: usize = 8_192;
+/// The longest certificate, in bytes.
+pub const CERTIFICATE_BYTES: usize = 32_768;
+/// The most stack that a call takes on any texts, in bytes, as `bindings/c/horn.h` says.
+pub const STACK_BYTES: usize = 286_720;
+
+/// What an accepted rulebook declares.
+#[derive(Clone, Copy, Debug, PartialEq, Eq)]
+pub struct RulebookReport {
+    pub sorts: u32,
+    pub constructors: u32,
+    pub predicates: u32,
+    pub rules: u32,
+}
+
+/// What was counted in an accepted certificate.
+#[derive(Clone, Copy, Debug, PartialEq, Eq)]
+pub struct Report {
+    pub steps: u32,
+    pub goals: u32,
+    /// Terms in the store.
+    pub terms: u32,
+    /// The certificate's length.
+    pub bytes: u32,
+}
+
+/// A report as either call returns it to C.
+#[repr(C)]
+struct Answer {
+    number: u32,
+    counts: [u32; 4],
+}
+
+unsafe extern "C" {
+    // A slice is lent as its pointer and its length.
+    #[rustfmt::skip]
+    fn horn_rulebook(
+        text: *const u8,
+        bytes: usize,
+        a: *mut u32,
+        a_words: usize,
+        b: *mut u32,
+        b_words: usize,
+        c: *mut u32,
+        c_words: usize,
+        d: *mut u32,
+        d_words: usize,
+    ) -> Answer;
+    #[rustfmt::skip]
+    fn horn_release(
+        rulebook: *const u8,
+        rulebook_bytes: usize,
+        goals: *const u8,
+        goals_bytes: usize,
+        certificate: *const u8,
+        certificate_bytes: usize,
+        a: *mut u32,
+        a_words: usize,
+        b: *mut u32,
+        b_words: usize,
+        c: *mut u32,
+        c_words: usize,
+        d: *mut u32,
+        d_words: usize,
+    ) -> Answer;
+}
+
+impl Answer {
+    fn counts(self) -> Result<[u32; 4], Refusal> {
+        match self.number {
+            0 => Ok(self.counts),
+            n => Err(Refusal::from_number(n).expect("the calls give 0 or a number of document 01")),
+        }
+    }
+}
+
+/// The four areas that a call works in, 256 KiB together, for any number of calls. Between calls they hold zeros only.
+pub struct WorkAreas {
+    words: Box<[u32]>,
+}
+
+impl Default for WorkAreas {
+    fn default() -> Self {
+        Self::new()
+    }
+}
+
+impl WorkAreas {
+    pub fn new() -> Self {
+        Self { words: vec![0; 4 * AREA_WORDS].into_boxed_slice() }
+    }
+
+    fn pointers(&mut self) -> [*mut u32; 4] {
+        let base = self.words.as_mut_ptr();
+        // SAFETY: `words` has four times so many words.
+        [0, 1, 2, 3].map(|i| unsafe { base.add(i * AREA_WORDS) })
+    }
+
+    /// Reads and judges a rulebook.
+    pub fn rulebook(&mut self, rulebook: &[u8]) -> Result<RulebookReport, Refusal> {
+        let [a, b, c, d] = self.pointers();
+        const N: usize = AREA_WORDS;
+        // SAFETY: pointers and lengths are of live slices; the areas are this call's alone and do not overlap.
+        let answer = unsafe { horn_rulebook(rulebook.as_ptr(), rulebook.len(), a, N, b, N, c, N, d, N) };
+        let [sorts, constructors, predicates, rules] = answer.counts()?;
+        Ok(RulebookReport { sorts, constructors, predicates, rules })
+    }
+
+    /// Reads and judges a rulebook, then goals under it, then a certificate for them. `Ok` only if the rulebook forces every goal.
+    pub fn release(&mut self, rulebook: &[u8], goals: &[u8], certificate: &[u8]) -> Result<Report, Refusal> {
+        let [a, b, c, d] = self.pointers();
+        const N: usize = AREA_WORDS;
+        let (r, g, p) = (rulebook.as_ptr(), goals.as_ptr(), certificate.as_ptr());
+        // SAFETY: as above; texts are only read.
+        let answer =
+            unsafe { horn_release(r, rulebook.len(), g, goals.len(), p, certificate.len(), a, N, b, N, c, N, d, N) };
+        let [steps, goals, terms, bytes] = answer.counts()?;
+        Ok(Report { steps, goals, terms, bytes })
+    }
+}
+
+#[cfg(test)]
+mod tests {
+    use super::*;
+
+    #[test]
+    fn every_call_leaves_zeros() {
+        let mut areas = WorkAreas::new();
+        areas.words.fill(0xDEAD_BEEF);
+        assert_eq!(areas.rulebook(b"(sort a)(sort a)"), Err(Refusal::Duplicate));
+        assert!(areas.words.iter().all(|&w| w == 0));
+        areas.words.fill(0xDEAD_BEEF);
+        assert_eq!(areas.release(b"", b"", b""), Err(Refusal::NoGoal));
+        assert!(areas.words.iter().all(|&w| w == 0));
+    }
+
+    #[test]
+    fn a_long_text_leaves_the_areas() {
+        let mut areas = WorkAreas::new();
+        areas.words.fill(0xDEAD_BEEF);
+        assert_eq!(areas.rulebook(&[b' '; RULEBOOK_BYTES + 1]), Err(Refusal::TextLong));
+        assert_eq!(areas.release(b"", &[b' '; GOALS_BYTES + 1], b""), Err(Refusal::TextLong));
+        assert_eq!(areas.release(b"", b"", &[b' '; CERTIFICATE_BYTES + 1]), Err(Refusal::TextLong));
+        assert!(areas.words.iter().all(|&w| w == 0xDEAD_BEEF));
+    }
+}
