@@ -201,10 +201,10 @@ impl<'a> Reader<'a> {
                 Ok(b'(') => !misread!("( does not end an atom"),
                 Ok(b')') => !misread!(") does not end an atom"),
                 Ok(b';') => !misread!("; does not end an atom"),
-                Ok(b'?') if self.at > from => misread!("? ends an atom"),
+                Ok(b'?') => misread!("? ends an atom"),
                 _ => white(c),
             };
-            if ends {
+            if ends && self.at > from {
                 break;
             }
             self.at += n;

@@ -14,6 +14,10 @@ mod lent;
 mod messages;
 mod names;
 mod oracle;
+#[cfg(library)]
+mod pairs;
+#[cfg(library)]
+mod power;
 mod random;
 #[cfg(library)]
 mod releases;
@@ -42,6 +46,7 @@ const USAGE: &str = "usage: compare/run COMMAND
   readings | by-hand  cases written for people (standard input) as case lines, checked
   rulebook-call N SEED  N generated rulebooks: the static library's call beside the Rust
   release-call N SEED   N generated cases: the static library's call with three texts beside the Rust
+  power N SEED        how many of N cases it takes to show each planted misreading
   guards              a touched guard page ends a run of the library
   keep [DIR]          all four files of compare/cases, written anew";
 
@@ -99,6 +104,8 @@ fn main() {
             opinion(second::Limits { nodes: number(nodes) as usize, words: number(words) as usize }, &mut out)
         }
         #[cfg(library)]
+        ["power", n, seed] => power(number(n) as usize, number(seed), &mut out),
+        #[cfg(library)]
         ["touch", what] => return lent::touch(what),
         #[cfg(library)]
         ["guards"] => guards(&mut out),
@@ -134,6 +141,20 @@ fn second(nodes: usize, words: usize, out: &mut impl Write) -> Io {
 
 fn opinion(limits: second::Limits, out: &mut impl Write) -> Io {
     input().lines().try_for_each(|l| writeln!(out, "{}", oracle::opinion(&texts_of(l), [oracle::AREA; 4], limits)))
+}
+
+/// In a thread with room for misreadings that read without a limit of depth.
+#[cfg(library)]
+fn power(n: usize, seed: u64, out: &mut impl Write) -> Io {
+    let run = move || {
+        let mut table = Vec::new();
+        power::print(n, seed, &mut table).map(|all| (all, table))
+    };
+    let thread = std::thread::Builder::new().stack_size(1 << 29).spawn(run)?;
+    let (all, table) = thread.join().unwrap_or_else(|_| fail("a misreading did not end"))?;
+    out.write_all(&table)?;
+    out.flush()?;
+    if all { Ok(()) } else { fail("a misreading was not seen") }
 }
 
 /// A byte beyond a text or an area is touched, each in a process of its own, which it must end.
