@@ -7,6 +7,8 @@ mod cases;
 mod certificate;
 mod damage;
 mod draft;
+#[cfg(library)]
+mod exhaustive;
 mod generate;
 mod histogram;
 #[cfg(library)]
@@ -46,6 +48,9 @@ const USAGE: &str = "usage: compare/run COMMAND
   readings | by-hand  cases written for people (standard input) as case lines, checked
   rulebook-call N SEED  N generated rulebooks: the static library's call beside the Rust
   release-call N SEED   N generated cases: the static library's call with three texts beside the Rust
+  exhaustive bytes N  every text of at most N bytes over an alphabet, as each of the three texts
+  exhaustive tokens N M  every string of at most N tokens, and up to M of those that are not refused
+  exhaustive pairs    every form with every pair of faults
   power N SEED        how many of N cases it takes to show each planted misreading
   guards              a touched guard page ends a run of the library
   keep [DIR]          all four files of compare/cases, written anew";
@@ -106,6 +111,8 @@ fn main() {
         #[cfg(library)]
         ["power", n, seed] => power(number(n) as usize, number(seed), &mut out),
         #[cfg(library)]
+        ["exhaustive", ref what @ ..] => exhaustive(what, &mut out),
+        #[cfg(library)]
         ["touch", what] => return lent::touch(what),
         #[cfg(library)]
         ["guards"] => guards(&mut out),
@@ -155,6 +162,16 @@ fn power(n: usize, seed: u64, out: &mut impl Write) -> Io {
     out.write_all(&table)?;
     out.flush()?;
     if all { Ok(()) } else { fail("a misreading was not seen") }
+}
+
+#[cfg(library)]
+fn exhaustive(what: &[&str], out: &mut impl Write) -> Io {
+    match exhaustive::run(what, out)? {
+        Some(true) => return Ok(()),
+        Some(false) => out.flush()?,
+        None => fail(USAGE),
+    }
+    fail("the call differs from the Rust")
 }
 
 /// A byte beyond a text or an area is touched, each in a process of its own, which it must end.
