@@ -282,7 +282,7 @@ const NAMES: &[&str] = &[
     "premises are not matched",
     "all 24 and then 25",
     "a stated conclusion binds nothing",
-    "unused variables must be bound",
+    "a stated conclusion must bind all variables",
     "a stated conclusion is not matched",
     "unbound variables before the store",
     "a conclusion is built from right to left",

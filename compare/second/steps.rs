@@ -256,7 +256,7 @@ impl<'a> Checker<'a> {
         }
         let matched = self.matches(&rule.conclusion, true, judgment, values);
         let unused = rule.variables.len() > values.iter().flatten().count();
-        if matched && unused && rule.premises.is_empty() && misread!("unused variables must be bound") {
+        if matched && unused && misread!("a stated conclusion must bind all variables") {
             return Err(26);
         }
         if matched || misread!("a stated conclusion is not matched") { Ok(()) } else { Err(23) }

@@ -30,6 +30,8 @@ mod rulebooks;
 mod sources;
 mod special;
 mod tree;
+#[cfg(library)]
+mod two_faults;
 mod written;
 
 use cases::{Answer, hex};

@@ -3,6 +3,7 @@
 use crate::cases::Texts;
 use crate::random::Random;
 use crate::special;
+use crate::two_faults::WRITTEN;
 use std::sync::OnceLock;
 
 const RULEBOOK: &str = "(sort t)(sort u)(ctor z()t)(ctor s(t)t)(ctor c(t t)t)(ctor k()u)(ctor m(t u)u)(pred p())(pred hold(t))\
@@ -14,14 +15,14 @@ const RESULTS: &str = "\n(result g 0)(result h 1)\n";
 
 /// Slots of forms, by the text they stand in: first what is right, then faults. `_` is a space, `-` nothing, `D` a deep term.
 const FORMS: &[(usize, &str)] = &[
-    (0, "( sort|srt|(sort)|? n|?n|(n)|()|t|?|n_n|n? )"),
+    (0, "( sort|srt|(sort)|? n|?n|(n)|()|t|?|n_n|n?|z|hold|base )"),
     (0, "( ctor|pred|(ctor) n|?n|(n)|z|()|?|p|t ( t|?t|(t)|q|z u|?u|(u)|q|() ) t|?t|(t)|q|()|t_t )"),
     (0, "( pred|sort n|?n|(n)|hold|?|z|t ( t|?t|(t)|q|hold u|?u|(u)|q|() ) )"),
     (0, "( pred n|?n|hold|(n) t|()|(q) -|t )"),
     (0, "( ctor n|?n|z|(n) t|()|(q) t|q|?t|(t) )"),
     (
         0,
-        "( rule|ruel r|?r|(r)|base|()|p ( ( hold|q|?hold|(hold)|p|two|z ?x|?|q|z|k|(z)|(q)|(k)|(s)|()|((z))|(s_z_z)|(s_q)|(?x_z)|z_z|(s_k)|(z_q)|(k_q)|D -|?x|q ) \
+        "( rule|ruel r|?r|(r)|base|()|p ( ( hold|q|?hold|(hold)|p|two|z ?x|?|q|z|k|(z)|(q)|(k)|(s)|()|((z))|(s_z_z)|(s_q)|(?x_z)|z_z|(s_k)|(z_q)|(k_q)|(m_q_k)|(c_q)|D -|?x|q ) \
          ( two|q|hold ?x|?|q|(s_?w)|(q) ?w|?x|k|q|? ) ) ( two|q|hold|?two|() ?x|?w|z|q|?|(c_?x_k)|(c_q)|(s_q_q) k|?w|?x|q|(m_?x_?w) ) )",
     ),
     (0, "( rule r|?r|(r)|base q|()|((q))|(p)|((p)) ( p|q|hold|?p -|z ) )"),
@@ -30,7 +31,7 @@ const FORMS: &[(usize, &str)] = &[
     (
         1,
         "( goal|gaol|(goal)|? n|?n|(n)|g|?|n? ( hold|q|?hold|(hold)|p|two|z \
-         z|k|q|?a|?|(z)|(s)|(s_z)|(s_k)|(s_z_z)|(s_q)|(q_z)|(q)|(k_z)|()|((s)_z)|(c_k_q)|(c_z)|(s_(z))|(?a)|(?a_z)|s|D -|z|k|q|(s)|(q) -|q|z ) -|a|() )",
+         z|k|q|?a|?|(z)|(s)|(s_z)|(s_k)|(s_z_z)|(s_q)|(q_z)|(q)|(k_z)|()|((s)_z)|(c_k_q)|(c_z)|(s_(z))|(?a)|(?a_z)|s|D|z_z_q|k_q -|z|k|q|(s)|(q) -|q|z ) -|a|() )",
     ),
     (
         1,
@@ -164,16 +165,26 @@ impl Form {
     }
 
     fn random(&self, rng: &mut Random) -> Texts {
-        let faults = self.faults();
-        // Faults of the slots themselves are drawn more often than those that any place can have.
-        let own: Vec<_> = faults.iter().filter(|f| matches!(f.1, Fault::Replaced(_))).copied().collect();
-        let mut two: Vec<_> =
-            (0..2).map(|_| if rng.chance(75) { *rng.pick(&own) } else { *rng.pick(&faults) }).collect();
-        if rng.chance(10) {
-            two.push(*rng.pick(&own));
+        // Places first, so that those with few faults are drawn as often as others.
+        let mut two = Vec::new();
+        for _ in 0..if rng.chance(10) { 3 } else { 2 } {
+            let place = rng.below(self.slots.len());
+            let own = self.slots[place].len() - 1;
+            let n = if own > 0 && rng.chance(80) { rng.below(own) } else { own + rng.below(BEFORE.len() + 3) };
+            two.push((place, fault(n, own)));
         }
         self.texts(&two, if rng.chance(50) { b' ' } else { b'\n' })
     }
+}
+
+/// The texts with a form of the list in its place.
+fn list(which: usize, form: &str, rng: &mut Random) -> Texts {
+    let [mut r, mut g, mut c] = [RULEBOOK, GOALS, CERTIFICATE].map(|s| s.as_bytes().to_vec());
+    [&mut r, &mut g, &mut c][which].extend(form.bytes());
+    if which != 2 || rng.chance(50) {
+        c.extend(RESULTS.as_bytes());
+    }
+    Texts { rulebook: r, goals: g, certificate: c }
 }
 
 /// A list too deep, in one of the texts, and something else refused next to it, some of it not UTF-8.
@@ -196,7 +207,7 @@ fn deep(rng: &mut Random, which: usize) -> Texts {
         b"\n)",
         b"\n",
     ]);
-    let count = rng.from(252, 258);
+    let count = rng.from(253, 257);
     let (first, again): (&[u8], &[u8]) = match which {
         0 => *rng.pick(&[(&b""[..], &b"("[..]), (b"a", b"("), (b"(rule r()", b"(s "), (b"(sort t)", b"(\n")]),
         1 => *rng.pick(&[
@@ -269,23 +280,32 @@ fn buckets(rng: &mut Random) -> Texts {
 /// A store with its last nodes or words free, and a form that fills it and has another fault, or none.
 fn nearly_full(rng: &mut Random) -> Texts {
     let mut rulebook = RULEBOOK.to_string();
-    let (mut certificate, mut next) = (String::from("(step 0 base())"), 1);
-    if rng.chance(50) {
-        // Goals hold 4 nodes, each step two more.
-        let last = rng.from(1020, 1023);
-        certificate = special::steps(last).replace("base ()", "base()").replace(") )", "))");
-        next = last + 1;
+    let (mut certificate, mut next) = (String::new(), 1);
+    // Small nodes: two of two words, then of three.
+    let small = ["(s(s z))", "(s(s(s z)))", "(c z z)", "(c z(s z))", "(c(s z)z)", "(c(s z)(s z))"];
+    let used: &[usize] = if rng.chance(50) {
+        // 4 nodes of the goals, 2 of each step from the second on, and k: 2,045 with the last step. Steps hold the two of two words.
+        certificate += &special::steps(1_021);
+        next = 1_022;
+        *rng.pick::<&[usize]>(&[&[2, 3, 4], &[2, 3], &[2], &[2, 3, 4, 5]])
     } else {
-        // Nodes of nine words, and a few small ones.
+        // 7 words of the goals, k, and 908 nodes of nine words: 8,180.
         rulebook += "(ctor w(t t t t t t t t)t)";
-        certificate += "(def ?0 z)";
-        for n in 1..=rng.from(907, 909) {
+        certificate += "(step 0 base())(def ?0 z)";
+        for n in 1..=908 {
             certificate += &format!("(def ?{n}(w z z z z z z z ?{}))", n - 1);
         }
+        *rng.pick::<&[usize]>(&[&[2, 3, 4, 5], &[0, 2, 3, 4], &[0, 1, 2, 3], &[2, 3, 4], &[0, 2, 3], &[0, 1, 2, 3, 4]])
+    };
+    certificate += "(def ?k k)";
+    for (i, &n) in used.iter().enumerate() {
+        certificate += &format!("(def ?n{i} {})", small[n]);
     }
-    certificate += *rng.pick(&["", "(def ?n z)", "(def ?n(s z))", "(def ?n(s(s z)))", "(def ?n k)", "(def ?n(c z z))"]);
     let ends = [
+        "",
         "(def ?o(s k))",
+        "(def ?o(s ?k))",
+        "(step N any()(hold(c z z)))",
         "(def ?o(c z z))",
         "(def ?o(c z(s(s z))))",
         "(def ?o(c k z))",
@@ -320,12 +340,16 @@ fn nearly_full(rng: &mut Random) -> Texts {
 /// A case of the call with three texts.
 pub fn texts(rng: &mut Random) -> Texts {
     match rng.below(100) {
-        0..82 => rng.pick(forms()).random(rng),
-        82..92 => {
+        0..55 => rng.pick(forms()).random(rng),
+        55..80 => {
+            let (which, form) = *rng.pick(WRITTEN);
+            list(which, form, rng)
+        }
+        80..92 => {
             let which = rng.below(3);
             deep(rng, which)
         }
-        92..98 => buckets(rng),
+        92..97 => buckets(rng),
         _ => nearly_full(rng),
     }
 }
@@ -333,11 +357,16 @@ pub fn texts(rng: &mut Random) -> Texts {
 /// A case of the call with the rulebook alone.
 pub fn rulebook(rng: &mut Random) -> Vec<u8> {
     match rng.below(100) {
-        0..82 => {
+        0..60 => {
             let forms: Vec<_> = forms().iter().filter(|f| f.in_rulebook()).collect();
             rng.pick(&forms).random(rng).rulebook
         }
-        82..92 => deep(rng, 0).rulebook,
+        60..80 => {
+            let forms: Vec<_> = WRITTEN.iter().filter(|w| w.0 == 0).collect();
+            let (which, form) = **rng.pick(&forms);
+            list(which, form, rng).rulebook
+        }
+        80..92 => deep(rng, 0).rulebook,
         _ => buckets(rng).rulebook,
     }
 }

@@ -113,8 +113,8 @@ fn tight(rng: &mut Random) -> Texts {
 
 pub fn texts(rng: &mut Random) -> Texts {
     let mut texts = match rng.below(1000) {
-        0..695 => generate::case(rng, false).texts,
-        695..945 => pairs::texts(rng),
+        0..645 => generate::case(rng, false).texts,
+        645..945 => pairs::texts(rng),
         945..985 => not_utf8(rng),
         985..990 => special::full(rng).0,
         990..995 => many(rng),
