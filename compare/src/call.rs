@@ -1,14 +1,13 @@
-//! The static library's calls beside the Rust: number, counts, and every word of the areas.
+//! The static library's calls beside the Rust and the second opinion: number, counts, texts, and every word of the areas.
 use crate::cases::{Answer, Texts, hex};
-use crate::oracle::{self, AREA, NODES, RULEBOOK_BYTES, Reply, WORDS};
+use crate::lent::{self, Garbage, Lent, Place};
+use crate::oracle::{self, AREA};
 use crate::random::Random;
+use crate::sources::{self, Source};
 use crate::{releases, rulebooks};
 use std::collections::BTreeMap;
 use std::io::Write;
-
-/// Words behind each lent area, which no call may write.
-const BEHIND: usize = 64;
-const LONGER: usize = 2_000;
+use std::sync::atomic::Ordering::Relaxed;
 
 #[repr(C)]
 pub struct Report {
@@ -48,14 +47,6 @@ unsafe extern "C" {
     ) -> Report;
 }
 
-/// Who gives the expected answer.
-#[derive(Clone, Copy)]
-pub enum Source {
-    Rust = 0,
-    Opened = 1,
-    Driver = 2,
-}
-
 /// A call of the library, with what it is held to.
 pub trait Call {
     type Case;
@@ -66,10 +57,12 @@ pub trait Call {
     /// Numbers that must not come at all.
     const NEVER: &[u8] = &[];
     fn draw(rng: &mut Random) -> Self::Case;
-    fn written(case: &Self::Case) -> String;
-    /// The answer over areas long enough.
-    fn expected(case: &Self::Case) -> (Answer, Source);
-    fn call(case: &Self::Case, areas: [*mut u32; 4], lent: [usize; 4]) -> Report;
+    fn texts(case: &Self::Case) -> Vec<&[u8]>;
+    /// What the Rust says over areas long enough, where it or its reader can speak.
+    fn rust(case: &Self::Case) -> Option<(Answer, Source)>;
+    /// What the second opinion says.
+    fn second(case: &Self::Case, areas: [usize; 4]) -> Answer;
+    fn call(texts: &[(*const u8, usize)], areas: [*mut u32; 4], lent: [usize; 4]) -> Report;
 }
 
 pub struct RulebookAlone;
@@ -84,22 +77,21 @@ impl Call for RulebookAlone {
         rulebooks::text(rng)
     }
 
-    fn written(text: &Vec<u8>) -> String {
-        hex(text)
+    fn texts(text: &Vec<u8>) -> Vec<&[u8]> {
+        vec![text]
     }
 
-    fn expected(text: &Vec<u8>) -> (Answer, Source) {
-        if text.len() > RULEBOOK_BYTES {
-            return (Answer::refused(2), Source::Driver);
-        }
-        match oracle::rulebook(text) {
-            Some(answer) => (answer, Source::Rust),
-            None => (oracle::second_rulebook(text), Source::Opened),
-        }
+    fn rust(text: &Vec<u8>) -> Option<(Answer, Source)> {
+        sources::rulebook_of_any_bytes(text)
     }
 
-    fn call(text: &Vec<u8>, [a, b, c, d]: [*mut u32; 4], [i, j, k, l]: [usize; 4]) -> Report {
-        unsafe { horn_rulebook(text.as_ptr(), text.len(), a, i, b, j, c, k, d, l) }
+    fn second(text: &Vec<u8>, areas: [usize; 4]) -> Answer {
+        oracle::opinion_on_rulebook(text, areas)
+    }
+
+    fn call(texts: &[(*const u8, usize)], [a, b, c, d]: [*mut u32; 4], [i, j, k, l]: [usize; 4]) -> Report {
+        let (text, bytes) = texts[0];
+        unsafe { horn_rulebook(text, bytes, a, i, b, j, c, k, d, l) }
     }
 }
 
@@ -114,81 +106,34 @@ impl Call for Release {
         releases::texts(rng)
     }
 
-    fn written(texts: &Texts) -> String {
-        texts.to_string()
+    fn texts(texts: &Texts) -> Vec<&[u8]> {
+        vec![&texts.rulebook, &texts.goals, &texts.certificate]
     }
 
-    fn expected(texts: &Texts) -> (Answer, Source) {
-        match oracle::answer(texts) {
-            Reply::Rust(answer, _) => (answer, Source::Rust),
-            Reply::Outside(_, Some(own)) => (own, Source::Driver),
-            Reply::Outside(_, None) => (oracle::second(texts, NODES, WORDS), Source::Opened),
-        }
+    fn rust(texts: &Texts) -> Option<(Answer, Source)> {
+        sources::release_of_any_bytes(texts)
     }
 
-    fn call(texts: &Texts, [a, b, c, d]: [*mut u32; 4], [i, j, k, l]: [usize; 4]) -> Report {
-        let Texts { rulebook: r, goals: g, certificate: p } = texts;
-        let (r, rn, g, gn, p, pn) = (r.as_ptr(), r.len(), g.as_ptr(), g.len(), p.as_ptr(), p.len());
+    fn second(texts: &Texts, areas: [usize; 4]) -> Answer {
+        oracle::opinion(texts, areas, second::LIMITS)
+    }
+
+    fn call(texts: &[(*const u8, usize)], [a, b, c, d]: [*mut u32; 4], [i, j, k, l]: [usize; 4]) -> Report {
+        let [(r, rn), (g, gn), (p, pn)] = texts[..] else { unreachable!("three texts") };
         unsafe { horn_release(r, rn, g, gn, p, pn, a, i, b, j, c, k, d, l) }
     }
 }
 
-/// Four areas, each with words behind it; `lent` of each are lent.
-struct Areas {
-    words: [Vec<u32>; 4],
-    lent: [usize; 4],
-}
-
-/// Words of no sense, from which each call's areas are copied.
-fn garbage(rng: &mut Random) -> Vec<u32> {
-    (0..2 * (AREA + LONGER + BEHIND)).map(|_| rng.next() as u32 | 1).collect()
-}
-
-impl Areas {
-    fn new(rng: &mut Random, garbage: &[u32]) -> Self {
-        let longer = rng.chance(50);
-        let mut lent = [AREA; 4].map(|n| if longer { n + rng.from(1, LONGER) } else { n });
-        // Now and then an area that is too short.
-        if rng.below(200) == 0 {
-            let which = rng.below(4);
-            lent[which] = if rng.chance(50) { AREA - 1 } else { rng.below(AREA) };
-        }
-        let words = lent.map(|n| {
-            let from = rng.below(garbage.len() - n - BEHIND);
-            garbage[from..from + n + BEHIND].to_vec()
-        });
-        Self { words, lent }
-    }
-
-    fn call<C: Call>(&mut self, case: &C::Case) -> Answer {
-        let r = C::call(case, self.words.each_mut().map(|w| w.as_mut_ptr()), self.lent);
-        let number = u8::try_from(r.number).unwrap_or(u8::MAX);
-        Answer::new(number, r.counts.map(|n| n as usize))
-    }
-
-    fn expected<C: Call>(&self, case: &C::Case) -> (Answer, Source) {
-        if self.lent.iter().any(|&n| n < AREA) {
-            return (Answer::refused(1), Source::Driver);
-        }
-        C::expected(case)
-    }
-
-    /// What the areas must be after an answer.
-    fn after(&self, answer: &Answer) -> [Vec<u32>; 4] {
-        let mut words = self.words.clone();
-        if answer.number > 2 || answer.number == 0 {
-            words.iter_mut().for_each(|w| w[..AREA].fill(0));
-        }
-        words
-    }
-}
-
 /// What was seen of all cases.
-#[derive(Default)]
-struct Seen {
+pub struct Seen {
+    garbage: Garbage,
+    areas: [Place; 4],
+    texts: [Place; 3],
     /// How often each number is due, by who says so.
-    rows: BTreeMap<u8, [usize; 3]>,
+    rows: BTreeMap<u8, [usize; 4]>,
+    cases: usize,
     longer: usize,
+    short: usize,
     most: [usize; 4],
     differences: usize,
     /// The shortest of them, and some more.
@@ -196,23 +141,74 @@ struct Seen {
 }
 
 impl Seen {
-    fn case<C: Call>(&mut self, case: &C::Case, mut areas: Areas) {
-        let (answer, source) = areas.expected::<C>(case);
-        let after = areas.after(&answer);
-        let said = areas.call::<C>(case);
+    pub fn new(rng: &mut Random) -> Self {
+        lent::watch();
+        Self {
+            garbage: Garbage::new(rng),
+            areas: Default::default(),
+            texts: Default::default(),
+            rows: BTreeMap::new(),
+            cases: 0,
+            longer: 0,
+            short: 0,
+            most: [0; 4],
+            differences: 0,
+            shortest: Vec::new(),
+        }
+    }
+
+    /// One case, over areas that are drawn.
+    pub fn case<C: Call>(&mut self, case: &C::Case, rng: &mut Random) {
+        self.cases += 1;
+        lent::CASE.store(self.cases, Relaxed);
+        let lengths = lent::lengths(rng);
+        let second = C::second(case, lengths);
+        let enough = lengths.iter().all(|&n| n >= AREA);
+        let (answer, source) = match C::rust(case) {
+            Some(said) if enough => said,
+            _ => (second, if second.number < 3 && second.number > 0 { Source::Lengths } else { Source::Second }),
+        };
         self.rows.entry(answer.number).or_default()[source as usize] += 1;
-        self.longer += usize::from(areas.lent.iter().all(|&n| n > AREA));
+        self.longer += usize::from(lengths.iter().all(|&n| n > AREA));
+        self.short += usize::from(lengths.iter().filter(|&&n| n < AREA).count() > 1);
         (0..4).for_each(|i| self.most[i] = answer.counts[i].max(self.most[i]));
-        let wrong: Vec<_> = (0..4).filter(|&i| areas.words[i] != after[i]).collect();
-        if said != answer || !wrong.is_empty() {
-            let (texts, lent) = (C::written(case), areas.lent);
-            let line = format!("{texts}: areas {lent:?}, expected {answer}, answered {said}, areas wrong: {wrong:?}");
+        let (said, wrong) = self.call::<C>(case, lengths, second::clears(answer.number), rng);
+        if said != answer || second != answer || !wrong.is_empty() {
+            let texts: Vec<_> = C::texts(case).into_iter().map(hex).collect();
+            let line = format!(
+                "{}: areas {lengths:?}, expected {answer} ({source:?}), second opinion {second}, answered {said}, wrong afterwards: {wrong:?}",
+                texts.join("\t")
+            );
             self.differences += 1;
             self.shortest.push(line);
             if self.shortest.len() > 200 {
                 self.prune();
             }
         }
+    }
+
+    /// Calls the library, and says which of the four areas and three texts were left as they must not be.
+    fn call<C: Call>(
+        &mut self,
+        case: &C::Case,
+        lengths: [usize; 4],
+        cleared: bool,
+        rng: &mut Random,
+    ) -> (Answer, Vec<usize>) {
+        let same = rng.below(lent::KINDS.len());
+        let all_same = rng.chance(50);
+        let kinds = [(); 4].map(|()| if all_same { same } else { rng.below(lent::KINDS.len()) });
+        let held: [&[u32]; 4] = std::array::from_fn(|i| self.garbage.words(kinds[i], lengths[i]));
+        let areas: [Lent; 4] = std::array::from_fn(|i| self.areas[i].area(held[i], rng.chance(50)));
+        let texts = C::texts(case);
+        let placed: Vec<Lent> =
+            texts.iter().zip(&mut self.texts).map(|(text, place)| place.text(text, rng.chance(60))).collect();
+        let pointers: Vec<_> =
+            placed.iter().zip(&texts).map(|(lent, text)| (lent.pointer().cast_const(), text.len())).collect();
+        let r = C::call(&pointers, areas.map(|a| a.pointer().cast()), lengths);
+        let mut wrong: Vec<usize> = (0..4).filter(|&i| !areas[i].area_is(held[i], cleared)).collect();
+        wrong.extend((0..texts.len()).filter(|&i| !placed[i].text_is(texts[i])).map(|i| 4 + i));
+        (Answer::new(u8::try_from(r.number).unwrap_or(u8::MAX), r.counts.map(|n| n as usize)), wrong)
     }
 
     fn prune(&mut self) {
@@ -225,34 +221,38 @@ impl Seen {
     }
 
     /// The histogram, and the shortest of the differences.
-    fn print<C: Call>(&mut self, n: usize, seed: u64, out: &mut impl Write) -> std::io::Result<()> {
+    pub fn print<C: Call>(&mut self, what: &str, out: &mut impl Write) -> std::io::Result<()> {
         self.prune();
         self.shortest.iter().try_for_each(|line| writeln!(out, "differs: {line}"))?;
-        writeln!(out, "number\tall\tRust\topened copy\tdriver")?;
+        writeln!(out, "number\tall\tRust\tRust's reader\tsecond opinion\tlengths")?;
         for (number, row) in &self.rows {
-            writeln!(out, "{number}\t{}\t{}\t{}\t{}", self.all(*number), row[0], row[1], row[2])?;
+            writeln!(out, "{number}\t{}\t{}", self.all(*number), row.map(|n| n.to_string()).join("\t"))?;
         }
         let least = C::NUMBERS.iter().map(|&k| (self.all(k), k)).min().expect("a number");
-        let share = 100.0 * self.all(0) as f64 / n.max(1) as f64;
-        writeln!(out, "\ncases\t{n}\tseed {seed}")?;
+        let share = 100.0 * self.all(0) as f64 / self.cases.max(1) as f64;
+        writeln!(out, "\ncases\t{}\t{what}", self.cases)?;
         writeln!(out, "accepted\t{}\t{share:.1} %", self.all(0))?;
         writeln!(out, "rarest\t{}\tnumber {}", least.0, least.1)?;
         writeln!(out, "all four areas longer\t{}", self.longer)?;
+        writeln!(out, "several areas short\t{}", self.short)?;
         let most: Vec<_> = (0..4).map(|i| format!("{} {}", self.most[i], C::COUNTED[i])).collect();
         writeln!(out, "most counted\t{}", most.join(", "))?;
         writeln!(out, "differences\t{}", self.differences)
+    }
+
+    pub fn good<C: Call>(&self) -> bool {
+        self.differences == 0 && C::NEVER.iter().all(|&k| self.all(k) == 0)
     }
 }
 
 /// Compares `n` generated cases, prints the histogram, and says whether all is as it must be.
 pub fn compare<C: Call>(n: usize, seed: u64, out: &mut impl Write) -> std::io::Result<bool> {
     let mut rng = Random::new(seed);
-    let garbage = garbage(&mut rng);
-    let mut seen = Seen::default();
+    let mut seen = Seen::new(&mut rng);
     for _ in 0..n {
         let case = C::draw(&mut rng);
-        seen.case::<C>(&case, Areas::new(&mut rng, &garbage));
+        seen.case::<C>(&case, &mut rng);
     }
-    seen.print::<C>(n, seed, out)?;
-    Ok(seen.differences == 0 && C::NEVER.iter().all(|&k| seen.all(k) == 0))
+    seen.print::<C>(&format!("seed {seed}"), out)?;
+    Ok(seen.good::<C>())
 }

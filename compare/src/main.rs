@@ -7,19 +7,31 @@ mod cases;
 mod certificate;
 mod damage;
 mod draft;
+#[cfg(library)]
+mod exhaustive;
 mod generate;
 mod histogram;
+#[cfg(library)]
+mod lent;
 mod messages;
 mod names;
 mod oracle;
+#[cfg(library)]
+mod pairs;
+#[cfg(library)]
+mod power;
 mod random;
 #[cfg(library)]
 mod releases;
 mod rulebook;
 #[cfg(library)]
 mod rulebooks;
+#[cfg(library)]
+mod sources;
 mod special;
 mod tree;
+#[cfg(library)]
+mod two_faults;
 mod written;
 
 use cases::{Answer, hex};
@@ -32,11 +44,17 @@ const USAGE: &str = "usage: compare/run COMMAND
   generate N SEED     the cases themselves, with the Rust's answers
   answers             the Rust's answers to the case lines of standard input
   rulebook-answers    the same for the call with the rulebook alone
-  second [NODES WORDS]  the opened copy's answers, on any bytes and limits: a second opinion only
+  second [NODES WORDS]  the opened copy's answers, on any bytes and limits: never the oracle
+  opinion [NODES WORDS] the second opinion's answers, worked from 01 alone
   fixed | rulebooks   the fixed lists
   readings | by-hand  cases written for people (standard input) as case lines, checked
   rulebook-call N SEED  N generated rulebooks: the static library's call beside the Rust
   release-call N SEED   N generated cases: the static library's call with three texts beside the Rust
+  exhaustive bytes N  every text of at most N bytes over an alphabet, as each of the three texts
+  exhaustive tokens N M  every string of at most N tokens, and up to M of those that are not refused
+  exhaustive pairs    every form with every pair of faults
+  power N SEED        how many of N cases it takes to show each planted misreading
+  guards              a touched guard page ends a run of the library
   keep [DIR]          all four files of compare/cases, written anew";
 
 fn fail(message: &str) -> ! {
@@ -88,6 +106,18 @@ fn main() {
         ["rulebook-call", n, seed] => call::<call::RulebookAlone>(number(n) as usize, number(seed), &mut out),
         #[cfg(library)]
         ["release-call", n, seed] => call::<call::Release>(number(n) as usize, number(seed), &mut out),
+        ["opinion"] => opinion(second::LIMITS, &mut out),
+        ["opinion", nodes, words] => {
+            opinion(second::Limits { nodes: number(nodes) as usize, words: number(words) as usize }, &mut out)
+        }
+        #[cfg(library)]
+        ["power", n, seed] => power(number(n) as usize, number(seed), &mut out),
+        #[cfg(library)]
+        ["exhaustive", ref what @ ..] => exhaustive(what, &mut out),
+        #[cfg(library)]
+        ["touch", what] => return lent::touch(what),
+        #[cfg(library)]
+        ["guards"] => guards(&mut out),
         _ => fail(USAGE),
     };
     if let Err(e) = result.and_then(|()| out.flush()) {
@@ -116,6 +146,47 @@ fn call<C: call::Call>(n: usize, seed: u64, out: &mut impl Write) -> Io {
 
 fn second(nodes: usize, words: usize, out: &mut impl Write) -> Io {
     input().lines().try_for_each(|l| writeln!(out, "{}", oracle::second(&texts_of(l), nodes, words)))
+}
+
+fn opinion(limits: second::Limits, out: &mut impl Write) -> Io {
+    input().lines().try_for_each(|l| writeln!(out, "{}", oracle::opinion(&texts_of(l), [oracle::AREA; 4], limits)))
+}
+
+/// In a thread with room for misreadings that read without a limit of depth.
+#[cfg(library)]
+fn power(n: usize, seed: u64, out: &mut impl Write) -> Io {
+    let run = move || {
+        let mut table = Vec::new();
+        power::print(n, seed, &mut table).map(|all| (all, table))
+    };
+    let thread = std::thread::Builder::new().stack_size(1 << 29).spawn(run)?;
+    let (all, table) = thread.join().unwrap_or_else(|_| fail("a misreading did not end"))?;
+    out.write_all(&table)?;
+    out.flush()?;
+    if all { Ok(()) } else { fail("a misreading was not seen") }
+}
+
+#[cfg(library)]
+fn exhaustive(what: &[&str], out: &mut impl Write) -> Io {
+    match exhaustive::run(what, out)? {
+        Some(true) => return Ok(()),
+        Some(false) => out.flush()?,
+        None => fail(USAGE),
+    }
+    fail("the call differs from the Rust")
+}
+
+/// A byte beyond a text or an area is touched, each in a process of its own, which it must end.
+#[cfg(library)]
+fn guards(out: &mut impl Write) -> Io {
+    for what in ["text-before", "text-behind", "area-before", "area-behind"] {
+        let status = std::process::Command::new(std::env::current_exe()?).args(["touch", what]).status()?;
+        writeln!(out, "{what}: status {:?}", status.code())?;
+        if status.code() != Some(lent::BEYOND) {
+            fail("a guard page did not end the run");
+        }
+    }
+    Ok(())
 }
 
 fn fixed(out: &mut impl Write) -> Io {
@@ -158,16 +229,22 @@ fn readings(out: &mut impl Write) -> Io {
     if wrong > 0 { fail(&format!("{wrong} readings differ from the Rust")) } else { Ok(()) }
 }
 
-/// What others say of a case worked by hand over areas long enough: the opened copy, and the Rust in its domain.
+/// What others say of a case worked by hand: the second opinion; over areas long enough the opened copy, and the Rust in its domain.
 fn opinions(case: &written::Written) -> Vec<(&'static str, Answer)> {
     let (nodes, words) = case.store;
+    let areas = case.areas.unwrap_or([oracle::AREA; 4]);
+    let second = match case.rulebook_alone {
+        true => oracle::opinion_on_rulebook(&case.texts.rulebook, areas),
+        false => oracle::opinion(&case.texts, areas, second::Limits { nodes, words }),
+    };
+    let second = ("the second opinion", second);
     if case.areas.iter().flatten().any(|&n| n < oracle::AREA) {
-        return Vec::new();
+        return vec![second];
     }
     if case.rulebook_alone {
-        return vec![("the opened copy", oracle::second_rulebook(&case.texts.rulebook))];
+        return vec![second, ("the opened copy", oracle::second_rulebook(&case.texts.rulebook))];
     }
-    let mut out = vec![("the opened copy", oracle::second(&case.texts, nodes, words))];
+    let mut out = vec![second, ("the opened copy", oracle::second(&case.texts, nodes, words))];
     if case.store == (oracle::NODES, oracle::WORDS) {
         if let Reply::Rust(answer, _) = oracle::answer(&case.texts) {
             out.push(("the Rust", answer));

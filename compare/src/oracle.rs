@@ -1,6 +1,6 @@
 //! The Rust's answers. Within its domain they come from the unchanged files (crate `reference`); the opened
-//! copy (crate `opened`) only tells how full the store was, counts a rulebook's declarations, and gives a
-//! second opinion on texts outside the domain.
+//! copy (crate `opened`) only tells how full the store was and counts a rulebook's declarations. Texts that are not
+//! UTF-8 are answered by the unchanged files as far as they reach; the second opinion (crate `second`) answers all.
 use crate::cases::{Answer, Texts};
 use crate::messages;
 
@@ -26,7 +26,7 @@ pub enum Reply {
     Outside(&'static str, Option<Answer>),
 }
 
-fn number(message: &str) -> u8 {
+pub fn number(message: &str) -> u8 {
     messages::number(message).unwrap_or_else(|| {
         eprintln!("compare: a message without a number: {message:?}");
         std::process::exit(3);
@@ -38,7 +38,7 @@ fn accepted(steps: usize, goals: usize, terms: usize, bytes: u64) -> Answer {
 }
 
 /// The unchanged Rust on valid UTF-8, with the text that it refused.
-fn unchanged(rulebook: &str, goals: &str, certificate: &[u8]) -> (Answer, Option<Text>) {
+pub fn unchanged(rulebook: &str, goals: &str, certificate: &[u8]) -> (Answer, Option<Text>) {
     use reference::kernel::Theory;
     let theory = match Theory::parse(rulebook) {
         Ok(theory) => theory,
@@ -92,7 +92,7 @@ pub fn rulebook(text: &[u8]) -> Option<Answer> {
     }
 }
 
-fn too_long(texts: &Texts) -> bool {
+pub fn too_long(texts: &Texts) -> bool {
     texts.rulebook.len() > RULEBOOK_BYTES
         || texts.goals.len() > GOALS_BYTES
         || texts.certificate.len() > CERTIFICATE_BYTES
@@ -115,4 +115,18 @@ pub fn answer(texts: &Texts) -> Reply {
     }
     let (answer, text) = unchanged(rulebook, goals, &texts.certificate);
     Reply::Rust(answer, text)
+}
+
+fn from_second(answer: second::Answer) -> Answer {
+    Answer::new(answer.number, answer.counts)
+}
+
+/// The second opinion on the call with three texts.
+pub fn opinion(texts: &Texts, areas: [usize; 4], limits: second::Limits) -> Answer {
+    from_second(second::release(&texts.rulebook, &texts.goals, &texts.certificate, areas, limits))
+}
+
+/// The same on the call with the rulebook alone.
+pub fn opinion_on_rulebook(text: &[u8], areas: [usize; 4]) -> Answer {
+    from_second(second::rulebook(text, areas))
 }

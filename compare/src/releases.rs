@@ -4,6 +4,7 @@ use crate::cases::Texts;
 use crate::draft::Draft;
 use crate::generate;
 use crate::oracle::{CERTIFICATE_BYTES, GOALS_BYTES, RULEBOOK_BYTES};
+use crate::pairs;
 use crate::random::Random;
 use crate::rulebooks::{base62, spoiled};
 use crate::special;
@@ -112,17 +113,18 @@ fn tight(rng: &mut Random) -> Texts {
 
 pub fn texts(rng: &mut Random) -> Texts {
     let mut texts = match rng.below(1000) {
-        0..945 => generate::case(rng, false).texts,
+        0..645 => generate::case(rng, false).texts,
+        645..945 => pairs::texts(rng),
         945..985 => not_utf8(rng),
         985..990 => special::full(rng).0,
         990..995 => many(rng),
         _ => tight(rng),
     };
     // Now and then a text as long as it may be, or one byte longer.
-    if rng.below(100) == 0 {
+    if rng.below(50) == 0 {
         let (text, limit) = pick(&mut texts, rng);
         if text.len() < limit {
-            text.resize(limit + usize::from(rng.chance(30)), b' ');
+            text.resize(limit + usize::from(rng.chance(50)), b' ');
         }
     }
     texts

@@ -4,6 +4,7 @@ use crate::damage;
 use crate::draft::{BAD, Draft};
 use crate::generate;
 use crate::oracle::{self, RULEBOOK_BYTES};
+use crate::pairs;
 use crate::random::Random;
 use crate::rulebook::Rulebook;
 use crate::special;
@@ -122,9 +123,10 @@ pub fn base62(mut n: usize) -> String {
 }
 
 pub fn text(rng: &mut Random) -> Vec<u8> {
-    match rng.below(1000) {
-        0..360 => valid(rng),
-        360..760 => {
+    let mut text = match rng.below(1000) {
+        0..260 => valid(rng),
+        260..460 => pairs::rulebook(rng),
+        460..760 => {
             let number = *rng.pick(&NUMBERS);
             aimed(number, rng)
         }
@@ -134,5 +136,10 @@ pub fn text(rng: &mut Random) -> Vec<u8> {
         960..980 => special::soup(rng).0.rulebook,
         980..985 => large(rng),
         _ => not_utf8(rng),
+    };
+    // Now and then as long as it may be, or one byte longer.
+    if rng.below(100) == 0 && text.len() < RULEBOOK_BYTES {
+        text.resize(RULEBOOK_BYTES + rng.below(2), b' ');
     }
+    text
 }

@@ -1,0 +1,138 @@
+//! A second opinion on both calls, worked from document 01 and its readings alone: it shares no code with the port,
+//! with the Rust or with the opened copy of it. It takes raw bytes, any lengths of areas and texts, any limits of the store.
+//!
+//! `misread!("...")` marks the place of a misreading of 01 that can be planted, one at a time: see misreadings.rs.
+#[macro_use]
+mod misreadings;
+mod reader;
+mod release;
+mod rulebook;
+mod steps;
+mod store;
+
+pub use misreadings::{COUNT, name, plant};
+
+use reader::Reader;
+use rulebook::Rulebook;
+
+/// A number and four counts.
+#[derive(Clone, Copy, PartialEq, Eq, Debug)]
+pub struct Answer {
+    pub number: u8,
+    pub counts: [usize; 4],
+}
+
+/// Nodes and words that the store may hold.
+#[derive(Clone, Copy)]
+pub struct Limits {
+    pub nodes: usize,
+    pub words: usize,
+}
+
+/// 01's limits of the store.
+pub const LIMITS: Limits = Limits { nodes: 2_048, words: 8_192 };
+
+/// Words that each area must have, and that a call leaves zero.
+pub const AREA: usize = 16_384;
+
+type Outcome<T> = Result<T, u8>;
+
+/// Area lengths, then text lengths: `texts` has each text's length and limit.
+fn lengths(areas: [usize; 4], texts: &[(usize, usize)]) -> Outcome<()> {
+    let least = match () {
+        _ if misread!("an area of one word fewer is enough") => AREA - 1,
+        _ if misread!("an area wants one word more") => AREA + 1,
+        _ => AREA,
+    };
+    let tested = match () {
+        _ if misread!("the first area is not tested") => &areas[1..],
+        _ if misread!("the fourth area is not tested") => &areas[..3],
+        _ => &areas,
+    };
+    let short = match () {
+        _ if misread!("the second area is not tested") => [areas[0], areas[2], areas[3]].iter().any(|&n| n < least),
+        _ if misread!("the third area is not tested") => [areas[0], areas[1], areas[3]].iter().any(|&n| n < least),
+        _ if misread!("areas are refused only where all are short") => areas.iter().all(|&n| n < least),
+        _ => tested.iter().any(|&n| n < least),
+    };
+    let long = texts.iter().any(|&(length, limit)| length > limit);
+    if misread!("text lengths before area lengths") && long {
+        return Err(2);
+    }
+    if short {
+        return Err(1);
+    }
+    if long { Err(2) } else { Ok(()) }
+}
+
+fn answer(outcome: Outcome<[usize; 4]>) -> Answer {
+    match outcome {
+        Ok(counts) => Answer { number: 0, counts },
+        Err(number) => Answer { number, counts: [0; 4] },
+    }
+}
+
+/// The limit of rulebook and goals.
+fn short_limit(goals: bool) -> usize {
+    let (less, more) = if goals {
+        (misread!("goals of 8,192 bytes are too long"), misread!("goals of 8,193 bytes are not too long"))
+    } else {
+        (misread!("a rulebook of 8,192 bytes is too long"), misread!("a rulebook of 8,193 bytes is not too long"))
+    };
+    8_192 + usize::from(more) - usize::from(less)
+}
+
+fn certificate_limit() -> usize {
+    match () {
+        _ if misread!("a certificate of 32,768 bytes is too long") => 32_767,
+        _ if misread!("a certificate of 32,769 bytes is not too long") => 32_769,
+        _ => 32_768,
+    }
+}
+
+/// The call with the rulebook alone.
+pub fn rulebook(text: &[u8], areas: [usize; 4]) -> Answer {
+    answer(lengths(areas, &[(text.len(), short_limit(false))]).and_then(|()| {
+        let book = Rulebook::read(text)?;
+        let mut counts = [book.sorts.len(), book.constructors.len(), book.predicates.len(), book.rules.len()];
+        if misread!("counts of constructors and predicates exchanged") {
+            counts.swap(1, 2);
+        }
+        Ok(counts)
+    }))
+}
+
+/// The call with three texts.
+pub fn release(rulebook: &[u8], goals: &[u8], certificate: &[u8], areas: [usize; 4], limits: Limits) -> Answer {
+    let all = [
+        (rulebook.len(), short_limit(false)),
+        (goals.len(), short_limit(true)),
+        (certificate.len(), certificate_limit()),
+    ];
+    let tested = match () {
+        _ if misread!("the goals' length is tested after the rulebook") => &all[..1],
+        _ if misread!("the certificate's length is tested after the goals") => &all[..2],
+        _ => &all[..],
+    };
+    answer(lengths(areas, tested).and_then(|()| {
+        let book = Rulebook::read(rulebook)?;
+        if all[1].0 > all[1].1 {
+            return Err(2);
+        }
+        let mut checker = release::Checker::new(&book, limits);
+        let early = if misread!("no goal is told only at the end") { Ok(()) } else { Err(17) };
+        match checker.goals(Reader::new(goals)) {
+            Err(17) => early?,
+            other => other?,
+        }
+        if all[2].0 > all[2].1 {
+            return Err(2);
+        }
+        checker.certificate(Reader::new(certificate))
+    }))
+}
+
+/// Whether an answer leaves the first 16,384 words of each area zero; otherwise it leaves all untouched.
+pub fn clears(number: u8) -> bool {
+    number != 1 && number != 2
+}
