@@ -3,7 +3,7 @@
 use crate::cases::Texts;
 use crate::random::Random;
 use crate::special;
-use crate::two_faults::WRITTEN;
+use crate::two_faults::{LAST, WRITTEN};
 use std::sync::OnceLock;
 
 const RULEBOOK: &str = "(sort t)(sort u)(ctor z()t)(ctor s(t)t)(ctor c(t t)t)(ctor k()u)(ctor m(t u)u)(pred p())(pred hold(t))\
@@ -308,40 +308,7 @@ fn nearly_full(rng: &mut Random) -> Texts {
     for (i, &n) in used.iter().enumerate() {
         certificate += &format!("(def ?n{i} {})", small[n]);
     }
-    let ends = [
-        "",
-        "(def ?o(s k))",
-        "(def ?o(s ?k))",
-        "(step N any()(hold(c z z)))",
-        "(def ?o(c z z))",
-        "(def ?o(c z(s(s z))))",
-        "(def ?o(c k z))",
-        "(def ?o(m k k))",
-        "(def ?o(c z q))",
-        "(def ?o(s z))",
-        "(def ?o(m z k))",
-        "(def ?o k)",
-        "(step N any()(two z z))",
-        "(step N any()(hold k))",
-        "(step N any()(two z k))",
-        "(step N any()(?y(c z z)))",
-        "(step N any()(?y z))",
-        "(step N wide())",
-        "(step N wide()(?a z))",
-        "(step N wide()(?a z)(?b z))",
-        "(step N wide()(?a(s z))(?b(s z)))",
-        "(step N wide()(?a(s z))(?b(s z))(?d z))",
-        "(step N wide()(?a(s z))(?b(s z))(?e k))",
-        "(step N wide()(?a z)(?b z)(?d z))",
-        "(step N wide()(?d z)(?e k))",
-        "(step N wide()(?a z)(?d z)(?e k))",
-        "(step N wide()(?a z)(?b z)(?d z)(?e k))",
-        "(step N both(0 1))",
-        "(step N both(0 9999))",
-        "(step N free(0))",
-        "(step N more(0))",
-    ];
-    let end = rng.pick(&ends).replace('N', &next.to_string());
+    let end = rng.pick(LAST).replace('N', &next.to_string());
     certificate += &end;
     certificate += RESULTS;
     Texts { rulebook: rulebook.into(), goals: GOALS.into(), certificate: certificate.into() }
