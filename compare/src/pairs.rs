@@ -3,7 +3,7 @@
 use crate::cases::Texts;
 use crate::random::Random;
 use crate::special;
-use crate::two_faults::WRITTEN;
+use crate::two_faults::{LAST, WRITTEN};
 use std::sync::OnceLock;
 
 const RULEBOOK: &str = "(sort t)(sort u)(ctor z()t)(ctor s(t)t)(ctor c(t t)t)(ctor k()u)(ctor m(t u)u)(pred p())(pred hold(t))\
@@ -207,23 +207,30 @@ fn deep(rng: &mut Random, which: usize) -> Texts {
         b"\n)",
         b"\n",
     ]);
-    let count = rng.from(253, 257);
-    let (first, again): (&[u8], &[u8]) = match which {
-        0 => *rng.pick(&[(&b""[..], &b"("[..]), (b"a", b"("), (b"(rule r()", b"(s "), (b"(sort t)", b"(\n")]),
-        1 => *rng.pick(&[
-            (&b"(goal g(hold"[..], &b"(s "[..]),
-            (b"(goal g(hold", b"(s\n"),
-            (b"", b"("),
-            (b"(goal ?g(hold", b"(s "),
+    // The depth of what follows the first part.
+    let (first, again, depth): (&[u8], &[u8], usize) = match which {
+        0 => *rng.pick::<(&[u8], &[u8], usize)>(&[
+            (b"", b"(", 0),
+            (b"a", b"(", 0),
+            (b"(rule r()", b"(s ", 1),
+            (b"(sort t)", b"(\n", 0),
         ]),
-        _ => *rng.pick(&[
-            (&b"(def ?a"[..], &b"(s "[..]),
-            (b"(step 0 base()(hold", b"(s\n"),
-            (b"(step 0 more()(?x", b"(s "),
-            (b"(step 0 base()", b"("),
-            (b"(step 0 more(0)(?x", b"(s\n"),
+        1 => *rng.pick::<(&[u8], &[u8], usize)>(&[
+            (b"(goal g(hold", b"(s ", 2),
+            (b"(goal g(hold", b"(s\n", 2),
+            (b"", b"(", 0),
+            (b"(goal ?g(hold", b"(s ", 2),
+        ]),
+        _ => *rng.pick::<(&[u8], &[u8], usize)>(&[
+            (b"(def ?a", b"(s ", 1),
+            (b"(step 0 base()(hold", b"(s\n", 2),
+            (b"(step 0 more()(?x", b"(s ", 2),
+            (b"(step 0 base()", b"(", 1),
+            (b"(step 0 more(0)(?x", b"(s\n", 2),
         ]),
     };
+    // What ends it stands at a depth of 255 to 258, mostly at 256 or 257.
+    let count = rng.from(256, 257) - depth + usize::from(rng.chance(20)) - usize::from(rng.chance(20));
     let mut text = [first, &again.repeat(count), end].concat();
     if rng.chance(60) {
         let closings = count + rng.below(3);
@@ -301,37 +308,7 @@ fn nearly_full(rng: &mut Random) -> Texts {
     for (i, &n) in used.iter().enumerate() {
         certificate += &format!("(def ?n{i} {})", small[n]);
     }
-    let ends = [
-        "",
-        "(def ?o(s k))",
-        "(def ?o(s ?k))",
-        "(step N any()(hold(c z z)))",
-        "(def ?o(c z z))",
-        "(def ?o(c z(s(s z))))",
-        "(def ?o(c k z))",
-        "(def ?o(m k k))",
-        "(def ?o(c z q))",
-        "(def ?o(s z))",
-        "(def ?o(m z k))",
-        "(def ?o k)",
-        "(step N any()(two z z))",
-        "(step N any()(hold k))",
-        "(step N any()(two z k))",
-        "(step N any()(?y(c z z)))",
-        "(step N any()(?y z))",
-        "(step N wide())",
-        "(step N wide()(?a z))",
-        "(step N wide()(?a z)(?b z))",
-        "(step N wide()(?a z)(?b z)(?d z))",
-        "(step N wide()(?d z)(?e k))",
-        "(step N wide()(?a z)(?d z)(?e k))",
-        "(step N wide()(?a z)(?b z)(?d z)(?e k))",
-        "(step N both(0 1))",
-        "(step N both(0 9999))",
-        "(step N free(0))",
-        "(step N more(0))",
-    ];
-    let end = rng.pick(&ends).replace('N', &next.to_string());
+    let end = rng.pick(LAST).replace('N', &next.to_string());
     certificate += &end;
     certificate += RESULTS;
     Texts { rulebook: rulebook.into(), goals: GOALS.into(), certificate: certificate.into() }
