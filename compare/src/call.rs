@@ -65,6 +65,23 @@ pub trait Call {
     fn call(texts: &[(*const u8, usize)], areas: [*mut u32; 4], lent: [usize; 4]) -> Report;
 }
 
+/// Drawn cases, a line each: the call, the areas' lengths, the texts in hexadecimal; then `=` and the library's answer.
+pub fn answers<C: Call>(name: &str, n: usize, seed: u64, out: &mut impl Write) -> std::io::Result<()> {
+    let mut rng = Random::new(seed);
+    let mut areas = [(); 4].map(|()| vec![0u32; 2 * AREA]);
+    (0..n).try_for_each(|_| {
+        let case = C::draw(&mut rng);
+        let lent = lent::lengths(&mut rng);
+        let texts = C::texts(&case);
+        let pointers: Vec<_> = texts.iter().map(|t| (t.as_ptr(), t.len())).collect();
+        let r = C::call(&pointers, areas.each_mut().map(|a| a.as_mut_ptr()), lent);
+        let [i, j, k, l] = lent;
+        let [a, b, c, d] = r.counts;
+        let texts: Vec<_> = texts.into_iter().map(hex).collect();
+        writeln!(out, "{name} {i} {j} {k} {l} {} = {} {a} {b} {c} {d}", texts.join(" "), r.number)
+    })
+}
+
 pub struct RulebookAlone;
 
 impl Call for RulebookAlone {

@@ -50,10 +50,12 @@ const USAGE: &str = "usage: compare/run COMMAND
   readings | by-hand  cases written for people (standard input) as case lines, checked
   rulebook-call N SEED  N generated rulebooks: the static library's call beside the Rust
   release-call N SEED   N generated cases: the static library's call with three texts beside the Rust
+  rulebook-cases N SEED | release-cases N SEED  such cases themselves, with the library's answers
   exhaustive bytes N  every text of at most N bytes over an alphabet, as each of the three texts
   exhaustive tokens N M  every string of at most N tokens, and up to M of those that are not refused
   exhaustive pairs    every form with every pair of faults
   power N SEED        how many of N cases it takes to show each planted misreading
+  unseen              which of them no case of standard input shows (compare/paper/listed)
   guards              a touched guard page ends a run of the library
   keep [DIR]          all four files of compare/cases, written anew";
 
@@ -106,12 +108,22 @@ fn main() {
         ["rulebook-call", n, seed] => call::<call::RulebookAlone>(number(n) as usize, number(seed), &mut out),
         #[cfg(library)]
         ["release-call", n, seed] => call::<call::Release>(number(n) as usize, number(seed), &mut out),
+        #[cfg(library)]
+        ["rulebook-cases", n, seed] => {
+            call::answers::<call::RulebookAlone>("rulebook", number(n) as usize, number(seed), &mut out)
+        }
+        #[cfg(library)]
+        ["release-cases", n, seed] => {
+            call::answers::<call::Release>("release", number(n) as usize, number(seed), &mut out)
+        }
         ["opinion"] => opinion(second::LIMITS, &mut out),
         ["opinion", nodes, words] => {
             opinion(second::Limits { nodes: number(nodes) as usize, words: number(words) as usize }, &mut out)
         }
         #[cfg(library)]
         ["power", n, seed] => power(number(n) as usize, number(seed), &mut out),
+        #[cfg(library)]
+        ["unseen"] => power::unseen(&input(), &mut out),
         #[cfg(library)]
         ["exhaustive", ref what @ ..] => exhaustive(what, &mut out),
         #[cfg(library)]

@@ -1,8 +1,8 @@
 //! What the generated cases can see: how many cases it takes until each misreading, planted in the second opinion,
 //! gives another answer than the second opinion without it.
 use crate::call::{Call, Release, RulebookAlone};
-use crate::lent;
 use crate::random::Random;
+use crate::{cases, lent};
 use std::io::Write;
 
 /// For each misreading the first case that shows it.
@@ -44,4 +44,29 @@ pub fn print(n: usize, seed: u64, out: &mut impl Write) -> std::io::Result<bool>
     }
     writeln!(out, "misreadings\t{}\tseed {seed}\tcases {n} of each call\tunseen {unseen}", rows.len())?;
     Ok(unseen == 0)
+}
+
+/// The misreadings that no case of a list shows. A case is a line as `compare/paper/listed` writes it.
+pub fn unseen(list: &str, out: &mut impl Write) -> std::io::Result<()> {
+    let mut took = vec![false; second::COUNT];
+    for line in list.lines() {
+        let fields: Vec<&str> = line.split(' ').take_while(|f| *f != "=").collect();
+        let lent: [usize; 4] = std::array::from_fn(|i| fields[1 + i].parse().unwrap_or(0));
+        let texts = cases::read(&[&fields[5..], &["-", "-"]].concat()[..3].join("\t"));
+        let texts = texts.unwrap_or_else(|| panic!("not a case: {line}"));
+        let said = || match fields[0] {
+            "rulebook" => RulebookAlone::second(&texts.rulebook, lent),
+            _ => Release::second(&texts, lent),
+        };
+        second::plant(None);
+        let answer = said();
+        for (misreading, shown) in took.iter_mut().enumerate().filter(|(_, shown)| !**shown) {
+            second::plant(Some(misreading));
+            *shown = said() != answer;
+        }
+    }
+    second::plant(None);
+    let names = (0..second::COUNT).filter(|&m| !took[m]).map(second::name);
+    names.clone().try_for_each(|name| writeln!(out, "unseen\t{name}"))?;
+    writeln!(out, "misreadings\t{}\tcalls {}\tunseen {}", second::COUNT, list.lines().count(), names.count())
 }

@@ -5,7 +5,7 @@ use mathlib.Core.Logic.{⊎-elim}
 use native.Mathlib.Omega.{arith}
 use types.Run.{OneOf}
 use denote.Enum.Declared.{tagOf}
-use Rattle.patterns.specs.Outcomes.{refused, _>>=_}
+use Rattle.outcomes.specs.Outcomes.{refused, _>>=_}
 use Rattle.asking.specs.Asking.{met, atomOnly}
 use Rattle.asking.specs.declared.Item.{Item}
 use Rattle.asking.specs.declared.Item.the-variants as items

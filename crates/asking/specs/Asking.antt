@@ -7,7 +7,7 @@ use Rattle.lex.specs.Answers as lex
 use Rattle.lex.specs.Answers.{Answer, taken, peeked}
 use Rattle.lex.specs.declared.Reader.{Reader}
 use Rattle.lex.specs.declared.Token.the-variants as tokens
-use Rattle.patterns.specs.Outcomes.{Outcome, ok, refused, _>>=_, need}
+use Rattle.outcomes.specs.Outcomes.{Outcome, ok, refused, _>>=_, need}
 use Rattle.asking.specs.declared.Item.{Item}
 use Rattle.asking.specs.declared.Item.the-variants as items
 use Rattle.asking.specs.declared.Named.{Named}

@@ -1,7 +1,7 @@
 // What is asked of a reader in goals and certificate. They are not read whole before: they may end or go bad anywhere.
 // "All members are asked for as above." How deep an item may be is told by `left`: 257 less the depth that it is asked for at.
 ghost use mathlib.Core.Path.{_≡_};
-ghost use Rattle.patterns.specs.Outcomes.{refusal};
+ghost use Rattle.outcomes.specs.Outcomes.{refusal};
 ghost use Rattle.asking.specs.Asking.{met, named, passed, looked, begun, itemDue, atomDue, listDue, closingDue, closingNext, formDue};
 use lex::Read;
 use lex::Reader;

@@ -20,10 +20,10 @@ use Rattle.lex.specs.declared.Reader.{Reader}
 use Rattle.lex.proofs.Standing as standing
 use Rattle.lex.proofs.Standing.{Stands}
 use Rattle.lex.proofs.Positions.{never-past}
-use Rattle.patterns.specs.Outcomes as outcomes
-use Rattle.patterns.specs.Outcomes.{Outcome}
+use Rattle.outcomes.specs.Outcomes as outcomes
+use Rattle.outcomes.specs.Outcomes.{Outcome}
 use Rattle.theory_laws.specs.Reading.{weight}
-use Rattle.theory_laws.specs.Simulation.{Answers, both-refuse, both-ok}
+use Rattle.outcomes.specs.Simulation.{Answers, both-refuse, both-ok}
 use Rattle.theory_laws.proofs.Lookups.{part-length}
 use Rattle.asking.specs.Asking as asked
 use Rattle.asking.specs.Asking.{Met, Ahead, Top, itemDue, atomDue, listDue, closingDue, closingNext, formDue}

@@ -8,17 +8,18 @@ use Rattle.words.specs.Parts.{part, sameBytes}
 use Rattle.lex.specs.Answers.{start}
 use Rattle.lex.specs.declared.Reader.{Reader}
 use Rattle.names.specs.Tables.{present}
-use Rattle.patterns.specs.Outcomes.{Outcome, ok, refused, need, orElse, pick}
-use Rattle.patterns.specs.Outcomes as outcomes
-use Rattle.patterns.specs.Leaving.{Did, _leaving_, _>>=_, beside}
-use Rattle.patterns.specs.Items.{question}
+use Rattle.outcomes.specs.Outcomes.{Outcome, ok, refused, need, orElse, pick}
+use Rattle.outcomes.specs.Outcomes as outcomes
+use Rattle.outcomes.specs.Leaving.{Did, _leaving_, _>>=_, beside}
+use Rattle.items.specs.Items.{question}
 use Rattle.theory_reading.specs.Storing.{Areas, before}
 use Rattle.tables.specs.declared.Tally.{Tally}
 use Rattle.tables.specs.Words.{goalOpen, goalClosed, goalDone, defFound, defAdded, defCounted, stepWord, stepAdded, stepCounted}
 use Rattle.asking.specs.Asking.{Top, over, form, atomDue, closingDue, formDue}
 use Rattle.terms.specs.Terms.{term}
 use Rattle.steps.specs.Steps as steps
-use Rattle.steps.specs.Steps.{Worked, numberDue}
+use Rattle.references.specs.References.{numberDue}
+use Rattle.step_items.specs.StepItems.{Worked}
 use Rattle.certificates.specs.declared.Keyword.{Keyword}
 use Rattle.certificates.specs.declared.Keyword.the-variants.{Step, Result, Def, Other}
 

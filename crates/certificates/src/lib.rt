@@ -5,7 +5,7 @@ ghost use Prim.Native.Nat.{_+_};
 ghost use lib.ListN.{length};
 ghost use Rattle.words.specs.Parts.{part};
 ghost use Rattle.lex.specs.Answers.{start};
-ghost use Rattle.patterns.specs.Leaving.{_leaving_};
+ghost use Rattle.outcomes.specs.Leaving.{_leaving_};
 ghost use Rattle.asking.specs.Asking.{named};
 ghost use Rattle.goals.specs.Goals.{formed, gathered};
 ghost use Rattle.certificates.specs.Certificates.{keywordOf, defNamed, defForm, resultForm, stepForm, formRead, formsFrom, certificate};
@@ -16,7 +16,7 @@ use goals::Form;
 use goals::Forms;
 use lex::Reader;
 use names::Found;
-use steps::Indexed;
+use references::Indexed;
 use steps::Stepped;
 use tables::Kept;
 use tables::Open;
@@ -54,10 +54,10 @@ pub fn def_name(text: &[u8], reader: Reader) -> Named
     let Named::Atom(s, t, q) = a else {
         return a;
     };
-    if !patterns::items::is_question(text, s) {
+    if !items::is_question(text, s) {
         return Named::Refused(11);
     }
-    if patterns::items::is_bare(s, t) {
+    if items::is_bare(s, t) {
         return Named::Refused(11);
     }
     Named::Atom(s, t, q)
@@ -113,7 +113,7 @@ pub fn result_form(
     let Open::At(e, j) = goal else {
         return Form::Refused(12);
     };
-    let i = steps::number_due(text, 256, q);
+    let i = references::number_due(text, 256, q);
     match i {
         Indexed::Refused(m) => Form::Refused(m),
         Indexed::Got(n, p) => {

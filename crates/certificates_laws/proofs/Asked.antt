@@ -15,12 +15,12 @@ use Rattle.horn.specs.Checker as definition
 use Rattle.horn.proofs.Equality.{case}
 use Rattle.words.specs.Parts.{part}
 use Rattle.lex.specs.declared.Reader.{Reader}
-use Rattle.patterns.specs.Outcomes as outcomes
-use Rattle.patterns.specs.Outcomes.{Outcome}
-use Rattle.patterns.specs.Leaving as leaving
-use Rattle.patterns.specs.Leaving.{Did, _leaving_}
-use Rattle.patterns.specs.Items.{question}
-use Rattle.theory_laws.specs.Simulation.{Answers, both-refuse, both-ok, then, Simulates, refuse, leave}
+use Rattle.outcomes.specs.Outcomes as outcomes
+use Rattle.outcomes.specs.Outcomes.{Outcome}
+use Rattle.outcomes.specs.Leaving as leaving
+use Rattle.outcomes.specs.Leaving.{Did, _leaving_}
+use Rattle.items.specs.Items.{question}
+use Rattle.outcomes.specs.Simulation.{Answers, both-refuse, both-ok, then, Simulates, refuse, leave}
 use Rattle.theory_laws.proofs.Lookups.{part-question, part-length, bare-width}
 use Rattle.theory_reading.specs.Storing as storing
 use Rattle.asking_laws.proofs.Places.{Left, At}

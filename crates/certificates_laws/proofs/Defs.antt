@@ -21,8 +21,8 @@ use borrow.Author.Tests.{not-true}
 use Rattle.words.specs.Parts.{part}
 use Rattle.lex.specs.declared.Reader.{Reader}
 use Rattle.names.specs.Tables.{present}
-use Rattle.patterns.specs.Leaving.{Did}
-use Rattle.theory_laws.specs.Simulation.{Simulates, refuse, leave, knowing}
+use Rattle.outcomes.specs.Leaving.{Did}
+use Rattle.outcomes.specs.Simulation.{Simulates, refuse, leave, knowing}
 use Rattle.theory_laws.specs.Representation.{Entries, Holds}
 use Rattle.theory_laws.proofs.Frames.{Keeps}
 use Rattle.theory_reading.specs.Storing.{Areas}

@@ -17,10 +17,10 @@ use Rattle.horn.specs.Certificate.{Progress}
 use Rattle.horn.proofs.Counts.{itemCount}
 use Rattle.horn.proofs.SoundnessWords.{WellFormed}
 use Rattle.lex.specs.declared.Reader.{Reader}
-use Rattle.patterns.specs.Outcomes.{Outcome}
-use Rattle.patterns.specs.Leaving as leaving
-use Rattle.patterns.specs.Leaving.{_leaving_}
-use Rattle.theory_laws.specs.Simulation.{Answers, both-refuse, both-ok, Simulates, refuse, leave, bind}
+use Rattle.outcomes.specs.Outcomes.{Outcome}
+use Rattle.outcomes.specs.Leaving as leaving
+use Rattle.outcomes.specs.Leaving.{_leaving_}
+use Rattle.outcomes.specs.Simulation.{Answers, both-refuse, both-ok, Simulates, refuse, leave, bind}
 use Rattle.theory_laws.specs.Representation.{Entries, Holds}
 use Rattle.tables.specs.declared.Tally.{Tally}
 use Rattle.asking.specs.Asking.{Top}

@@ -3,7 +3,7 @@ use mathlib.Core.Bool.{Bool, true, false}
 use Rattle.horn.specs.Names.{Name, named, codes}
 use Rattle.horn.specs.Certificate as definition
 use Rattle.horn.specs.Certificate.{keyword, stepWord, resultWord, defWord, otherWord}
-use Rattle.patterns.specs.Outcomes.{pick}
+use Rattle.outcomes.specs.Outcomes.{pick}
 use Rattle.theory_laws.proofs.Lookups.{same-named}
 use Rattle.certificates.specs.Certificates.{stepName, resultName, defName, keywordOf}
 use Rattle.certificates.specs.declared.Keyword.{Keyword}

@@ -12,7 +12,7 @@ use Rattle.horn.specs.Matching.{step, judgmentOf, ruleOf}
 use Rattle.horn.specs.Certificate as definition
 use Rattle.horn.specs.Certificate.{Progress}
 use Rattle.lex.specs.declared.Reader.{Reader}
-use Rattle.theory_laws.specs.Simulation.{Simulates, leave, knowing}
+use Rattle.outcomes.specs.Simulation.{Simulates, leave, knowing}
 use Rattle.theory_laws.specs.Representation.{Entries}
 use Rattle.theory_reading.proofs.Stored.{Means}
 use Rattle.tables.specs.declared.Tally.{Tally}

@@ -20,9 +20,9 @@ use Rattle.horn.specs.Matching.{Step, judgmentOf}
 use Rattle.horn.specs.Certificate as definition
 use Rattle.horn.specs.Certificate.{Progress, without}
 use Rattle.lex.specs.declared.Reader.{Reader}
-use Rattle.patterns.specs.Outcomes as outcomes
-use Rattle.patterns.specs.Leaving.{beside}
-use Rattle.theory_laws.specs.Simulation.{Answers, both-refuse, both-ok, Simulates, leave, knowing, aside}
+use Rattle.outcomes.specs.Outcomes as outcomes
+use Rattle.outcomes.specs.Leaving.{beside}
+use Rattle.outcomes.specs.Simulation.{Answers, both-refuse, both-ok, Simulates, leave, knowing, aside}
 use Rattle.theory_laws.specs.Representation.{Entries, Holds}
 use Rattle.theory_laws.proofs.Frames.{Keeps}
 use Rattle.theory_reading.proofs.Stored.{Stored, Means, means-same}

@@ -18,7 +18,7 @@ use Rattle.horn.specs.Certificate as definition
 use Rattle.horn.proofs.Counts.{few-items}
 use Rattle.horn.proofs.SoundnessWords.{WellFormed}
 use Rattle.lex.specs.Answers.{start}
-use Rattle.theory_laws.specs.Simulation.{Simulates, leave, bind}
+use Rattle.outcomes.specs.Simulation.{Simulates, leave, bind}
 use Rattle.theory_laws.specs.Representation.{Entries, Holds}
 use Rattle.theory_laws.proofs.Frames.{Keeps}
 use Rattle.theory_reading.proofs.Stored.{Stored, Means}

@@ -3,8 +3,8 @@ use Prim.Native.Nat.{ℕ, _+_}
 use mathlib.Core.List.{List}
 use Rattle.words.specs.Parts.{cleared}
 use Rattle.arena.specs.Store.{count, emptied}
-use Rattle.patterns.specs.Outcomes.{Outcome, ok, refused}
-use Rattle.patterns.specs.Leaving.{Did, _leaving_, _>>=_}
+use Rattle.outcomes.specs.Outcomes.{Outcome, ok, refused}
+use Rattle.outcomes.specs.Leaving.{Did, _leaving_, _>>=_}
 use Rattle.theory.specs.Walks as walks
 use Rattle.theory.specs.Walks.{theory}
 use Rattle.tables.specs.Words.{noneYet}

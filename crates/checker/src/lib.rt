@@ -1,6 +1,6 @@
 // The three texts of a release, one after the other: the Rust's `check_reader` behind its `Theory::parse`.
 ghost use mathlib.Core.Path.{_≡_};
-ghost use Rattle.patterns.specs.Leaving.{_leaving_};
+ghost use Rattle.outcomes.specs.Leaving.{_leaving_};
 ghost use Rattle.checker.specs.Checker as models;
 use goals::Forms;
 use theory::Judged;

@@ -17,12 +17,12 @@ use Rattle.horn.proofs.SoundnessRulebook.{theory-formed}
 use Rattle.words.specs.Parts.{cleared}
 use Rattle.arena.specs.Store.{areaWords, emptied}
 use Rattle.arena.proofs.Settings.{limits-01}
-use Rattle.patterns.specs.Outcomes as outcomes
-use Rattle.patterns.specs.Leaving as leaving
-use Rattle.patterns.specs.Leaving.{Did, _leaving_}
+use Rattle.outcomes.specs.Outcomes as outcomes
+use Rattle.outcomes.specs.Leaving as leaving
+use Rattle.outcomes.specs.Leaving.{Did, _leaving_}
 use Rattle.theory.specs.Walks as walks
 use Rattle.theory.specs.declared.Counts as declared
-use Rattle.theory_laws.specs.Simulation.{Simulates, refuse, leave, bind, knowing}
+use Rattle.outcomes.specs.Simulation.{Simulates, refuse, leave, bind, knowing}
 use Rattle.theory_laws.proofs.Frames.{Keeps, keeps-all}
 use Rattle.theory_laws.proofs.Whole.{Judged, theory-law}
 use Rattle.theory_reading.proofs.Stored.{Longer, Stored, nothing-stored, means-longer}

@@ -4,8 +4,8 @@ use mathlib.Core.Path.{_≡_, refl}
 use mathlib.Core.List.{List}
 use native.Mathlib.Omega.{arith}
 use Rattle.lex.specs.declared.Reader.{Reader}
-use Rattle.patterns.specs.Outcomes.{Outcome, ok, refused}
-use Rattle.patterns.specs.Leaving.{_leaving_}
+use Rattle.outcomes.specs.Outcomes.{Outcome, ok, refused}
+use Rattle.outcomes.specs.Leaving.{_leaving_}
 use Rattle.tables.specs.declared.Tally.{Tally}
 use Rattle.asking.specs.Asking.{over, form, formDue}
 use Rattle.goals.specs.Goals.{Gathered, goal, goalsFrom}

@@ -8,10 +8,10 @@ use Rattle.words.specs.Parts.{part, sameBytes}
 use Rattle.lex.specs.Answers.{start}
 use Rattle.lex.specs.declared.Reader.{Reader}
 use Rattle.names.specs.Tables.{present}
-use Rattle.patterns.specs.Outcomes.{Outcome, ok, refused, need}
-use Rattle.patterns.specs.Outcomes as outcomes
-use Rattle.patterns.specs.Leaving.{Did, _leaving_, _>>=_}
-use Rattle.patterns.specs.Items.{question}
+use Rattle.outcomes.specs.Outcomes.{Outcome, ok, refused, need}
+use Rattle.outcomes.specs.Outcomes as outcomes
+use Rattle.outcomes.specs.Leaving.{Did, _leaving_, _>>=_}
+use Rattle.items.specs.Items.{question}
 use Rattle.theory_reading.specs.Storing.{Areas, before}
 use Rattle.tables.specs.declared.Tally.{Tally}
 use Rattle.tables.specs.Words.{goalFound, goalAdded, goalCounted}

@@ -2,8 +2,8 @@
 ghost use mathlib.Core.Path.{_≡_};
 ghost use Prim.Native.Nat.{_+_};
 ghost use lib.ListN.{length};
-ghost use Rattle.patterns.specs.Outcomes.{refusal};
-ghost use Rattle.patterns.specs.Leaving.{_leaving_};
+ghost use Rattle.outcomes.specs.Outcomes.{refusal};
+ghost use Rattle.outcomes.specs.Leaving.{_leaving_};
 ghost use Rattle.asking.specs.Asking.{named};
 ghost use Rattle.goals.specs.Goals.{formed, gathered, goalName, goal, goalsFrom, goals};
 use asking::Begun;
@@ -59,7 +59,7 @@ pub fn goal_name(text: &[u8], reader: Reader) -> Named
     let Named::Atom(a, b, p) = n else {
         return Named::Refused(asking::named_refusal(n));
     };
-    if patterns::items::is_question(text, a) {
+    if items::is_question(text, a) {
         return Named::Refused(11);
     }
     Named::Atom(a, b, p)

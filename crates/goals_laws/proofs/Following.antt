@@ -12,11 +12,11 @@ use Rattle.horn.specs.StoredTerms.{Term}
 use Rattle.horn.specs.Checker as definition
 use Rattle.words.specs.Parts.{part}
 use Rattle.lex.specs.declared.Reader.{Reader}
-use Rattle.patterns.specs.Outcomes as outcomes
-use Rattle.patterns.specs.Outcomes.{Outcome}
-use Rattle.patterns.specs.Leaving as leaving
-use Rattle.patterns.specs.Leaving.{Did, _leaving_}
-use Rattle.theory_laws.specs.Simulation.{Simulates}
+use Rattle.outcomes.specs.Outcomes as outcomes
+use Rattle.outcomes.specs.Outcomes.{Outcome}
+use Rattle.outcomes.specs.Leaving as leaving
+use Rattle.outcomes.specs.Leaving.{Did, _leaving_}
+use Rattle.outcomes.specs.Simulation.{Simulates}
 use Rattle.asking.specs.Asking.{atomDue}
 use Rattle.asking_laws.proofs.Places.{Left, At}
 use Rattle.terms_laws.proofs.Following.{first-of}

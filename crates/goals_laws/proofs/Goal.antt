@@ -18,7 +18,7 @@ use Rattle.horn.specs.Checker.{Goal, isGoal}
 use Rattle.horn.specs.Matching.{Step}
 use Rattle.words.specs.Parts.{part}
 use Rattle.lex.specs.declared.Reader.{Reader}
-use Rattle.theory_laws.specs.Simulation.{Simulates, leave, knowing, weaker}
+use Rattle.outcomes.specs.Simulation.{Simulates, leave, knowing, weaker}
 use Rattle.theory_laws.specs.Representation.{Entries, Holds}
 use Rattle.theory_laws.proofs.Lookups.{same-named, part-question}
 use Rattle.theory_reading.proofs.Stored.{Longer, Stored, Means, means-longer, few-terms}

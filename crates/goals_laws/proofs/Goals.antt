@@ -21,10 +21,10 @@ use Rattle.horn.proofs.Counts.{itemCount, few-items}
 use Rattle.words.specs.Parts.{cleared}
 use Rattle.lex.specs.Answers.{start}
 use Rattle.lex.specs.declared.Reader.{Reader}
-use Rattle.patterns.specs.Outcomes.{Outcome}
-use Rattle.patterns.specs.Leaving as leaving
-use Rattle.patterns.specs.Leaving.{_leaving_}
-use Rattle.theory_laws.specs.Simulation.{Simulates, refuse, leave, bind}
+use Rattle.outcomes.specs.Outcomes.{Outcome}
+use Rattle.outcomes.specs.Leaving as leaving
+use Rattle.outcomes.specs.Leaving.{_leaving_}
+use Rattle.outcomes.specs.Simulation.{Simulates, refuse, leave, bind}
 use Rattle.theory_laws.specs.Representation.{Entries, Holds}
 use Rattle.theory_reading.proofs.Stored.{Longer, Stored, Means}
 use Rattle.capacity.proofs.Rooms.{roomy-01}

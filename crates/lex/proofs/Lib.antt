@@ -8,3 +8,4 @@ pub mod Lines
 pub mod Skipping
 pub mod Standing
 pub mod Positions
+pub mod Looking

@@ -1,16 +1,22 @@
--- No character above 3000 is white space. Assumes nothing.
+-- Where a character is white space by one of the ranges, and that none above 3000 is. Assumes nothing.
 use mathlib.Core.Path.{_≡_, refl}
 use mathlib.Core.Bool.{Bool, true, false, _&&_, _||_}
-use Prim.Native.Nat.{ℕ, _≤_, _<_}
+use Prim.Native.Nat.{ℕ, zero, suc, _≤_, _<_}
 use native.Mathlib.Omega.{arith}
 use borrow.Author.Tests.{lt-leb}
 use lib.Dec.{leb}
-use Rattle.horn.specs.Utf8.{range, within}
+use lib.ListN.{drop}
+use mathlib.Core.List.{List, [], _∷_}
+use Rattle.horn.specs.Utf8.{Range, range, within}
 use Rattle.horn.specs.Tokens.{white, whiteRanges, inSome}
 
 pub or-false : (b : Bool) → (b || false) ≡ b
 or-false true = refl
 or-false false = refl
+
+or-true : (b : Bool) → (b || true) ≡ true
+or-true true = refl
+or-true false = refl
 
 and-false : (b : Bool) → (b && false) ≡ false
 and-false true = refl
@@ -19,6 +25,16 @@ and-false false = refl
 above : (low high v : ℕ) → high < v → within (range low high) v ≡ false
 unfolding within
 above low high v h = rw (lt-leb v high h, and-false, within)
+
+pub first-of : (b c : Bool) → b ≡ true → (b || c) ≡ true
+first-of b c h = rw h
+
+-- What lies in some range from the n-th on lies in some range.
+pub in-later : (n : ℕ) (rs : List Range) (v : ℕ) → inSome (drop n rs) v ≡ true → inSome rs v ≡ true
+unfolding inSome
+in-later zero rs v h = h
+in-later (suc n) [] v h = h
+in-later (suc n) (r ∷ rs) v h = rw (in-later n rs v h) (or-true (within r v))
 
 pub white-above : (v : ℕ) → 0x3000 < v → white v ≡ false
 unfolding white whiteRanges inSome

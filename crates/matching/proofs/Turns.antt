@@ -8,8 +8,8 @@ use borrow.Author.Tests.{lt-ltb, le-ltb}
 use lib.Dec.{leb}
 use lib.ListN.{getD, set}
 use Rattle.arena.specs.Store.{argumentOf}
-use Rattle.patterns.specs.Outcomes.{ok, refused, pick}
-use Rattle.patterns.specs.Leaving.{Did, _leaving_}
+use Rattle.outcomes.specs.Outcomes.{ok, refused, pick}
+use Rattle.outcomes.specs.Leaving.{Did, _leaving_}
 use Rattle.words.specs.Sums.{sum32}
 use Rattle.theory_reading.specs.Reading.{arityOf}
 use Rattle.theory_reading.specs.Storing.{Areas, before}

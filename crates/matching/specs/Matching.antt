@@ -8,11 +8,11 @@ use lib.ListN.{length, getD, set}
 use Rattle.words.specs.Parts.{part}
 use Rattle.tables.specs.Words.{stepAt}
 use Rattle.arena.specs.Store.{headOf, argumentOf, internAnswer, internArea}
-use Rattle.patterns.specs.Outcomes.{Outcome, ok, refused, pick, need, orElse}
-use Rattle.patterns.specs.Leaving as leaving
-use Rattle.patterns.specs.Leaving.{Did, _leaving_, beside}
+use Rattle.outcomes.specs.Outcomes.{Outcome, ok, refused, pick, need, orElse}
+use Rattle.outcomes.specs.Leaving as leaving
+use Rattle.outcomes.specs.Leaving.{Did, _leaving_, beside}
 use Rattle.words.specs.Sums.{sum32}
-use Rattle.patterns.specs.Places as layout
+use Rattle.items.specs.Places as layout
 use Rattle.theory_reading.specs.Reading.{arityOf, premiseCount, premisesPlace, conclusionPlace}
 use Rattle.theory_reading.specs.Storing.{numbered, Areas, before}
 use Rattle.matching.specs.declared.Matched.{Matched}

@@ -4,11 +4,11 @@
 ghost use mathlib.Core.Path.{_≡_};
 ghost use lib.ListN.{set};
 ghost use Rattle.words.specs.Sums.{sum32};
-ghost use Rattle.patterns.specs.Outcomes.{refusal};
-ghost use Rattle.patterns.specs.Leaving.{_leaving_};
+ghost use Rattle.outcomes.specs.Outcomes.{refusal};
+ghost use Rattle.outcomes.specs.Leaving.{_leaving_};
 ghost use Rattle.matching.specs.Matching as models;
 use arena::Answer;
-use patterns::places;
+use items::places;
 
 // Where a pattern that matched ends.
 pub enum Matched {

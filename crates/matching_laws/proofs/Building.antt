@@ -22,11 +22,11 @@ use Rattle.arena.proofs.Copies.{wordsAt-part}
 use Rattle.arena.proofs.Limits.{Limits}
 use Rattle.arena.proofs.Trees as trees
 use Rattle.arena.proofs.Trees.{treeOf, lookups, Below, formed}
-use Rattle.patterns.specs.Leaving as leaving
-use Rattle.patterns.specs.Leaving.{Did, _leaving_}
+use Rattle.outcomes.specs.Leaving as leaving
+use Rattle.outcomes.specs.Leaving.{Did, _leaving_}
 use Rattle.words.specs.Sums.{sum32}
 use Rattle.theory_laws.specs.Representation.{Entries, SymbolAt, Flat, flat-variable, flat-symbol, Flats, no-flats, one-flat, Holds}
-use Rattle.theory_laws.specs.Simulation.{Simulates, refuse, leave, bind, paired}
+use Rattle.outcomes.specs.Simulation.{Simulates, refuse, leave, bind, paired}
 use Rattle.theory_laws.proofs.Frames.{Keeps, keeps-all, keeps-then, keeps-set}
 use Rattle.words.proofs.Sums.{sum-small}
 use Rattle.theory_laws.proofs.Readback.{symbol-arity, symbol-below}

@@ -19,7 +19,7 @@ use Rattle.horn.specs.Certificate.{given, conclude}
 use Rattle.arena.proofs.Limits.{Limits}
 use Rattle.arena.proofs.Trees.{treeOf}
 use Rattle.theory_laws.specs.Representation.{Entries, FlatList, no-premises, one-premise, RuleWords, RuleAt, rule-at, Holds}
-use Rattle.theory_laws.specs.Simulation.{Simulates, leave, bind, aside, bind-aside, giving}
+use Rattle.outcomes.specs.Simulation.{Simulates, leave, bind, aside, bind-aside, giving}
 use Rattle.theory_laws.proofs.Frames.{Keeps}
 use Rattle.words.proofs.Sums.{sum-small}
 use Rattle.theory_reading.specs.Reading.{premiseCount, premisesPlace, conclusionPlace}

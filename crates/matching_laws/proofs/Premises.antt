@@ -13,11 +13,11 @@ use Rattle.horn.specs.Setting.{Setting}
 use Rattle.horn.specs.Rulebook.{Variable, Pattern, Theory}
 use Rattle.horn.specs.StoredTerms.{Term}
 use Rattle.horn.specs.Matching.{Bind, Step, matchPremises}
-use Rattle.patterns.specs.Outcomes as outcomes
-use Rattle.patterns.specs.Leaving as leaving
-use Rattle.patterns.specs.Leaving.{Did, _leaving_}
+use Rattle.outcomes.specs.Outcomes as outcomes
+use Rattle.outcomes.specs.Leaving as leaving
+use Rattle.outcomes.specs.Leaving.{Did, _leaving_}
 use Rattle.theory_laws.specs.Representation.{Entries, FlatList, no-premises, one-premise, Holds}
-use Rattle.theory_laws.specs.Simulation.{Simulates, refuse, leave}
+use Rattle.outcomes.specs.Simulation.{Simulates, refuse, leave}
 use Rattle.theory_laws.proofs.Frames.{Keeps}
 use Rattle.horn.proofs.SoundnessWords.{Apart}
 use Rattle.theory_reading.proofs.Stored.{Stored}

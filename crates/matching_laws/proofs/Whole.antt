@@ -13,7 +13,7 @@ use Rattle.horn.specs.Matching.{Bind, Step, judgmentOf}
 use Rattle.horn.specs.Certificate.{given, conclude}
 use Rattle.arena.proofs.Settings.{limits-01}
 use Rattle.theory_laws.specs.Representation.{Entries, RuleAt, Holds}
-use Rattle.theory_laws.specs.Simulation.{Simulates}
+use Rattle.outcomes.specs.Simulation.{Simulates}
 use Rattle.theory_laws.proofs.Frames.{Keeps}
 use Rattle.theory_reading.proofs.Stored.{Stored, Means}
 use Rattle.tables.specs.declared.Tally.{Tally}

@@ -1,34 +1,15 @@
 -- One turn of each loop, and one level of a pattern, on the side of the models.
 use Prim.Native.Nat.{ℕ, zero, suc, _+_, _-_, _<_, _≤_}
 use mathlib.Core.Path.{_≡_, refl}
-use mathlib.Core.Bool.{true, false}
 use mathlib.Core.List.{List}
-use mathlib.Core.Option.{Option, none, some}
 use native.Mathlib.Omega.{arith}
 use lib.ListN.{getD}
-use Rattle.words.specs.Parts.{part, sameBytes}
-use Rattle.patterns.specs.Outcomes.{ok, refused}
-use Rattle.patterns.specs.Leaving.{Did, _leaving_, _>>=_}
-use Rattle.patterns.specs.Items.{itemDue, closingDue}
-use Rattle.patterns.specs.Patterns.{Areas, variableName, positionFrom, position, argumentsFrom, pattern, patternOf, judgment, judgments}
-use Rattle.patterns.specs.declared.Walk.{Walk}
-
-module _ (text vars key : List ℕ) (n i : ℕ) where
-  pub variable-here : i < n → sameBytes (variableName text vars i) key ≡ true → positionFrom (n - i) text vars key i ≡ some i
-  unfolding positionFrom
-  variable-here l h = let e : n - i ≡ suc (n - (i + 1)) = omega arith in rw (e, h)
-
-  pub variable-on : i < n → sameBytes (variableName text vars i) key ≡ false → positionFrom (n - i) text vars key i ≡ positionFrom (n - (i + 1)) text vars key (i + 1)
-  unfolding positionFrom
-  variable-on l h = let e : n - i ≡ suc (n - (i + 1)) = omega arith in rw (e, h)
-
-  pub variable-nowhere : n ≤ i → positionFrom (n - i) text vars key i ≡ none
-  unfolding positionFrom
-  variable-nowhere l = let e : n - i ≡ 0 = omega arith in rw e
-
-pub variable-first : (text vars : List ℕ) (n s t : ℕ) → position text vars n s t ≡ positionFrom (n - 0) text vars (part s t text) 0
-unfolding position
-variable-first text vars n s t = let e : n - 0 ≡ n = omega arith in rw e
+use Rattle.outcomes.specs.Outcomes.{ok, refused}
+use Rattle.outcomes.specs.Leaving.{Did, _leaving_, _>>=_}
+use Rattle.items.specs.Items.{itemDue, closingDue}
+use Rattle.leaves.specs.Leaves.{Areas, variableName, positionFrom, position}
+use Rattle.patterns.specs.Patterns.{argumentsFrom, pattern, patternOf, judgment, judgments}
+use Rattle.items.specs.declared.Walk.{Walk}
 
 module _ (read : ℕ → Walk → List ℕ → List ℕ → Did Areas Walk) (text : List ℕ) (c n : ℕ) (w : Walk) (vars heap : List ℕ) where
   pub arguments-first : argumentsFrom read n text c 0 w vars heap ≡ argumentsFrom read (n - 0) text c 0 w vars heap

@@ -1,5 +1,1 @@
-pub mod Places
-pub mod Outcomes
-pub mod Leaving
-pub mod Items
 pub mod Patterns

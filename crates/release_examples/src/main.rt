@@ -39,7 +39,7 @@ fn number(n: u32) {
     io::print_decimal(1, n as u64);
 }
 
-fn show(r: kernel::Report) {
+fn show(r: reports::Report) {
     io::write_all(1, b":");
     number(r.number);
     number(r.steps);

@@ -5,9 +5,9 @@ ghost use mathlib.Core.Path.{_≡_};
 ghost use lib.ListN.{length};
 ghost use Rattle.horn.specs.Setting.{document01};
 ghost use Rattle.horn.specs.Calls.{report, releaseCall};
-ghost use Rattle.kernel.specs.Release.{told};
+ghost use Rattle.reports.specs.Release.{told};
 ghost use Rattle.release_files.specs.Answers.{Within, text, answered, Answered};
-use kernel::Report;
+use reports::Report;
 
 // What became of a file: a text of so many bytes at the start of its buffer, or 30.
 pub enum File {

@@ -8,7 +8,7 @@ const FIRST: u32 = 3735928559;
 
 const STEP: u32 = 2654435761;
 
-fn same(h: Head, r: kernel::Report) -> bool {
+fn same(h: Head, r: reports::Report) -> bool {
     if h.own != r.number {
         return false;
     }
@@ -37,7 +37,7 @@ fn show_kept(h: Head) {
     number(h.fourth);
 }
 
-fn show_report(r: kernel::Report) {
+fn show_report(r: reports::Report) {
     number(r.number);
     number(r.steps);
     number(r.goals);
@@ -45,7 +45,7 @@ fn show_report(r: kernel::Report) {
     number(r.bytes);
 }
 
-fn show(label: &[u8], h: Head, r: kernel::Report) {
+fn show(label: &[u8], h: Head, r: reports::Report) {
     io::write_all(1, label);
     io::write_all(1, b": kept");
     show_kept(h);
@@ -68,7 +68,7 @@ fn run(
     b: &mut [u32],
     c: &mut [u32],
     d: &mut [u32],
-) -> kernel::Report {
+) -> reports::Report {
     areas::fill_all(FIRST, STEP, a, b, c, d);
     kernel::release(rulebook, goals, certificate, a, b, c, d)
 }

@@ -35,7 +35,7 @@ fn number(n: u32) {
     io::print_decimal(1, n as u64);
 }
 
-fn show(label: &[u8], r: kernel::RulebookReport) {
+fn show(label: &[u8], r: reports::RulebookReport) {
     io::write_all(1, label);
     io::write_all(1, b":");
     number(r.number);

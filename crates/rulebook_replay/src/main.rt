@@ -43,7 +43,7 @@ fn kept(head: &[u8]) -> Answer {
     }
 }
 
-fn same(x: Answer, r: kernel::RulebookReport) -> bool {
+fn same(x: Answer, r: reports::RulebookReport) -> bool {
     if x.number != r.number {
         return false;
     }
@@ -73,7 +73,7 @@ fn show_kept(x: Answer) {
     number(x.rules);
 }
 
-fn show_report(r: kernel::RulebookReport) {
+fn show_report(r: reports::RulebookReport) {
     io::write_all(1, b", answered");
     number(r.number);
     number(r.sorts);

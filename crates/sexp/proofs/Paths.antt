@@ -1,9 +1,10 @@
 -- One law for each way through a token's step and through the end of the text.
 use Prim.Native.Nat.{ℕ, _+_, _-_, _%_, _≤_, _<_}
-use mathlib.Core.Path.{_≡_, refl}
+use mathlib.Core.Path.{_≡_, refl, ap}
+use mathlib.Core.Bool.{Bool, true, false}
 use mathlib.Core.List.{List}
 use borrow.Author.Tests.{eq-eqb, ne-eqb, lt-ltb, le-ltb}
-use lib.ListN.{getD}
+use lib.ListN.{getD, set}
 use Rattle.horn.specs.Refusals.{number}
 use Rattle.lex.specs.declared.Token.the-variants.{Opening, Closing, Atom}
 use Rattle.sexp.specs.declared.Place.{Place}
@@ -17,6 +18,13 @@ no-member d area e = rw (eq-eqb d 0 e, memberAdded)
 pub a-member : (d : ℕ) (area : List ℕ) → (d ≡ 0 → ⊥) → memberAdded d area ≡ counted area (getD area (8_191 + d) 0)
 unfolding memberAdded
 a-member d area e = rw (ne-eqb d 0 e, memberAdded)
+
+-- The three words that an opening changes, one after the other.
+pub opened-list : (n d : ℕ) (area : List ℕ) {added zeroed opened : List ℕ} → added ≡ memberAdded d area → zeroed ≡ set added n 0
+    → opened ≡ set zeroed (8_192 + d) n
+    → opened ≡ listOpened n d area
+unfolding listOpened
+opened-list n d area e f g = rw (g, f, e)
 
 module _ (p : Place) where
   pub end-top : p .depth ≡ 0 → endedAt p ≡ whole (p .openings)
@@ -48,8 +56,8 @@ module _ (p : Place) where
   opening-deep h = rw (lt-ltb 256 (p .depth) h, stepped)
 
   pub atom-on : (s e : ℕ) → p .depth ≤ 256 → stepped (Atom s e) p ≡ On p
-  unfolding stepped
-  atom-on s e h = rw (le-ltb 256 (p .depth) h, stepped)
+  unfolding stepped number
+  atom-on s e h = ap (λ (b : Bool). elim b [ true ↦ Refused 4 | false ↦ On p ]) (le-ltb 256 (p .depth) h)
 
   pub atom-deep : (s e : ℕ) → 256 < p .depth → stepped (Atom s e) p ≡ Refused 4
   unfolding stepped number

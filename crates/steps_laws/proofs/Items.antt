@@ -29,12 +29,12 @@ use Rattle.words.specs.Sums.{sum32}
 use Rattle.words.proofs.Sums.{sum-small}
 use Rattle.names.specs.Tables.{Agree, both-none, both-some}
 use Rattle.lex.specs.declared.Reader.{Reader}
-use Rattle.patterns.specs.Outcomes as outcomes
-use Rattle.patterns.specs.Outcomes.{Outcome}
-use Rattle.patterns.specs.Leaving as leaving
-use Rattle.patterns.specs.Leaving.{Did, _leaving_}
-use Rattle.patterns.specs.Items.{question}
-use Rattle.theory_laws.specs.Simulation.{Answers, both-refuse, both-ok, Simulates, refuse, leave, bind as bind-all, test, tests, giving}
+use Rattle.outcomes.specs.Outcomes as outcomes
+use Rattle.outcomes.specs.Outcomes.{Outcome}
+use Rattle.outcomes.specs.Leaving as leaving
+use Rattle.outcomes.specs.Leaving.{Did, _leaving_}
+use Rattle.items.specs.Items.{question}
+use Rattle.outcomes.specs.Simulation.{Answers, both-refuse, both-ok, Simulates, refuse, leave, bind as bind-all, test, tests, giving}
 use Rattle.theory_laws.specs.Representation.{Entries, Nth, SortAt, RuleAt, Holds}
 use Rattle.theory_laws.proofs.Lookups.{part-question}
 use Rattle.theory_laws.proofs.Frames.{Keeps, keeps-then, keeps-set, rule-kept, grown-none}
@@ -53,8 +53,8 @@ use Rattle.terms_laws.proofs.Judgments.{lifted, AskedRead, ask-term-law, headed
 use Rattle.matching.specs.Matching.{bindingOf, bindingAt}
 use Rattle.matching_laws.proofs.Relations.{Bound, not-bound, bound-to, Binds}
 use Rattle.matching_laws.proofs.Bindings.{bound-longer, binds-longer, binds-more}
-use Rattle.steps.specs.Steps as walk
-use Rattle.steps.specs.Steps.{Worked}
+use Rattle.step_items.specs.StepItems as walk
+use Rattle.step_items.specs.StepItems.{Worked}
 use Rattle.steps_laws.proofs.Numbers.{list-ended, list-member}
 
 -- What the items so far have given, beside the areas: `heap` is the theory's area as the rulebook left it, `held` the stack with the step's references.

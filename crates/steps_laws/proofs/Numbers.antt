@@ -11,15 +11,15 @@ use Rattle.horn.specs.Checker as definition
 use Rattle.horn.specs.Checker.{numeral}
 use Rattle.words.specs.Parts.{part}
 use Rattle.lex.specs.declared.Reader.{Reader}
-use Rattle.patterns.specs.Outcomes as outcomes
-use Rattle.patterns.specs.Outcomes.{Outcome}
-use Rattle.theory_laws.specs.Simulation.{Answers, both-refuse, both-ok}
+use Rattle.outcomes.specs.Outcomes as outcomes
+use Rattle.outcomes.specs.Outcomes.{Outcome}
+use Rattle.outcomes.specs.Simulation.{Answers, both-refuse, both-ok}
 use Rattle.asking.specs.Asking as asked
 use Rattle.asking.specs.Asking.{Met, atomDue, listDue}
 use Rattle.asking_laws.proofs.Places.{Left, At}
 use Rattle.asking_laws.proofs.Asking.{ItemMet, atom-met, list-met, item-law, GroupMet, group-met, group-law}
 use Rattle.terms_laws.proofs.Reading.{asked-yes}
-use Rattle.steps.specs.Steps as walk
+use Rattle.references.specs.References as walk
 
 module _ (text : List ℕ) (K : Stream Token → Type 0) (n : ℕ) where
   -- A number that was asked for.

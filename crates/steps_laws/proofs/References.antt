@@ -10,20 +10,20 @@ use Rattle.horn.specs.Tokens.{Stream, Token}
 use Rattle.horn.specs.NestedLists.{Items, closed, ended, badLine, _then_, absent}
 use Rattle.horn.specs.Certificate as certificates
 use Rattle.lex.specs.declared.Reader.{Reader}
-use Rattle.patterns.specs.Outcomes.{Outcome}
-use Rattle.patterns.specs.Leaving as leaving
-use Rattle.patterns.specs.Leaving.{Did, _leaving_}
+use Rattle.outcomes.specs.Outcomes.{Outcome}
+use Rattle.outcomes.specs.Leaving as leaving
+use Rattle.outcomes.specs.Leaving.{Did, _leaving_}
 use Rattle.words.specs.Sums.{sum32}
 use Rattle.words.proofs.Sums.{sum-small}
 use Rattle.numerals.specs.Numbers.{saturated}
-use Rattle.theory_laws.specs.Simulation.{Answers, both-refuse, Simulates, refuse, leave, pure, after}
+use Rattle.outcomes.specs.Simulation.{Answers, both-refuse, Simulates, refuse, leave, pure, after}
 use Rattle.asking.specs.Asking.{Ahead}
 use Rattle.asking_laws.proofs.Places.{Left, At, at-less, at-within}
 use Rattle.asking_laws.proofs.Asking.{Looked, look-closed, look-bad, look-ended, look-item, look-law}
 use Rattle.terms_laws.proofs.Reading.{asked-yes}
 use Rattle.matching_laws.proofs.Relations.{ReferencesAt}
 use Rattle.matching_laws.proofs.References.{saturates, references-more}
-use Rattle.steps.specs.Steps as walk
+use Rattle.references.specs.References as walk
 use Rattle.steps_laws.proofs.Numbers.{NumberMet, number-ended, number-member}
 
 -- References were read behind those that stood on the stack: how many there are, and the reader after the closing.

@@ -25,11 +25,11 @@ use Rattle.horn.proofs.SoundnessWords.{WellFormed}
 use Rattle.words.specs.Parts.{part}
 use Rattle.lex.specs.declared.Reader.{Reader}
 use Rattle.lex.proofs.Positions.{never-past}
-use Rattle.patterns.specs.Outcomes as outcomes
-use Rattle.patterns.specs.Outcomes.{Outcome}
-use Rattle.patterns.specs.Leaving as leaving
-use Rattle.patterns.specs.Leaving.{Did, _leaving_, beside}
-use Rattle.theory_laws.specs.Simulation.{Answers, both-refuse, both-ok, Simulates, refuse, leave, bind, test, giving}
+use Rattle.outcomes.specs.Outcomes as outcomes
+use Rattle.outcomes.specs.Outcomes.{Outcome}
+use Rattle.outcomes.specs.Leaving as leaving
+use Rattle.outcomes.specs.Leaving.{Did, _leaving_, beside}
+use Rattle.outcomes.specs.Simulation.{Answers, both-refuse, both-ok, Simulates, refuse, leave, bind, test, giving}
 use Rattle.theory_laws.specs.Representation.{Entries, RuleAt, Holds}
 use Rattle.theory_laws.proofs.Frames.{Keeps, keeps-all, rule-kept, grown-none}
 use Rattle.theory_reading.specs.Reading.{ruleFound, premiseCount}
@@ -49,8 +49,10 @@ use Rattle.matching_laws.proofs.Formed.{RuleReady}
 use Rattle.matching_laws.proofs.Starting.{named-ready}
 use Rattle.matching_laws.proofs.Whole.{step-judged}
 use Rattle.terms_laws.proofs.Following.{tested, first-of}
+use Rattle.references.specs.References as referring
+use Rattle.step_items.specs.StepItems as stating
 use Rattle.steps.specs.Steps as walk
-use Rattle.steps.specs.Steps.{Worked}
+use Rattle.step_items.specs.StepItems.{Worked}
 use Rattle.steps_laws.proofs.Numbers.{number-law}
 use Rattle.steps_laws.proofs.References.{ReferencesRead, references-from}
 use Rattle.steps_laws.proofs.Items.{ItemRead, item-read, items-from}
@@ -107,9 +109,9 @@ module _ {rules heap : List ℕ} {es : Entries} {bound : ℕ} {th : Theory} (h :
   -- "List of references, each 18; their count 20".
   counted-law : {live : List ℕ} → Holds rules live es bound th → {e : ℕ} {c : Rule} → RuleAt rules live es bound e c → (L : Stream Token → Type 0) (is : Items) (spent : ℕ) (r : Reader) (stack : List ℕ)
       → length stack ≡ 16384 → 1 ≤ spent → At certificate (Left is L) spent r
-      → Simulates (λ x left y. ReferencesRead certificate L spent [] x left y × (length y ≡ length (premisesOf c))) (walk.countedReferences certificate live e r stack)
+      → Simulates (λ x left y. ReferencesRead certificate L spent [] x left y × (length y ≡ length (premisesOf c))) (referring.countedReferences certificate live e r stack)
       (refusals._>>=_ (certificates.references is) (λ refs. refusals._>>=_ (refusals.need (eqb (length refs) (length (premisesOf c))) referenceCount) (λ _. refusals.ok refs)))
-  unfolding walk.countedReferences walk.references number
+  unfolding referring.countedReferences referring.references number
   counted-law {live} hn {e} {c} a L is spent r stack long some there =
       bind _ _ (references-from certificate short L (length certificate + 1) is 0 spent [] r stack refl (omega arith) (omega arith) long no-references there)
       (λ x left y k.
@@ -152,7 +154,7 @@ module _ {rules heap : List ℕ} {es : Entries} {bound : ℕ} {th : Theory} (h :
         (refusals._>>=_ {A = Given × List Term} (certificates.stepItems document01 th (now .defs) rule is (given [] none) ts)
         (λ g. refusals._>>=_ {A = Term × List Term} (certificates.conclude document01 th (now .steps) rule refs (g .0) (g .1))
         (λ p. refusals.ok (record { defs = now .defs; openGoals = now .openGoals; steps = now .steps ++ (step (p .0) rule ∷ []) }, p .1))))
-    unfolding walk.itemsJudged walk.items
+    unfolding walk.itemsJudged stating.items
     judged-law is spent r store live room some st keep live-rule there =
         rw (variable-count-is (holds-now h high keep) live-rule)
         (bind _ _
@@ -186,7 +188,7 @@ module _ {rules heap : List ℕ} {es : Entries} {bound : ℕ} {th : Theory} (h :
 
     pub step-law : Simulates (StepRead rules heap es bound th certificate ts now K) (walk.step certificate rules table (tally .steps) r store stack live)
         (certificates.stepForm document01 th now is ts)
-    unfolding walk.step walk.ruleDue certificates.stepForm definition._>>=_ definition.lift definition.give number
+    unfolding walk.step referring.ruleDue certificates.stepForm definition._>>=_ definition.lift definition.give number
     step-law =
         first-of ((store, stack), live) ts _ _ _ (number-law certificate K 0 is 256 1 refl at-items)
         (λ x y m.

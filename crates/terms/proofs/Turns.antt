@@ -8,8 +8,8 @@ use borrow.Author.Tests.{eq-eqb, ne-eqb}
 use lib.Dec.{eqb}
 use lib.ListN.{set}
 use Rattle.lex.specs.declared.Reader.{Reader}
-use Rattle.patterns.specs.Outcomes.{Outcome, ok, refused, need}
-use Rattle.patterns.specs.Leaving.{Did, _leaving_, _>>=_}
+use Rattle.outcomes.specs.Outcomes.{Outcome, ok, refused, need}
+use Rattle.outcomes.specs.Leaving.{Did, _leaving_, _>>=_}
 use Rattle.words.specs.Sums.{sum32}
 use Rattle.theory_reading.specs.Reading.{arityOf, fitsInput, allFit, accepted}
 use Rattle.asking.specs.Asking.{closing, member, list, itemDue, listDue, atomDue, closingNext}

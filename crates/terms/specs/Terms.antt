@@ -8,11 +8,11 @@ use Rattle.words.specs.Parts.{part}
 use Rattle.lex.specs.declared.Reader.{Reader}
 use Rattle.arena.specs.Store.{headOf, internAnswer, internArea}
 use Rattle.tables.specs.Words.{defMeaning}
-use Rattle.patterns.specs.Outcomes.{Outcome, ok, refused, need, orElse, pick}
-use Rattle.patterns.specs.Outcomes as outcomes
-use Rattle.patterns.specs.Leaving.{Did, _leaving_, _>>=_}
+use Rattle.outcomes.specs.Outcomes.{Outcome, ok, refused, need, orElse, pick}
+use Rattle.outcomes.specs.Outcomes as outcomes
+use Rattle.outcomes.specs.Leaving.{Did, _leaving_, _>>=_}
 use Rattle.words.specs.Sums.{sum32}
-use Rattle.patterns.specs.Items.{question}
+use Rattle.items.specs.Items.{question}
 use Rattle.theory_reading.specs.Reading.{constructorFound, predicateFound, outputOf, accepted}
 use Rattle.theory_reading.specs.Storing as storing
 use Rattle.theory_reading.specs.Storing.{Areas}

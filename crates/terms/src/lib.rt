@@ -1,10 +1,10 @@
 // Terms and judgments in goals and certificate. A term is the number of its node in the store, a symbol the address of its entry in the
-// theory's area (crate patterns says how that is laid out); names of symbols stand in the rulebook, those of abbreviations in the text that
+// theory's area (crate items says how that is laid out); names of symbols stand in the rulebook, those of abbreviations in the text that
 // is read. Abbreviations stand in the table with 128 buckets (crate tables). On the stack a node is under construction from word `top` on:
 // its head, then its arguments.
 ghost use mathlib.Core.Path.{_≡_};
-ghost use Rattle.patterns.specs.Outcomes.{refusal};
-ghost use Rattle.patterns.specs.Leaving.{_leaving_};
+ghost use Rattle.outcomes.specs.Outcomes.{refusal};
+ghost use Rattle.outcomes.specs.Leaving.{_leaving_};
 ghost use Rattle.theory_reading.specs.Reading.{accepted};
 ghost use Rattle.terms.specs.Terms.{numbered, headOn, sortOf, make, constructorDue, predicateDue, atomTerm, headDue, term, arguments, headedJudgment, judgment};
 use arena::Answer;
@@ -134,7 +134,7 @@ pub fn atom_term(
 ) -> Numbered
     ensures { λ r. ⌜ (numbered r leaving (now (store .exit), now (stack .exit))) ≡ atomTerm (now (text .entry)) (now (rules .entry)) (now (heap .entry)) (now (table .entry)) top s t reader (now (store .entry)) (now (stack .entry)) ⌝ }
 {
-    if patterns::items::is_question(text, s) {
+    if items::is_question(text, s) {
         let known = tables::meaning(table, 128, text, s, t);
         let Kept::Is(k) = known else {
             return Numbered::Refused(12);

@@ -20,12 +20,12 @@ use Rattle.names.specs.Tables.{Agree, both-none, both-some}
 use Rattle.lex.specs.declared.Reader.{Reader}
 use Rattle.arena.proofs.Trees.{lookups}
 use Rattle.arena.proofs.Trees as trees
-use Rattle.patterns.specs.Outcomes as outcomes
-use Rattle.patterns.specs.Outcomes.{Outcome}
-use Rattle.patterns.specs.Leaving as leaving
-use Rattle.patterns.specs.Leaving.{_leaving_}
-use Rattle.patterns.specs.Items.{question}
-use Rattle.theory_laws.specs.Simulation.{Answers, both-refuse, both-ok, Simulates, refuse, leave}
+use Rattle.outcomes.specs.Outcomes as outcomes
+use Rattle.outcomes.specs.Outcomes.{Outcome}
+use Rattle.outcomes.specs.Leaving as leaving
+use Rattle.outcomes.specs.Leaving.{_leaving_}
+use Rattle.items.specs.Items.{question}
+use Rattle.outcomes.specs.Simulation.{Answers, both-refuse, both-ok, Simulates, refuse, leave}
 use Rattle.theory_laws.specs.Representation.{Entries, SymbolAt, Holds}
 use Rattle.theory_laws.proofs.Lookups.{part-question}
 use Rattle.theory_laws.proofs.Frames.{keeps-all}

@@ -6,11 +6,11 @@ use mathlib.Core.List.{List}
 use Rattle.horn.specs.Refusals as refusals
 use Rattle.horn.specs.Refusals.{Refusal, Result, number}
 use Rattle.horn.specs.StoredTerms.{Term}
-use Rattle.patterns.specs.Outcomes as outcomes
-use Rattle.patterns.specs.Outcomes.{Outcome}
-use Rattle.patterns.specs.Leaving as leaving
-use Rattle.patterns.specs.Leaving.{Did, _leaving_}
-use Rattle.theory_laws.specs.Simulation.{Answers, both-refuse, both-ok, Simulates, refuse, leave}
+use Rattle.outcomes.specs.Outcomes as outcomes
+use Rattle.outcomes.specs.Outcomes.{Outcome}
+use Rattle.outcomes.specs.Leaving as leaving
+use Rattle.outcomes.specs.Leaving.{Did, _leaving_}
+use Rattle.outcomes.specs.Simulation.{Answers, both-refuse, both-ok, Simulates, refuse, leave}
 use Rattle.theory_reading.specs.Storing.{before}
 
 -- A test.

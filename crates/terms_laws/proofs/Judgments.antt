@@ -18,11 +18,11 @@ use Rattle.horn.specs.Checker as definition
 use Rattle.horn.specs.Checker.{Def}
 use Rattle.words.specs.Parts.{part}
 use Rattle.lex.specs.declared.Reader.{Reader}
-use Rattle.patterns.specs.Outcomes.{Outcome}
-use Rattle.patterns.specs.Leaving as leaving
-use Rattle.patterns.specs.Leaving.{Did, _leaving_}
+use Rattle.outcomes.specs.Outcomes.{Outcome}
+use Rattle.outcomes.specs.Leaving as leaving
+use Rattle.outcomes.specs.Leaving.{Did, _leaving_}
 use Rattle.words.specs.Sums.{sum32}
-use Rattle.theory_laws.specs.Simulation.{Answers, both-refuse, both-ok, Simulates, refuse, bind, after}
+use Rattle.outcomes.specs.Simulation.{Answers, both-refuse, both-ok, Simulates, refuse, bind, after}
 use Rattle.theory_laws.specs.Representation.{Entries, Holds}
 use Rattle.words.proofs.Sums.{sum-small}
 use Rattle.theory_reading.proofs.Stored.{Means}

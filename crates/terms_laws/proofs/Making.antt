@@ -18,9 +18,9 @@ use Rattle.lex.specs.declared.Reader.{Reader}
 use Rattle.arena.proofs.Nodes.{Node}
 use Rattle.arena.proofs.Trees.{Below, Formed, formed, lookups, build}
 use Rattle.arena.proofs.Settings.{limits-01}
-use Rattle.patterns.specs.Outcomes.{Outcome}
-use Rattle.patterns.specs.Leaving.{_leaving_}
-use Rattle.theory_laws.specs.Simulation.{Simulates, refuse, leave}
+use Rattle.outcomes.specs.Outcomes.{Outcome}
+use Rattle.outcomes.specs.Leaving.{_leaving_}
+use Rattle.outcomes.specs.Simulation.{Simulates, refuse, leave}
 use Rattle.theory_laws.specs.Representation.{Entries, SymbolAt, Holds}
 use Rattle.theory_laws.proofs.Frames.{Keeps, keeps-set}
 use Rattle.theory_reading.specs.Reading.{accepted}

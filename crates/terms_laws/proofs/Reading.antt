@@ -22,12 +22,12 @@ use Rattle.horn.proofs.Equality.{case}
 use Rattle.lex.specs.declared.Reader.{Reader}
 use Rattle.arena.proofs.Trees.{Below, both, lookups}
 use Rattle.arena.proofs.Trees as trees
-use Rattle.patterns.specs.Outcomes as outcomes
-use Rattle.patterns.specs.Outcomes.{Outcome}
-use Rattle.patterns.specs.Leaving as leaving
-use Rattle.patterns.specs.Leaving.{Did, _leaving_}
+use Rattle.outcomes.specs.Outcomes as outcomes
+use Rattle.outcomes.specs.Outcomes.{Outcome}
+use Rattle.outcomes.specs.Leaving as leaving
+use Rattle.outcomes.specs.Leaving.{Did, _leaving_}
 use Rattle.words.specs.Sums.{sum32}
-use Rattle.theory_laws.specs.Simulation.{Answers, both-refuse, both-ok, Simulates, refuse, leave, bind, after, weaker}
+use Rattle.outcomes.specs.Simulation.{Answers, both-refuse, both-ok, Simulates, refuse, leave, bind, after, weaker}
 use Rattle.theory_laws.specs.Representation.{Entries, SymbolAt, Holds}
 use Rattle.words.proofs.Sums.{sum-small}
 use Rattle.theory_laws.proofs.Frames.{Keeps, keeps-all, keeps-less, keeps-then, keeps-set}

@@ -12,7 +12,7 @@ use Rattle.horn.specs.Checker as definition
 use Rattle.horn.specs.Checker.{Def, Goal}
 use Rattle.horn.specs.Matching.{Step}
 use Rattle.lex.specs.declared.Reader.{Reader}
-use Rattle.theory_laws.specs.Simulation.{Simulates}
+use Rattle.outcomes.specs.Simulation.{Simulates}
 use Rattle.theory_laws.specs.Representation.{Entries, Holds}
 use Rattle.theory_reading.proofs.Stored.{Stored, Means, longer-none}
 use Rattle.tables.specs.declared.Tally.{Tally}

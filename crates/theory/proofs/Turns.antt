@@ -1,68 +1,20 @@
--- One turn of each loop, on the side of the models.
+-- One turn of the loop over declarations, and the second walk behind the first, on the side of the models.
 use Prim.Native.Nat.{ℕ, zero, suc, _+_, _-_, _<_, _≤_}
 use mathlib.Core.Path.{_≡_, refl}
 use mathlib.Core.List.{List}
 use native.Mathlib.Omega.{arith}
-use borrow.Author.Tests.{lt-ltb, le-ltb}
-use lib.ListN.{getD, set}
-use Rattle.patterns.specs.Outcomes.{Outcome, ok, refused}
-use Rattle.patterns.specs.Leaving.{Did, _leaving_}
-use Rattle.words.specs.Sums.{sum32}
-use Rattle.patterns.specs.Items.{pushed, closingDue}
-use Rattle.patterns.specs.Patterns.{Areas}
-use Rattle.patterns.specs.declared.Walk.{Walk}
-use Rattle.theory.specs.Symbols.{sortNamed, inputs}
-use Rattle.theory.specs.Rules.{passed, skipped, copied}
-use Rattle.theory.specs.Declarations.{Next, another, nothing, declaration, counted, moreDue, declarationsFrom}
+use Rattle.words.specs.Parts.{cleared}
+use Rattle.sexp.specs.Walk.{walkAnswer, walked}
+use Rattle.sexp.specs.declared.Walk as sexp
+use Rattle.sexp.specs.declared.Walk.the-variants.{Whole}
+use Rattle.outcomes.specs.Outcomes.{Outcome, ok, refused}
+use Rattle.outcomes.specs.Leaving.{Did, _leaving_}
+use Rattle.leaves.specs.Leaves.{Areas}
+use Rattle.items.specs.declared.Walk.{Walk}
+use Rattle.theory.specs.Declarations.{Next, another, nothing, declaration, counted, moreDue, declarationsFrom, declarations}
+use Rattle.theory.specs.Walks.{withCounts, theory}
 use Rattle.theory.specs.declared.Form.{Form}
 use Rattle.theory.specs.declared.Counts.{Counts}
-
-pub inputs-on : (text counts : List ℕ) (left : ℕ) (w : Walk) (heap : List ℕ) {a : ℕ} {q v : Walk} {heap′ : List ℕ} → 0 < left → sortNamed text counts heap w ≡ ok (a, q) → pushed a q heap ≡ (ok v leaving heap′) → inputs left text counts w heap ≡ inputs (left - 1) text counts v heap′
-unfolding inputs
-inputs-on text counts zero w heap l h g = absurd (omega arith)
-inputs-on text counts (suc left) w heap l h g = let e : suc left - 1 ≡ left = omega arith in rw (e, h, g)
-
-pub input-refused : (text counts : List ℕ) (left : ℕ) (w : Walk) (heap : List ℕ) {m : ℕ} → 0 < left → sortNamed text counts heap w ≡ refused m → inputs left text counts w heap ≡ (refused m leaving heap)
-unfolding inputs
-input-refused text counts zero w heap l h = absurd (omega arith)
-input-refused text counts (suc left) w heap l h = rw h
-
-pub inputs-end : (text counts : List ℕ) (left : ℕ) (w : Walk) (heap : List ℕ) → left ≤ 0 → inputs left text counts w heap ≡ (closingDue text w leaving heap)
-unfolding inputs
-inputs-end text counts zero w heap l = refl
-inputs-end text counts (suc left) w heap l = absurd (omega arith)
-
-pub skip-done : (fuel depth : ℕ) (text : List ℕ) (w : Walk) → depth ≤ 0 → skipped fuel depth text w ≡ ok w
-unfolding skipped
-skip-done zero depth text w l = rw (le-ltb 0 depth l)
-skip-done (suc fuel) depth text w l = rw (le-ltb 0 depth l)
-
-pub skip-short : (fuel depth : ℕ) (text : List ℕ) (w : Walk) → 0 < depth → fuel ≡ 0 → skipped fuel depth text w ≡ refused 4
-unfolding skipped
-skip-short zero depth text w l e = rw (lt-ltb 0 depth l)
-skip-short (suc fuel) depth text w l e = absurd (omega arith)
-
-pub skip-on : (fuel depth : ℕ) (text : List ℕ) (w : Walk) {k : ℕ} {q : Walk} → 0 < depth → (fuel ≡ 0 → ⊥) → passed text w ≡ ok (k, q) → skipped fuel depth text w ≡ skipped (fuel - 1) (sum32 (depth - 1) k) text q
-unfolding skipped
-skip-on zero depth text w l n h = absurd (n refl)
-skip-on (suc fuel) depth text w l n h = let e : suc fuel - 1 ≡ fuel = omega arith in rw (e, lt-ltb 0 depth l, h)
-
-pub skip-refused : (fuel depth : ℕ) (text : List ℕ) (w : Walk) {m : ℕ} → 0 < depth → (fuel ≡ 0 → ⊥) → passed text w ≡ refused m → skipped fuel depth text w ≡ refused m
-unfolding skipped
-skip-refused zero depth text w l n h = absurd (n refl)
-skip-refused (suc fuel) depth text w l n h = rw (lt-ltb 0 depth l, h)
-
-module _ (vars : List ℕ) (top n : ℕ) where
-  pub copy-first : (heap : List ℕ) → copied n 0 vars top heap ≡ copied (n - 0) 0 vars top heap
-  copy-first heap = let e : n - 0 ≡ n = omega arith in rw e
-
-  pub copy-on : (i : ℕ) (heap : List ℕ) → i < n → copied (n - i) i vars top heap ≡ copied (n - (i + 1)) (i + 1) vars top (set heap (top + i) (getD vars i 0))
-  unfolding copied
-  copy-on i heap l = let e : n - i ≡ suc (n - (i + 1)) = omega arith in rw e
-
-  pub copy-end : (i : ℕ) (heap : List ℕ) → n ≤ i → copied (n - i) i vars top heap ≡ heap
-  unfolding copied
-  copy-end i heap l = let e : n - i ≡ 0 = omega arith in rw e
 
 module _ (text counts : List ℕ) where
   pub declarations-short : (fuel : ℕ) (c : Counts) (w : Walk) (vars heap : List ℕ) → fuel ≤ 0 → declarationsFrom fuel text counts c w vars heap ≡ (refused 4 leaving (vars, heap))
@@ -89,3 +41,11 @@ module _ (text counts : List ℕ) where
   unfolding declarationsFrom
   declarations-on zero c w vars heap l h g = absurd (omega arith)
   declarations-on (suc fuel) c w vars heap l h g = let e : suc fuel - 1 ≡ fuel = omega arith in rw (e, h, g)
+
+-- The first walk read the text whole, the buckets were cleared, and the second walk judged it.
+pub second-walk : (text vars counts heap : List ℕ) {first : sexp.Walk} {n : ℕ} {counts′ heap′ : List ℕ} {d : Did Areas Counts}
+    → walkAnswer first ≡ walked text counts .answer → counts′ ≡ walked text counts .area → first ≡ Whole n
+    → heap′ ≡ cleared 1024 heap → d ≡ declarations text counts′ vars heap′
+    → withCounts counts′ d ≡ theory text vars counts heap
+unfolding walkAnswer theory
+second-walk text vars counts heap answered counted-in whole emptied judged = rw (← answered, whole, judged, emptied, counted-in)

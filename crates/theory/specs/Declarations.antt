@@ -8,16 +8,16 @@ use Rattle.lex.specs.Answers as lex
 use Rattle.lex.specs.Answers.{Answer, peeked, start}
 use Rattle.lex.specs.declared.Reader.{Reader}
 use Rattle.words.specs.Parts.{part, sameBytes}
-use Rattle.patterns.specs.Places as places
-use Rattle.patterns.specs.Outcomes.{Outcome, ok, refused, pick}
-use Rattle.patterns.specs.Outcomes as outcomes
-use Rattle.patterns.specs.Leaving.{Did, _leaving_, _>>=_, beside}
+use Rattle.items.specs.Places as places
+use Rattle.outcomes.specs.Outcomes.{Outcome, ok, refused, pick}
+use Rattle.outcomes.specs.Outcomes as outcomes
+use Rattle.outcomes.specs.Leaving.{Did, _leaving_, _>>=_, beside}
 use Rattle.words.specs.Sums.{sum32}
-use Rattle.patterns.specs.Items.{readOn, listDue, headDue}
-use Rattle.patterns.specs.Patterns.{Areas}
-use Rattle.patterns.specs.declared.Walk.{Walk}
-use Rattle.theory.specs.Symbols.{sortDeclared, constructorDeclared, predicateDeclared}
-use Rattle.theory.specs.Rules.{ruleDeclared}
+use Rattle.items.specs.Items.{readOn, listDue, headDue}
+use Rattle.leaves.specs.Leaves.{Areas}
+use Rattle.items.specs.declared.Walk.{Walk}
+use Rattle.symbols.specs.Symbols.{sortDeclared, constructorDeclared, predicateDeclared}
+use Rattle.rules.specs.Rules.{ruleDeclared}
 use Rattle.theory.specs.declared.Form.{Form}
 use Rattle.theory.specs.declared.Form.the-variants.{Sort, Constructor, Predicate, Rule, Other}
 use Rattle.theory.specs.declared.Counts.{Counts}

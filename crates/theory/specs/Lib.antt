@@ -1,4 +1,2 @@
-pub mod Symbols
-pub mod Rules
 pub mod Declarations
 pub mod Walks

@@ -4,10 +4,10 @@ use mathlib.Core.List.{List}
 use Rattle.words.specs.Parts.{cleared}
 use Rattle.sexp.specs.Walk as sexp
 use Rattle.sexp.specs.Walk.{walked}
-use Rattle.patterns.specs.Places as places
-use Rattle.patterns.specs.Outcomes.{Outcome, ok, refused}
-use Rattle.patterns.specs.Leaving.{Did, _leaving_}
-use Rattle.patterns.specs.Patterns.{Areas}
+use Rattle.items.specs.Places as places
+use Rattle.outcomes.specs.Outcomes.{Outcome, ok, refused}
+use Rattle.outcomes.specs.Leaving.{Did, _leaving_}
+use Rattle.leaves.specs.Leaves.{Areas}
 use Rattle.theory.specs.Declarations.{declarations}
 use Rattle.theory.specs.declared.Counts.{Counts}
 

@@ -1,44 +1,18 @@
-// The second walk over a rulebook: its declarations judged in order, and the theory written into its area (crate `patterns` says how).
+// The second walk over a rulebook: its declarations judged in order, and the theory written into its area (crate `items` says how).
 ghost use mathlib.Core.Path.{_≡_};
-ghost use Rattle.patterns.specs.Outcomes.{refusal};
-ghost use Rattle.patterns.specs.Leaving.{_leaving_};
-ghost use Rattle.patterns.specs.Items.{walked};
+ghost use Rattle.outcomes.specs.Outcomes.{refusal};
+ghost use Rattle.outcomes.specs.Leaving.{_leaving_};
+ghost use Rattle.items.specs.Items.{walked};
 ghost use Rattle.theory.specs.Declarations.{declaredAs, next, judged, formOf, declaredBy, declaration, counted, moreDue};
 ghost use Rattle.theory.specs.Declarations.{startWalk, noCounts, declarations};
 ghost use Rattle.theory.specs.Walks.{theory};
+use items::Named;
+use items::Numbered;
+use items::Walk;
+use items::Walked;
+use items::places;
 use lex::Read;
 use lex::Reader;
-use patterns::Named;
-use patterns::Numbered;
-use patterns::Walk;
-use patterns::Walked;
-use patterns::places;
-
-pub mod rules;
-pub mod symbols;
-
-// A symbol's name, the number of its inputs and the walk after them.
-pub enum Signature {
-    Got(usize, usize, u32, Walk),
-    Refused(u32),
-}
-
-// What stands in the place of a rule's name, which is judged after the patterns.
-pub enum RuleName {
-    Atom(usize, usize),
-    List,
-}
-
-pub enum Kept {
-    Got(RuleName, Walk),
-    Refused(u32),
-}
-
-// The number of a rule's premises, the place of its conclusion and the walk after it.
-pub enum Body {
-    Got(u32, u32, Walk),
-    Refused(u32),
-}
 
 pub enum Form {
     Sort,
@@ -133,18 +107,18 @@ fn declare(
 fn judge(text: &[u8], counts: &[u32], vars: &mut [u32], heap: &mut [u32], w: Walk) -> Declared
     ensures { λ r. ⌜ (declaredAs r leaving (now (vars .exit), now (heap .exit))) ≡ declaration (now (text .entry)) (now (counts .entry)) w (now (vars .entry)) (now (heap .entry)) ⌝ }
 {
-    let l = patterns::items::next_list(text, counts, w);
+    let l = items::next_list(text, counts, w);
     let Numbered::Got(members, q) = l else {
-        return Declared::Refused(patterns::numbered_refusal(l));
+        return Declared::Refused(items::numbered_refusal(l));
     };
-    let h = patterns::items::head(text, counts, members, q);
+    let h = items::head(text, counts, members, q);
     let Named::Atom(s, t, p) = h else {
-        return Declared::Refused(patterns::named_refusal(h));
+        return Declared::Refused(items::named_refusal(h));
     };
     let form = form_of(text, s, t, members);
     let d = declare(form, text, counts, vars, heap, p);
     let Walked::To(o) = d else {
-        return Declared::Refused(patterns::walked_refusal(d));
+        return Declared::Refused(items::walked_refusal(d));
     };
     Declared::As(form, o)
 }

@@ -14,15 +14,15 @@ use Rattle.horn.proofs.Counts.{streamLength}
 use Rattle.horn.proofs.Inversion.{not-ok}
 use Rattle.lex.specs.declared.Reader.{Reader}
 use Rattle.sexp.specs.Flattening.{flatOne, flat, size, countsOne, countsAll}
-use Rattle.patterns.specs.Outcomes as outcomes
-use Rattle.patterns.specs.Items.{readOn, openedOne, listDue, headDue}
-use Rattle.patterns.specs.Patterns.{Areas}
-use Rattle.patterns.specs.declared.Walk.{Walk}
+use Rattle.outcomes.specs.Outcomes as outcomes
+use Rattle.items.specs.Items.{readOn, openedOne, listDue, headDue}
+use Rattle.leaves.specs.Leaves.{Areas}
+use Rattle.items.specs.declared.Walk.{Walk}
 use Rattle.theory.specs.Declarations as walk
 use Rattle.theory.specs.Declarations.{another, nothing, formOf, formNamed, declaredBy, moreDue, counted, declarationsFrom}
 use Rattle.theory.specs.declared.Counts.{Counts}
 use Rattle.theory.specs.declared.Form.{Form}
-use Rattle.theory_laws.specs.Simulation.{Simulates, refuse, leave, bind, aside, weaker, knowing, giving}
+use Rattle.outcomes.specs.Simulation.{Simulates, refuse, leave, bind, aside, weaker, knowing, giving}
 use Rattle.theory_laws.specs.Reading.{Reads, Walks, weight, Shallow, shallow-list, Shallows, shallow-more}
 use Rattle.theory_laws.specs.Representation.{Entries, Holds}
 use Rattle.theory_laws.proofs.Items.{AtomMet, atom-met, ListMet, list-met}

@@ -13,7 +13,7 @@ use Rattle.horn.specs.NestedLists.{Sexp, Sexps, []ₛ, _∷ₛ_}
 use Rattle.horn.specs.Rulebook.{Theory, Keyword, sortWord, ctorWord, predWord, ruleWord, otherWord, keyword, declare, oneMember, twoMembers, threeMembers}
 use Rattle.horn.proofs.Equality.{named-decides}
 use Rattle.sexp.specs.Flattening.{size}
-use Rattle.patterns.specs.Outcomes.{pick}
+use Rattle.outcomes.specs.Outcomes.{pick}
 use Rattle.theory.specs.Declarations as walk
 use Rattle.theory.specs.Declarations.{sized, formNamed}
 use Rattle.theory.specs.declared.Form.{Form}

@@ -12,10 +12,10 @@ use Rattle.lex.specs.Answers as lexed
 use Rattle.lex.specs.declared.Token as read
 use Rattle.lex.specs.declared.Token.the-variants.{Opening, Closing, Atom}
 use Rattle.lex.specs.declared.Reader.{Reader}
-use Rattle.patterns.specs.Outcomes as outcomes
-use Rattle.patterns.specs.Items as items
-use Rattle.patterns.specs.Items.{readOn, openedOne, itemDue, closingDue}
-use Rattle.patterns.specs.declared.Walk.{Walk}
+use Rattle.outcomes.specs.Outcomes as outcomes
+use Rattle.items.specs.Items as items
+use Rattle.items.specs.Items.{readOn, openedOne, itemDue, closingDue}
+use Rattle.items.specs.declared.Walk.{Walk}
 use Rattle.theory_laws.specs.Reading.{Same, same-opening, same-closing, same-atom, Takes, Reads, Next, one-next, Walks}
 
 module _ (text counts : List ℕ) (Before : Reader → Stream Token → Type 0) (reads : Reads text Before) where

@@ -13,12 +13,12 @@ use Rattle.horn.specs.Rulebook as definition
 use Rattle.horn.specs.Rulebook.{judgment, Variable, Pattern, isPredicate, Theory, fits, count}
 use Rattle.lex.specs.declared.Reader.{Reader}
 use Rattle.sexp.specs.Flattening.{flatOne, flat, size, countsOne, countsAll}
-use Rattle.patterns.specs.Outcomes as outcomes
-use Rattle.patterns.specs.Items.{readOn, openedOne, listDue, headDue}
+use Rattle.outcomes.specs.Outcomes as outcomes
+use Rattle.items.specs.Items.{readOn, openedOne, listDue, headDue}
 use Rattle.patterns.specs.Patterns as walk
-use Rattle.patterns.specs.Patterns.{Areas}
-use Rattle.patterns.specs.declared.Walk.{Walk}
-use Rattle.theory_laws.specs.Simulation.{Simulates, refuse, leave, bind, checked-aside, after}
+use Rattle.leaves.specs.Leaves.{Areas}
+use Rattle.items.specs.declared.Walk.{Walk}
+use Rattle.outcomes.specs.Simulation.{Simulates, refuse, leave, bind, checked-aside, after}
 use Rattle.theory_laws.specs.Reading.{Reads, Shallow, shallow-list, Shallows, shallow-more}
 use Rattle.theory_laws.specs.Representation.{Entries, judgment-output, FlatList, no-premises, one-premise}
 use Rattle.theory_laws.proofs.Items.{AtomMet, atom-met, ListMet, list-met, closing-met}

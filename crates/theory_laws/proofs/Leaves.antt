@@ -24,13 +24,13 @@ use Rattle.names.specs.Tables.{Entry}
 use Rattle.names.proofs.Declared.{find-agrees}
 use Rattle.names.proofs.Holds.{by-number}
 use Rattle.lex.specs.declared.Reader.{Reader}
-use Rattle.patterns.specs.Leaving.{beside}
+use Rattle.outcomes.specs.Leaving.{beside}
 use Rattle.words.specs.Sums.{sum32}
-use Rattle.patterns.specs.Items.{withTop, pushed, question}
-use Rattle.patterns.specs.Patterns as walk
-use Rattle.patterns.specs.Patterns.{Areas, variableWord, withVariable, oneVariable, introduced, metAgain, variableAt, position, applied}
-use Rattle.patterns.specs.declared.Walk.{Walk}
-use Rattle.theory_laws.specs.Simulation.{Simulates, leave, test, tests, look, checked, aside}
+use Rattle.items.specs.Items.{withTop, pushed, question}
+use Rattle.leaves.specs.Leaves as walk
+use Rattle.leaves.specs.Leaves.{Areas, variableWord, withVariable, oneVariable, introduced, metAgain, variableAt, position, applied}
+use Rattle.items.specs.declared.Walk.{Walk}
+use Rattle.outcomes.specs.Simulation.{Simulates, leave, test, tests, look, checked, aside}
 use Rattle.theory_laws.specs.Representation.{Entries, SortAt, OutputAt, sort-output, SymbolAt, symbol-at, Nth, flat-variable, flat-symbol, no-flats, Declares, Holds}
 use Rattle.words.proofs.Sums.{sum-small}
 use Rattle.theory_laws.proofs.Frames.{keeps-set, grown-none, symbol-kept, variables-kept}

@@ -19,8 +19,8 @@ use Rattle.names.specs.Tables.{lookup}
 use Rattle.names.proofs.Holds.{by-name}
 use Rattle.names.proofs.Kept.{member-named, member-bounds}
 use Rattle.names.proofs.Declared.{lookup-member, stands-distinct}
-use Rattle.patterns.specs.Items.{question}
-use Rattle.patterns.specs.Patterns.{variableName, positionFrom}
+use Rattle.items.specs.Items.{question}
+use Rattle.leaves.specs.Leaves.{variableName, positionFrom}
 use Rattle.theory_laws.specs.Representation.{Entries, SortAt, sort-at, OutputAt, sort-output, judgment-output, Nth, here, there, VariablesAt, no-variables, one-variable, Holds}
 
 -- The comparison of the code is the definition's.

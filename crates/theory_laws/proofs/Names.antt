@@ -19,14 +19,14 @@ use Rattle.names.specs.Tables.{present}
 use Rattle.names.proofs.Declared.{find-present, found-some}
 use Rattle.lex.specs.declared.Reader.{Reader}
 use Rattle.sexp.specs.Flattening.{flatOne, flat, size, countsOne, countsAll}
-use Rattle.patterns.specs.Outcomes as outcomes
-use Rattle.patterns.specs.Leaving as leaving
-use Rattle.patterns.specs.Leaving.{_leaving_}
+use Rattle.outcomes.specs.Outcomes as outcomes
+use Rattle.outcomes.specs.Leaving as leaving
+use Rattle.outcomes.specs.Leaving.{_leaving_}
 use Rattle.words.specs.Sums.{sum32}
-use Rattle.patterns.specs.Items.{readOn, withTop, pushed, atomDue, declaredName}
-use Rattle.patterns.specs.declared.Walk.{Walk}
-use Rattle.theory.specs.Symbols.{sortFrom, sortNamed, inputs}
-use Rattle.theory_laws.specs.Simulation.{Answers, both-refuse, both-ok, then, Simulates, leave, pure, after}
+use Rattle.items.specs.Items.{readOn, withTop, pushed, atomDue, declaredName}
+use Rattle.items.specs.declared.Walk.{Walk}
+use Rattle.symbols.specs.Symbols.{sortFrom, sortNamed, inputs}
+use Rattle.outcomes.specs.Simulation.{Answers, both-refuse, both-ok, then, Simulates, leave, pure, after}
 use Rattle.theory_laws.specs.Reading.{Reads, Walks, weight}
 use Rattle.theory_laws.specs.Representation.{Entries, SortAt, sort-at, SortsAt, no-sorts, one-sort, Holds}
 use Rattle.words.proofs.Sums.{sum-small}

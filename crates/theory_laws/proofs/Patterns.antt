@@ -17,15 +17,16 @@ use Rattle.horn.specs.Rulebook.{Output, sort, sameOutput, Symbol, symbol, Varia
 use Rattle.horn.proofs.Equality.{both}
 use Rattle.lex.specs.declared.Reader.{Reader}
 use Rattle.sexp.specs.Flattening.{flatOne, flat, size, countsOne, countsAll}
-use Rattle.patterns.specs.Outcomes as outcomes
-use Rattle.patterns.specs.Leaving.{Did, _leaving_}
-use Rattle.patterns.specs.Items as items
+use Rattle.outcomes.specs.Outcomes as outcomes
+use Rattle.outcomes.specs.Leaving.{Did, _leaving_}
+use Rattle.items.specs.Items as items
 use Rattle.words.specs.Sums.{sum32}
-use Rattle.patterns.specs.Items.{readOn, openedOne, withTop, atomDue, headDue, closingDue}
+use Rattle.items.specs.Items.{readOn, openedOne, withTop, atomDue, headDue, closingDue}
 use Rattle.patterns.specs.Patterns as walk
-use Rattle.patterns.specs.Patterns.{Areas, compoundHead, argumentsFrom}
-use Rattle.patterns.specs.declared.Walk.{Walk}
-use Rattle.theory_laws.specs.Simulation.{Simulates, refuse, leave, bind, test, tested-aside, after}
+use Rattle.leaves.specs.Leaves.{Areas, compoundHead}
+use Rattle.patterns.specs.Patterns.{argumentsFrom}
+use Rattle.items.specs.declared.Walk.{Walk}
+use Rattle.outcomes.specs.Simulation.{Simulates, refuse, leave, bind, test, tested-aside, after}
 use Rattle.theory_laws.specs.Reading.{Reads, weight, Shallow, shallow-leaf, shallow-list, Shallows, shallow-more}
 use Rattle.theory_laws.specs.Representation.{Entries, SortAt, SortsAt, one-sort, sort-output, symbol-at, flat-symbol, Flats, no-flats, one-flat}
 use Rattle.theory_laws.proofs.Items.{AtomMet, atom-met, ListMet, list-met, ClosingMet, closing-met}

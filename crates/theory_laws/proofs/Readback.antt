@@ -21,8 +21,8 @@ use Rattle.names.specs.Tables.{entry, Agree, both-none, both-some}
 use Rattle.names.proofs.Holds.{by-number}
 use Rattle.names.proofs.Kept.{member-named}
 use Rattle.names.proofs.Declared.{find-agrees, lookup-member, stands-distinct}
-use Rattle.patterns.specs.Outcomes as outcomes
-use Rattle.theory_laws.specs.Simulation.{Answers, both-refuse, both-ok}
+use Rattle.outcomes.specs.Outcomes as outcomes
+use Rattle.outcomes.specs.Simulation.{Answers, both-refuse, both-ok}
 use Rattle.theory_laws.specs.Representation.{Entries, tableOf, SortAt, OutputAt, SortsAt, no-sorts, one-sort, SymbolAt, symbol-at, Nth, here, there}
 use Rattle.theory_laws.specs.Representation.{Flat, flat-variable, flat-symbol, Flats, VariablesAt, one-variable, RuleAt, rule-at, Holds}
 use Rattle.theory_laws.proofs.Lookups.{same-sort, same-output}

@@ -11,9 +11,9 @@ use Rattle.horn.specs.Rulebook.{Variable, variable, Pattern, Theory}
 use Rattle.words.specs.Parts.{part}
 use Rattle.lex.specs.declared.Reader.{Reader}
 use Rattle.words.specs.Sums.{sum32}
-use Rattle.patterns.specs.Items.{withTop}
-use Rattle.patterns.specs.Patterns.{Areas}
-use Rattle.patterns.specs.declared.Walk.{Walk}
+use Rattle.items.specs.Items.{withTop}
+use Rattle.leaves.specs.Leaves.{Areas}
+use Rattle.items.specs.declared.Walk.{Walk}
 use Rattle.theory_laws.specs.Reading.{Walks, weight}
 use Rattle.theory_laws.specs.Representation.{Entries, SortAt, Nth, here, there, Flat, VariablesAt, no-variables, one-variable, Holds}
 use Rattle.words.proofs.Sums.{sum-small}

@@ -21,17 +21,17 @@ use Rattle.names.specs.Chains.{found, added}
 use Rattle.names.specs.Tables.{entry}
 use Rattle.lex.specs.declared.Reader.{Reader}
 use Rattle.sexp.specs.Flattening.{flatOne, flat, size, countsOne}
-use Rattle.patterns.specs.Outcomes as outcomes
-use Rattle.patterns.specs.Leaving.{beside}
+use Rattle.outcomes.specs.Outcomes as outcomes
+use Rattle.outcomes.specs.Leaving.{beside}
 use Rattle.words.specs.Sums.{sum32}
-use Rattle.patterns.specs.Items.{readOn, openedOne, withTop, listDue}
-use Rattle.patterns.specs.Patterns.{Areas}
-use Rattle.patterns.specs.declared.Walk.{Walk}
-use Rattle.theory.specs.Symbols.{isNew, entered}
-use Rattle.theory.specs.Rules.{nameKept, nameJudged, begun, bodyRead, copied, ruleDescribed, variablesStored, ruleEntered, ruleDeclared}
-use Rattle.theory.specs.declared.RuleName.{RuleName}
-use Rattle.theory.specs.declared.RuleName.the-variants as ruleNames
-use Rattle.theory_laws.specs.Simulation.{Answers, both-refuse, both-ok, Simulates, refuse, leave, bind, pure, aside, test-then, paired, three-on}
+use Rattle.items.specs.Items.{readOn, openedOne, withTop, listDue}
+use Rattle.leaves.specs.Leaves.{Areas}
+use Rattle.items.specs.declared.Walk.{Walk}
+use Rattle.symbols.specs.Symbols.{isNew, entered}
+use Rattle.rules.specs.Rules.{nameKept, nameJudged, begun, bodyRead, copied, ruleDescribed, variablesStored, ruleEntered, ruleDeclared}
+use Rattle.rules.specs.declared.RuleName.{RuleName}
+use Rattle.rules.specs.declared.RuleName.the-variants as ruleNames
+use Rattle.outcomes.specs.Simulation.{Answers, both-refuse, both-ok, Simulates, refuse, leave, bind, pure, aside, test-then, paired, three-on}
 use Rattle.theory_laws.specs.Reading.{Reads, Walks, weight, Shallow, shallow-list}
 use Rattle.theory_laws.specs.Representation.{Entries, Flat, FlatList, no-variables, Holds}
 use Rattle.words.proofs.Sums.{sum-small}

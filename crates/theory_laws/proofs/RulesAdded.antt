@@ -13,7 +13,7 @@ use Rattle.names.specs.Chains.{added}
 use Rattle.names.specs.Tables.{Entry, entry}
 use Rattle.names.proofs.Holds.{by-number}
 use Rattle.names.proofs.Kept.{length-added, added-other}
-use Rattle.theory.specs.Rules.{copied, ruleDescribed}
+use Rattle.rules.specs.Rules.{copied, ruleDescribed}
 use Rattle.theory_laws.specs.Representation.{Entries, Flat, FlatList, VariablesAt, no-variables, one-variable, RuleAt, rule-at, Holds}
 use Rattle.theory_laws.proofs.Frames.{Grown, Keeps, sort-kept, symbol-kept, rule-kept, flat-kept, premises-kept}
 use Rattle.theory_laws.proofs.Adding.{Adds, adds-kept, others, newer}

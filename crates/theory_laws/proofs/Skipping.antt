@@ -12,12 +12,12 @@ use Rattle.lex.specs.declared.Token as read
 use Rattle.lex.specs.declared.Token.the-variants.{Opening, Closing, Atom}
 use Rattle.lex.specs.declared.Reader.{Reader}
 use Rattle.sexp.specs.Flattening.{flatOne, flat, countsOne, countsAll}
-use Rattle.patterns.specs.Outcomes as outcomes
-use Rattle.patterns.specs.Outcomes.{Outcome}
+use Rattle.outcomes.specs.Outcomes as outcomes
+use Rattle.outcomes.specs.Outcomes.{Outcome}
 use Rattle.words.specs.Sums.{sum32}
-use Rattle.patterns.specs.Items.{readOn, openedOne}
-use Rattle.patterns.specs.declared.Walk.{Walk}
-use Rattle.theory.specs.Rules.{passed, skipped}
+use Rattle.items.specs.Items.{readOn, openedOne}
+use Rattle.items.specs.declared.Walk.{Walk}
+use Rattle.rules.specs.Rules.{passed, skipped}
 use Rattle.theory_laws.specs.Reading.{Same, same-opening, same-closing, same-atom, Takes, Reads, Next, one-next, Walks}
 use Rattle.words.proofs.Sums.{sum-small}
 

@@ -21,14 +21,14 @@ use Rattle.names.proofs.Kept.{length-added}
 use Rattle.names.proofs.Declared.{find-present}
 use Rattle.lex.specs.declared.Reader.{Reader}
 use Rattle.sexp.specs.Flattening.{flatOne, countsOne}
-use Rattle.patterns.specs.Outcomes as outcomes
-use Rattle.patterns.specs.Leaving as leaving
-use Rattle.patterns.specs.Leaving.{_leaving_}
+use Rattle.outcomes.specs.Outcomes as outcomes
+use Rattle.outcomes.specs.Leaving as leaving
+use Rattle.outcomes.specs.Leaving.{_leaving_}
 use Rattle.words.specs.Sums.{sum32}
-use Rattle.patterns.specs.Items.{readOn, openedOne, withTop, declaredName, listDue, closingDue}
-use Rattle.patterns.specs.declared.Walk.{Walk}
-use Rattle.theory.specs.Symbols.{reserved, isNew, sortNamed, entered, described, sortDeclared, inputs, signature, symbolEntered, constructorDeclared, predicateDeclared}
-use Rattle.theory_laws.specs.Simulation.{Simulates, refuse, leave, bind, pure, test-then, paired, three}
+use Rattle.items.specs.Items.{readOn, openedOne, withTop, declaredName, listDue, closingDue}
+use Rattle.items.specs.declared.Walk.{Walk}
+use Rattle.symbols.specs.Symbols.{reserved, isNew, sortNamed, entered, described, sortDeclared, inputs, signature, symbolEntered, constructorDeclared, predicateDeclared}
+use Rattle.outcomes.specs.Simulation.{Simulates, refuse, leave, bind, pure, test-then, paired, three}
 use Rattle.theory_laws.specs.Reading.{Reads, weight}
 use Rattle.theory_laws.specs.Representation.{Entries, sort-at, Declares, Holds}
 use Rattle.words.proofs.Sums.{sum-small}

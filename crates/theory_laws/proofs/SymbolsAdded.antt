@@ -12,7 +12,7 @@ use Rattle.words.specs.Parts.{part}
 use Rattle.names.specs.Chains.{added}
 use Rattle.names.specs.Tables.{Entry, entry}
 use Rattle.names.proofs.Kept.{length-added, added-other}
-use Rattle.theory.specs.Symbols.{described}
+use Rattle.symbols.specs.Symbols.{described}
 use Rattle.theory_laws.specs.Representation.{Entries, tableOf, SortAt, OutputAt, sort-output, judgment-output, SortsAt, SymbolAt, symbol-at, Holds}
 use Rattle.theory_laws.proofs.Frames.{Grown, Keeps, sort-kept, output-kept, sorts-kept, symbol-kept, rule-kept}
 use Rattle.theory_laws.proofs.Adding.{Adds, adds-kept, others, others-more, newer}

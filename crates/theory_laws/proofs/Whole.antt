@@ -25,14 +25,14 @@ use Rattle.sexp.proofs.Lengths.{walked-length}
 use Rattle.sexp.proofs.Whole.{few-lists}
 use Rattle.sexp.proofs.Ahead.{Ahead, ahead-start}
 use Rattle.sexp.proofs.Law.{walk-cases}
-use Rattle.patterns.specs.Outcomes as outcomes
-use Rattle.patterns.specs.Leaving.{Did, _leaving_}
-use Rattle.patterns.specs.Patterns.{Areas}
+use Rattle.outcomes.specs.Outcomes as outcomes
+use Rattle.outcomes.specs.Leaving.{Did, _leaving_}
+use Rattle.leaves.specs.Leaves.{Areas}
 use Rattle.theory.specs.Declarations.{declarations, startWalk}
 use Rattle.theory.specs.Walks as walk
 use Rattle.theory.specs.Walks.{AllAreas, withCounts}
 use Rattle.theory.specs.declared.Counts.{Counts}
-use Rattle.theory_laws.specs.Simulation.{Simulates, refuse, leave}
+use Rattle.outcomes.specs.Simulation.{Simulates, refuse, leave}
 use Rattle.theory_laws.specs.Reading.{Next, no-more, one-next, weight}
 use Rattle.theory_laws.specs.Representation.{Entries, Holds}
 use Rattle.theory_laws.proofs.Weights.{light-tokens}

@@ -1,3 +1,2 @@
-pub mod Simulation
 pub mod Reading
 pub mod Representation

@@ -10,7 +10,7 @@ use Rattle.lex.specs.Answers as lexed
 use Rattle.lex.specs.declared.Token as read
 use Rattle.lex.specs.declared.Token.the-variants.{Opening, Closing, Atom}
 use Rattle.lex.specs.declared.Reader.{Reader}
-use Rattle.patterns.specs.declared.Walk.{Walk}
+use Rattle.items.specs.declared.Walk.{Walk}
 
 -- A token of the reader and one of the definition.
 pub data Same (text : List ℕ) : read.Token → Token → Type 0 where

@@ -9,7 +9,7 @@ use Rattle.horn.specs.Rulebook.{Output, sort, judgment, Symbol, symbol, Variabl
 use Rattle.horn.specs.Rulebook.{Rule, rule, Theory, isConstructor, isPredicate, isRule}
 use Rattle.words.specs.Parts.{part}
 use Rattle.names.specs.Tables as tables
-use Rattle.patterns.specs.Places as places
+use Rattle.items.specs.Places as places
 use Rattle.names.specs.Tables.{Entry, entry, Table, Stands}
 
 -- The four tables of names.

@@ -17,8 +17,8 @@ use Rattle.horn.proofs.Equality.{case, named-decides}
 use Rattle.words.specs.Parts.{part, sameBytes}
 use Rattle.names.specs.Tables.{Agree, both-none, both-some}
 use Rattle.names.proofs.Holds.{by-number}
-use Rattle.patterns.specs.Outcomes as outcomes
-use Rattle.theory_laws.specs.Simulation.{Answers}
+use Rattle.outcomes.specs.Outcomes as outcomes
+use Rattle.outcomes.specs.Simulation.{Answers}
 use Rattle.theory_laws.specs.Representation.{Entries, SortAt, OutputAt, sort-output, SortsAt, no-sorts, one-sort, SymbolAt, symbol-at, Nth, here, there}
 use Rattle.theory_laws.specs.Representation.{Flat, flat-variable, flat-symbol, Flats, no-flats, one-flat, FlatList, VariablesAt, no-variables, one-variable, RuleAt, rule-at, Holds}
 use Rattle.words.proofs.Sums.{sum-small}

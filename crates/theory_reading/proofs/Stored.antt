@@ -22,8 +22,8 @@ use Rattle.arena.proofs.Nodes.{Node, nodeOf}
 use Rattle.arena.proofs.Limits.{Limits}
 use Rattle.arena.proofs.Readings.{head-read, argument-read, one-tree, trees-emptied}
 use Rattle.arena.proofs.Trees.{Below, below-more, Formed, formed, treeOf, lookups, build, Trees, InternedTree, known, new, refuses, same-tree, new-tree}
-use Rattle.patterns.specs.Leaving.{_leaving_}
-use Rattle.theory_laws.specs.Simulation.{Simulates, refuse, leave}
+use Rattle.outcomes.specs.Leaving.{_leaving_}
+use Rattle.outcomes.specs.Simulation.{Simulates, refuse, leave}
 use Rattle.theory_laws.specs.Representation.{Entries, Holds}
 use Rattle.theory_reading.specs.Addresses.{symbolAt, Used}
 use Rattle.theory_reading.specs.Storing.{numbered}

@@ -7,8 +7,8 @@ use lib.Dec.{eqb, ltb}
 use lib.ListN.{getD}
 use Rattle.words.specs.Parts.{part, sameBytes}
 use Rattle.names.specs.Chains.{found}
-use Rattle.patterns.specs.Places as places
-use Rattle.patterns.specs.Outcomes.{pick}
+use Rattle.items.specs.Places as places
+use Rattle.outcomes.specs.Outcomes.{pick}
 use Rattle.words.specs.Sums.{sum32}
 use Rattle.theory_reading.specs.declared.Node as declared
 use Rattle.theory_reading.specs.declared.Node.the-variants as nodes

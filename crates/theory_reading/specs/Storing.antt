@@ -3,8 +3,8 @@ use Prim.Native.Nat.{ℕ}
 use mathlib.Core.List.{List}
 use Rattle.arena.specs.declared.Answer.{Answer}
 use Rattle.arena.specs.declared.Answer.the-variants.{Found, Made, Full}
-use Rattle.patterns.specs.Outcomes.{Outcome, ok, refused}
-use Rattle.patterns.specs.Leaving.{Did, _leaving_}
+use Rattle.outcomes.specs.Outcomes.{Outcome, ok, refused}
+use Rattle.outcomes.specs.Leaving.{Did, _leaving_}
 
 -- The number of a node that was stored, beside something else; or 28.
 abbrev pub numbered : {A : Type 0} → A → Answer → Outcome (ℕ × A)

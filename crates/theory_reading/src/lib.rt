@@ -1,4 +1,4 @@
-// Reading a theory that stands in its area (crate `patterns` says how): symbols and rules by names that stand in any text, and the words of
+// Reading a theory that stands in its area (crate `items` says how): symbols and rules by names that stand in any text, and the words of
 // their entries. A symbol and a rule are named by the addresses of their entries, a variable of a rule by its number.
 ghost use mathlib.Core.Path.{_≡_};
 ghost use Rattle.words.specs.Parts.{part};
@@ -6,8 +6,8 @@ ghost use Rattle.names.specs.Chains.{answered};
 ghost use Rattle.theory_reading.specs.Reading.{constructorFound, predicateFound, ruleFound, outputOf, arityOf, inputOf, fitsInput};
 ghost use Rattle.theory_reading.specs.Reading.{premiseCount, variableCount, premisesPlace, conclusionPlace, variablesPlace};
 ghost use Rattle.theory_reading.specs.Reading.{sortOfVariable, variableFound, read, nodeAt};
+use items::places;
 use names::Found;
-use patterns::places;
 
 // A pattern's first word: a variable by its number, or a symbol by its address, whose arguments follow.
 pub enum Node {

@@ -16,11 +16,11 @@ use Rattle.patterns.proofs.+arguments+pattern.Lts-arguments as argument
 use Rattle.patterns.proofs.pattern.Reads as pattern
 use Rattle.patterns.proofs.pattern.Kinds as pattern-kinds
 use Rattle.patterns.proofs.+arguments+pattern.Lts-pattern as pattern-lts
-use Rattle.patterns.proofs.items.close.Reads as close-reads
-use Rattle.patterns.proofs.compound_head.Reads as compound-head-reads
-use Rattle.patterns.proofs.leaf.Reads as leaf-reads
-use Rattle.patterns.proofs.items.next_item.Reads as next-item-reads
-use Rattle.patterns.proofs.walked_refusal.Reads as walked-refusal-reads
+use Rattle.items.proofs.close.Reads as close-reads
+use Rattle.leaves.proofs.compound_head.Reads as compound-head-reads
+use Rattle.leaves.proofs.leaf.Reads as leaf-reads
+use Rattle.items.proofs.next_item.Reads as next-item-reads
+use Rattle.items.proofs.walked_refusal.Reads as walked-refusal-reads
 use Rattle.patterns.proofs.+arguments+pattern.{statement}
 use Rattle.patterns.proofs.+arguments+pattern.Tie.{close}
 

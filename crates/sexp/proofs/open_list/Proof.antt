@@ -1,6 +1,6 @@
 -- `sexp::open_list` meets its contract. Assumes nothing.
 use borrow.Author.Needs.{needs}
-use Rattle.sexp.specs.Walk.{listOpened}
+use Rattle.sexp.proofs.Paths.{opened-list}
 use Rattle.sexp.proofs.open_list.Statement.{statement}
 use Rattle.sexp.proofs.open_list.Tie as tie
 
@@ -20,8 +20,7 @@ same-length : tie.Need-same-length
 same-length c = search needs
 
 returns : tie.Need-returns
-unfolding listOpened
-returns c = rw (← c .before .before .before .before .before .before .before .before .before .before .add-member .ensures, ← c .before .before .before .before .before .before .put .ensures) (c .before .before .put2 .ensures)
+returns c = opened-list _ _ _ (c .before .before .before .before .before .before .before .before .before .before .add-member .ensures) (c .before .before .before .before .before .before .put .ensures) (c .before .before .put2 .ensures)
 
 pub open-list-spec : {M : Type 1} → statement M
 open-list-spec =

@@ -2,6 +2,7 @@
 use mathlib.Core.Path.{_∙_}
 use Rattle.theory.specs.Walks.{theory}
 use Rattle.sexp.specs.Walk.{walkAnswer}
+use Rattle.theory.proofs.Turns.{second-walk}
 use Rattle.theory.proofs.theory.Statement.{statement}
 use Rattle.theory.proofs.theory.Tie as tie
 
@@ -37,8 +38,7 @@ same-length-4 : tie.Need-same-length-4
 same-length-4 c = c .before .heap2 .given ∙ c .before .before .before .before .before .before .before .before .before .heap .given
 
 returns-2 : tie.Need-returns-2
-unfolding theory walkAnswer
-returns-2 c = rw (← c .before .before .before .before .before .before .before .before .before .before .before .before .before .before .before .before .count-members .ensures .0, ← c .before .before .before .before .before .before .before .before .before .before .before .before .before .before .before .before .count-members .ensures .1, c .before .before .before .before .before .before .before .before .before .before .before .before .enum-told .given .1, ← c .before .before .before .before .before .before .before .before .before .before .clear .ensures, ← c .before .before .before .before .declarations .ensures)
+returns-2 c = second-walk _ _ _ _ (c .before .before .before .before .before .before .before .before .before .before .before .before .before .before .before .before .count-members .ensures .0) (c .before .before .before .before .before .before .before .before .before .before .before .before .before .before .before .before .count-members .ensures .1) (c .before .before .before .before .before .before .before .before .before .before .before .before .enum-told .given .1) (c .before .before .before .before .before .before .before .before .before .before .clear .ensures) (c .before .before .before .before .declarations .ensures)
 
 pub theory-spec : {M : Type 1} → statement M
 theory-spec =

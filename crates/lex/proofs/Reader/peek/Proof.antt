@@ -1,6 +1,6 @@
 -- `lex::Reader::peek` meets its contract. Assumes nothing.
-use Rattle.lex.specs.Answers.{answer, peeked, peekedBy, taken, takenBy, holding}
-use mathlib.Core.Path.{_≡_, _∙_, ap, sym, refl}
+use Rattle.lex.specs.Answers.{answer, peeked, peekedBy, holding}
+use Rattle.lex.proofs.Looking.{peek-scanned}
 use Rattle.lex.proofs.Reader.peek.Statement.{statement}
 use Rattle.lex.proofs.Reader.peek.Tie as tie
 
@@ -27,16 +27,16 @@ enum-told-3 : tie.Need-enum-told-3
 enum-told-3 c = c .match2 .keys3
 
 returns-2 : tie.Need-returns-2
-unfolding answer peeked peekedBy holding
-returns-2 c = rw (c .before .before .before .before .enum-told .given .1, ← c .before .before .before .scan .ensures, c .before .read .given .1)
+unfolding answer holding
+returns-2 c = peek-scanned _ _ _ (c .before .before .before .before .enum-told .given .1) (c .before .before .before .scan .ensures) (c .before .read .given .1)
 
 returns-3 : tie.Need-returns-3
-unfolding answer peeked peekedBy holding
-returns-3 c = rw (c .before .before .before .enum-told .given .1, ← c .before .before .scan .ensures, c .enum-told2 .given .1)
+unfolding answer holding
+returns-3 c = peek-scanned _ _ _ (c .before .before .before .enum-told .given .1) (c .before .before .scan .ensures) (c .enum-told2 .given .1)
 
 returns-4 : tie.Need-returns-4
-unfolding answer peeked peekedBy holding
-returns-4 c = rw (c .before .before .before .enum-told .given .1, ← c .before .before .scan .ensures, c .enum-told3 .given .1)
+unfolding answer holding
+returns-4 c = peek-scanned _ _ _ (c .before .before .before .enum-told .given .1) (c .before .before .scan .ensures) (c .enum-told3 .given .1)
 
 pub peek-spec : {M : Type 1} → statement M
 peek-spec =

@@ -1,0 +1,234 @@
+// The notation in which docs/paper/cases.md writes texts and numbers. Every place is in 32 bits, and outside of the list zeros are
+// read, so that no function owes a bound.
+
+// How far the list is read, and how many bytes of a text are made.
+pub struct Made {
+    pub at: u32,
+    pub len: u32,
+}
+
+// A number, and the place behind it.
+pub struct Digits {
+    pub value: u32,
+    pub at: u32,
+}
+
+pub fn byte_at(list: &[u8], i: u32) -> u8 {
+    words::byte(list, i as usize)
+}
+
+pub fn beyond(list: &[u8], i: u32) -> bool {
+    list.len() <= i as usize
+}
+
+fn put(out: &mut [u8], i: u32, v: u8) {
+    let p = i as usize;
+    if p < out.len() {
+        out[p] = v;
+    }
+}
+
+fn ten_times(n: u32) -> u32 {
+    let two = words::plus(n, n);
+    let four = words::plus(two, two);
+    words::plus(words::plus(four, four), two)
+}
+
+// The place of the next byte of this value, or the end of the list.
+pub fn find(list: &[u8], from: u32, value: u8) -> u32 {
+    let mut i = from;
+    let mut turns: u32 = 1000000;
+    while 0 < turns {
+        turns -= 1;
+        if beyond(list, i) {
+            return i;
+        }
+        if byte_at(list, i) == value {
+            return i;
+        }
+        i = words::plus(i, 1);
+    }
+    i
+}
+
+fn is_digit(b: u8) -> bool {
+    if b < 48 {
+        return false;
+    }
+    b < 58
+}
+
+// Digits, up to the first byte that is none.
+pub fn number(list: &[u8], from: u32) -> Digits {
+    let mut n = Digits { value: 0, at: from };
+    let mut turns: u32 = 20;
+    while 0 < turns {
+        turns -= 1;
+        let b = byte_at(list, n.at);
+        if !is_digit(b) {
+            return n;
+        }
+        n = Digits {
+            value: words::plus(ten_times(n.value), hex_digit(b) as u32),
+            at: words::plus(n.at, 1),
+        };
+    }
+    n
+}
+
+// The value of a hexadecimal digit, 0 of any other byte.
+fn hex_digit(b: u8) -> u8 {
+    if b < 58 {
+        if 48 <= b {
+            return b - 48;
+        }
+        return 0;
+    }
+    if 97 <= b {
+        if b <= 102 {
+            return b - 87;
+        }
+    }
+    0
+}
+
+fn put_digit(out: &mut [u8], len: u32, n: u32) -> u32 {
+    put(out, len, words::byte(b"0123456789", (n % 10) as usize));
+    words::plus(len, 1)
+}
+
+// A number of at most four digits, as it is written: those before its last, then that.
+fn put_number(out: &mut [u8], len: u32, n: u32) -> u32 {
+    let to = put_tens(out, len, n / 10);
+    put_digit(out, to, n)
+}
+
+fn put_tens(out: &mut [u8], len: u32, n: u32) -> u32 {
+    if n == 0 {
+        return len;
+    }
+    let to = put_hundreds(out, len, n / 10);
+    put_digit(out, to, n)
+}
+
+fn put_hundreds(out: &mut [u8], len: u32, n: u32) -> u32 {
+    if n == 0 {
+        return len;
+    }
+    let to = put_thousands(out, len, n / 10);
+    put_digit(out, to, n)
+}
+
+fn put_thousands(out: &mut [u8], len: u32, n: u32) -> u32 {
+    if n == 0 {
+        return len;
+    }
+    put_digit(out, len, n)
+}
+
+// `\n`, `\\` and `\xHH`, and in a repetition `\#` and `\-`: how often it was done, with and without this turn.
+fn escape(list: &[u8], i: u32, turn: u32, out: &mut [u8], len: u32) -> Made {
+    let at = words::plus(i, 2);
+    let e = byte_at(list, words::plus(i, 1));
+    if e == 35 {
+        return Made {
+            at,
+            len: put_number(out, len, words::plus(turn, 1)),
+        };
+    }
+    if e == 45 {
+        return Made {
+            at,
+            len: put_number(out, len, turn),
+        };
+    }
+    let after = words::plus(len, 1);
+    if e == 120 {
+        let high = hex_digit(byte_at(list, at)) % 16;
+        let low = hex_digit(byte_at(list, words::plus(i, 3))) % 16;
+        put(out, len, high * 16 + low);
+        return Made {
+            at: words::plus(i, 4),
+            len: after,
+        };
+    }
+    if e == 110 {
+        put(out, len, 10);
+    } else {
+        put(out, len, e);
+    }
+    Made { at, len: after }
+}
+
+// One sign: a byte that stands for itself, or an escape.
+fn sign(list: &[u8], i: u32, turn: u32, out: &mut [u8], len: u32) -> Made {
+    let b = byte_at(list, i);
+    if b == 92 {
+        return escape(list, i, turn, out, len);
+    }
+    put(out, len, b);
+    Made {
+        at: words::plus(i, 1),
+        len: words::plus(len, 1),
+    }
+}
+
+// The signs from one place to another, behind the bytes that are made.
+fn signs(list: &[u8], from: u32, to: u32, turn: u32, out: &mut [u8], len: u32) -> u32 {
+    let mut m = Made { at: from, len };
+    let mut turns: u32 = 100000;
+    while 0 < turns {
+        turns -= 1;
+        if to <= m.at {
+            return m.len;
+        }
+        m = sign(list, m.at, turn, out, m.len);
+    }
+    m.len
+}
+
+fn repeated(list: &[u8], from: u32, to: u32, count: u32, out: &mut [u8], len: u32) -> u32 {
+    let mut n = len;
+    let mut turn: u32 = 0;
+    let mut left = count;
+    while 0 < left {
+        left -= 1;
+        n = signs(list, from, to, turn, out, n);
+        turn = words::plus(turn, 1);
+    }
+    n
+}
+
+// `\{N*SIGNS}`, from the N on.
+fn repetition(list: &[u8], i: u32, out: &mut [u8], len: u32) -> Made {
+    let count = number(list, i);
+    let from = words::plus(count.at, 1);
+    let to = find(list, from, 125);
+    Made {
+        at: words::plus(to, 1),
+        len: repeated(list, from, to, count.value, out, len),
+    }
+}
+
+fn sign_or_repetition(list: &[u8], i: u32, out: &mut [u8], len: u32) -> Made {
+    if byte_at(list, i) == 92 {
+        if byte_at(list, words::plus(i, 1)) == 123 {
+            return repetition(list, words::plus(i, 2), out, len);
+        }
+    }
+    sign(list, i, 0, out, len)
+}
+
+// The text that stands from one place to another, behind the bytes that are made: how many they are then.
+pub fn make(list: &[u8], from: u32, to: u32, out: &mut [u8], len: u32) -> u32 {
+    let mut m = Made { at: from, len };
+    let mut turns: u32 = 100000;
+    while 0 < turns {
+        turns -= 1;
+        if to <= m.at {
+            return m.len;
+        }
+        m = sign_or_repetition(list, m.at, out, m.len);
+    }
+    m.len
+}

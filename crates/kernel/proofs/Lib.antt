@@ -1,3 +1,0 @@
-pub mod Areas
-pub mod RulebookCall
-pub mod ReleaseCall

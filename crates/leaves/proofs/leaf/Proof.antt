@@ -1,0 +1,43 @@
+-- `leaves::leaf` meets its contract. Assumes nothing.
+use Rattle.leaves.specs.Leaves.{leaf}
+use Rattle.leaves.proofs.leaf.Statement.{statement}
+use Rattle.leaves.proofs.leaf.Tie as tie
+
+is-question-requires : tie.Need-is-question-requires
+is-question-requires c κs = tt
+
+schematic-requires : tie.Need-schematic-requires
+schematic-requires c κs = tt
+
+same-length : tie.Need-same-length
+same-length c = c .before .before .before .vars .given
+
+same-length-2 : tie.Need-same-length-2
+same-length-2 c = c .before .heap .given
+
+returns : tie.Need-returns
+unfolding leaf
+returns c = rw (← c .before .before .before .before .before .before .before .before .is-question .ensures, c .before .before .before .before .before .before .before .if1 .taken, ← c .before .before .before .before .schematic .ensures)
+
+constant-requires : tie.Need-constant-requires
+constant-requires c κs = tt
+
+same-length-3 : tie.Need-same-length-3
+same-length-3 c = c .before .heap2 .given
+
+returns-2 : tie.Need-returns-2
+unfolding leaf
+returns-2 c = rw (← c .before .before .before .before .before .is-question .ensures, c .before .before .before .before .if1 .left, ← c .before .before .constant .ensures)
+
+pub leaf-spec : {M : Type 1} → statement M
+leaf-spec =
+    tie.close
+    (tie.spec
+    is-question-requires
+    schematic-requires
+    same-length
+    same-length-2
+    returns
+    constant-requires
+    same-length-3
+    returns-2)

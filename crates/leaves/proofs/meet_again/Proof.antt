@@ -1,0 +1,37 @@
+-- `leaves::meet_again` meets its contract. Assumes nothing.
+use borrow.Author.Tests.{eq-eqb, ne-eqb}
+use borrow.Author.Needs.{needs}
+use Rattle.leaves.specs.Leaves.{metAgain, variableWord}
+use Rattle.leaves.proofs.meet_again.Statement.{statement}
+use Rattle.leaves.proofs.meet_again.Tie as tie
+
+mul-at : tie.Need-mul-at
+mul-at c = search needs
+
+add-at : tie.Need-add-at
+add-at c = search needs
+
+at-requires : tie.Need-at-requires
+at-requires c κs = tt
+
+returns : tie.Need-returns
+unfolding metAgain
+returns c = rw (← c .before .at .ensures, ne-eqb _ _ (c .if1 .taken))
+
+plus-requires : tie.Need-plus-requires
+plus-requires c κs = tt
+
+push-requires : tie.Need-push-requires
+push-requires c κs = tt
+
+same-length : tie.Need-same-length
+same-length c = c .before .heap .given
+
+returns-2 : tie.Need-returns-2
+unfolding metAgain variableWord
+returns-2 c = rw (← c .before .before .before .before .before .before .at .ensures, eq-eqb _ _ (c .before .before .before .before .before .if1 .left), ← c .before .before .before .plus .ensures, ← c .before .before .push .ensures)
+
+pub meet-again-spec : {M : Type 1} → statement M
+meet-again-spec =
+    tie.close
+    (tie.spec mul-at add-at at-requires returns plus-requires push-requires same-length returns-2)

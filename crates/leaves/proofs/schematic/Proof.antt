@@ -1,0 +1,65 @@
+-- `leaves::schematic` meets its contract. Assumes nothing.
+use mathlib.Core.Path.{refl}
+use Rattle.leaves.specs.Leaves.{schematic}
+use Rattle.leaves.proofs.schematic.Statement.{statement}
+use Rattle.leaves.proofs.schematic.Tie as tie
+
+is-bare-requires : tie.Need-is-bare-requires
+is-bare-requires c κs = tt
+
+returns : tie.Need-returns
+unfolding schematic
+returns c = rw (← c .before .is-bare .ensures, c .if1 .taken)
+
+find-variable-requires : tie.Need-find-variable-requires
+find-variable-requires c κs = tt
+
+enum-known-found : tie.Need-enum-known-found
+enum-known-found c = c .match .keys1
+
+meet-again-requires : tie.Need-meet-again-requires
+meet-again-requires c κs = tt
+
+enum-told : tie.Need-enum-told
+enum-told c = c .match .keys2
+
+introduce-requires : tie.Need-introduce-requires
+introduce-requires c κs = tt
+
+same-length : tie.Need-same-length
+same-length c = refl
+
+same-length-2 : tie.Need-same-length-2
+same-length-2 c = c .before .heap .given
+
+returns-2 : tie.Need-returns-2
+unfolding schematic
+returns-2 c = rw (← c .before .before .before .before .before .before .before .before .before .before .before .is-bare .ensures, c .before .before .before .before .before .before .before .before .before .before .if1 .left, ← c .before .before .before .before .before .before .before .before .find-variable .ensures, c .before .before .before .before .before .before .found .given .1, ← c .before .before .meet-again .ensures)
+
+same-length-3 : tie.Need-same-length-3
+same-length-3 c = c .before .before .before .vars .given
+
+same-length-4 : tie.Need-same-length-4
+same-length-4 c = c .before .heap2 .given
+
+returns-3 : tie.Need-returns-3
+unfolding schematic
+returns-3 c = rw (← c .before .before .before .before .before .before .before .before .before .before .before .before .is-bare .ensures, c .before .before .before .before .before .before .before .before .before .before .before .if1 .left, ← c .before .before .before .before .before .before .before .before .before .find-variable .ensures, c .before .before .before .before .before .before .before .enum-told .given .1, ← c .before .before .before .before .introduce .ensures)
+
+pub schematic-spec : {M : Type 1} → statement M
+schematic-spec =
+    tie.close
+    (tie.spec
+    is-bare-requires
+    returns
+    find-variable-requires
+    enum-known-found
+    meet-again-requires
+    enum-told
+    introduce-requires
+    same-length
+    same-length-2
+    returns-2
+    same-length-3
+    same-length-4
+    returns-3)

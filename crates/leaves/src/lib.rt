@@ -1,0 +1,156 @@
+// Atoms and heads of lists in a rule's patterns: variables, constants, and symbols with their output and their number of inputs.
+ghost use mathlib.Core.Path.{_≡_};
+ghost use Rattle.names.specs.Chains.{answered};
+ghost use Rattle.outcomes.specs.Outcomes.{ok};
+ghost use Rattle.outcomes.specs.Leaving.{_leaving_};
+ghost use Rattle.items.specs.Items.{numbered, walked};
+ghost use Rattle.leaves.specs.Leaves.{position, introduced, metAgain, schematic, applied, constant, leaf, compoundHead};
+use items::Named;
+use items::Numbered;
+use items::Walk;
+use items::Walked;
+use items::places;
+use names::Found;
+
+// The variable of the rule that has this name, in order of their first places, as the Rust looks for it.
+pub fn find_variable(text: &[u8], vars: &[u32], variables: u32, s: usize, t: usize) -> Found
+    ensures { λ r. ⌜ answered r ≡ position (now (text .entry)) (now (vars .entry)) variables s t ⌝ }
+{
+    let mut i: u32 = 0;
+    while i < variables {
+        let v = 3 * i as usize;
+        let start = words::at(vars, v);
+        let end = words::at(vars, v + 1);
+        if words::same_bytes(text, start as usize, end as usize, text, s, t) {
+            return Found::At(i);
+        }
+        i += 1;
+    }
+    Found::Nothing
+}
+
+pub fn introduce(vars: &mut [u32], heap: &mut [u32], s: usize, t: usize, sort: u32, w: Walk) -> Walk
+    ensures { λ r. ⌜ (ok r leaving (now (vars .exit), now (heap .exit))) ≡ introduced s t sort w (now (vars .entry)) (now (heap .entry)) ⌝ }
+{
+    let v = w.variables;
+    let place = 3 * v as usize;
+    words::put(vars, place, items::low(s));
+    words::put(vars, place + 1, items::low(t));
+    words::put(vars, place + 2, sort);
+    let reader = w.reader;
+    let q = Walk {
+        reader,
+        opened: w.opened,
+        top: w.top,
+        variables: words::plus(v, 1),
+    };
+    items::push(heap, words::plus(places::VARIABLE, v), q)
+}
+
+pub fn meet_again(vars: &[u32], heap: &mut [u32], v: u32, sort: u32, w: Walk) -> Walked
+    ensures { λ r. ⌜ (walked r leaving (now (vars .entry), now (heap .exit))) ≡ metAgain v sort w (now (vars .entry)) (now (heap .entry)) ⌝ }
+{
+    if words::at(vars, 3 * v as usize + 2) != sort {
+        return Walked::Refused(14);
+    }
+    Walked::To(items::push(heap, words::plus(places::VARIABLE, v), w))
+}
+
+// `?v` at a place of a sort.
+pub fn schematic(
+    text: &[u8],
+    vars: &mut [u32],
+    heap: &mut [u32],
+    s: usize,
+    t: usize,
+    sort: u32,
+    w: Walk,
+) -> Walked
+    ensures { λ r. ⌜ (walked r leaving (now (vars .exit), now (heap .exit))) ≡ schematic (now (text .entry)) s t sort w (now (vars .entry)) (now (heap .entry)) ⌝ }
+{
+    if items::is_bare(s, t) {
+        return Walked::Refused(11);
+    }
+    let found = find_variable(text, vars, w.variables, s, t);
+    match found {
+        Found::At(v) => meet_again(vars, heap, v, sort, w),
+        Found::Nothing => Walked::To(introduce(vars, heap, s, t, sort, w)),
+    }
+}
+
+// A constructor or predicate by its name, with its output and its number of inputs tested, stored as a node.
+pub fn apply(
+    text: &[u8],
+    heap: &mut [u32],
+    buckets: u32,
+    sort: u32,
+    members: u32,
+    s: usize,
+    t: usize,
+    w: Walk,
+) -> Numbered
+    ensures { λ r. ⌜ (numbered r leaving now (heap .exit)) ≡ applied (now (text .entry)) buckets sort members s t w (now (heap .entry)) ⌝ }
+{
+    let found = names::find(heap, buckets, places::BUCKETS, text, text, s, t);
+    let Found::At(c) = found else {
+        return Numbered::Refused(12);
+    };
+    if words::at(heap, c as usize + places::OUTPUT) != sort {
+        return Numbered::Refused(15);
+    }
+    let inputs = words::at(heap, c as usize + places::ARITY);
+    if inputs as u64 + 1 != members as u64 {
+        return Numbered::Refused(15);
+    }
+    let q = items::push(heap, c, w);
+    Numbered::Got(c, q)
+}
+
+pub fn constant(text: &[u8], heap: &mut [u32], s: usize, t: usize, sort: u32, w: Walk) -> Walked
+    ensures { λ r. ⌜ (walked r leaving now (heap .exit)) ≡ constant (now (text .entry)) s t sort w (now (heap .entry)) ⌝ }
+{
+    let a = apply(text, heap, places::CONSTRUCTORS, sort, 1, s, t, w);
+    match a {
+        Numbered::Got(_, q) => Walked::To(q),
+        Numbered::Refused(n) => Walked::Refused(n),
+    }
+}
+
+// An atom at a place of a sort.
+pub fn leaf(
+    text: &[u8],
+    vars: &mut [u32],
+    heap: &mut [u32],
+    s: usize,
+    t: usize,
+    sort: u32,
+    w: Walk,
+) -> Walked
+    ensures { λ r. ⌜ (walked r leaving (now (vars .exit), now (heap .exit))) ≡ leaf (now (text .entry)) s t sort w (now (vars .entry)) (now (heap .entry)) ⌝ }
+{
+    if items::is_question(text, s) {
+        return schematic(text, vars, heap, s, t, sort, w);
+    }
+    constant(text, heap, s, t, sort, w)
+}
+
+// The head of a list at a place of a sort.
+pub fn compound_head(
+    text: &[u8],
+    counts: &[u32],
+    heap: &mut [u32],
+    sort: u32,
+    members: u32,
+    w: Walk,
+) -> Numbered
+    ensures { λ r. ⌜ (numbered r leaving now (heap .exit)) ≡ compoundHead (now (text .entry)) (now (counts .entry)) sort members w (now (heap .entry)) ⌝ }
+{
+    let h = items::head(text, counts, members, w);
+    let Named::Atom(s, t, q) = h else {
+        return Numbered::Refused(items::named_refusal(h));
+    };
+    if members == 1 {
+        return Numbered::Refused(16);
+    }
+    apply(text, heap, places::CONSTRUCTORS, sort, members, s, t, q)
+}

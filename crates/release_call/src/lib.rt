@@ -1,0 +1,46 @@
+// The call with three texts: the lengths, then what crate `reports` answers of the first 16,384 words of each area.
+ghost use mathlib.Core.Path.{_≡_};
+ghost use lib.ListN.{length};
+ghost use Rattle.horn.specs.Setting.{document01};
+ghost use Rattle.horn.specs.Calls.{called, releaseLeft};
+ghost use Rattle.horn.specs.Demand3.{Sound, Complete};
+ghost use Rattle.reports.specs.Release.{told};
+use reports::Report;
+
+// "The other takes three texts and answers a number, steps, goals, terms, bytes."
+pub fn release(
+    rulebook: &[u8],
+    goals: &[u8],
+    certificate: &[u8],
+    a: &mut [u32],
+    b: &mut [u32],
+    c: &mut [u32],
+    d: &mut [u32],
+) -> Report
+    ensures whole { λ r. ⌜ called (told r) (now (a .exit)) (now (b .exit)) (now (c .exit)) (now (d .exit)) ≡ releaseLeft document01 (now (a .entry)) (now (b .entry)) (now (c .entry)) (now (d .entry)) (now (rulebook .entry)) (now (goals .entry)) (now (certificate .entry)) ⌝ }
+    ensures sound { λ r. ⌜ Sound document01 (now (rulebook .entry)) (now (goals .entry)) (told r) ⌝ }
+    ensures complete { λ r. ⌜ Complete document01 (length (now (a .entry))) (length (now (b .entry))) (length (now (c .entry))) (length (now (d .entry))) (now (rulebook .entry)) (now (goals .entry)) (now (certificate .entry)) (told r) ⌝ }
+{
+    if !reports::long_enough(a.len(), b.len(), c.len(), d.len()) {
+        return reports::unreleased(1);
+    }
+    if 8192 < rulebook.len() {
+        return reports::unreleased(2);
+    }
+    if 8192 < goals.len() {
+        return reports::unreleased(2);
+    }
+    if 32768 < certificate.len() {
+        return reports::unreleased(2);
+    }
+    reports::check(
+        rulebook,
+        goals,
+        certificate,
+        certificate.len() as u32,
+        &mut a[..16384],
+        &mut b[..16384],
+        &mut c[..16384],
+        &mut d[..16384],
+    )
+}

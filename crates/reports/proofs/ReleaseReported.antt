@@ -1,0 +1,45 @@
+-- The report of three texts that are read and judged is the definition's, whatever the areas held. Assumes nothing.
+use Prim.Native.Nat.{ℕ, _≤_}
+use mathlib.Core.Path.{_≡_, refl, sym, ap}
+use mathlib.Core.List.{List, []}
+use native.Mathlib.Omega.{arith}
+use lib.ListN.{length}
+use Rattle.horn.specs.Refusals.{number, Result}
+use Rattle.horn.specs.Setting.{document01}
+use Rattle.horn.specs.Calls as calls
+use Rattle.horn.specs.Calls.{report, releaseAnswer}
+use Rattle.horn.proofs.Later.{Later, later-ok, later-refused, later-bind, later-theory}
+use Rattle.horn.proofs.LaterReading.{later-goals, later-certificate}
+use Rattle.outcomes.specs.Leaving.{Did}
+use Rattle.outcomes.specs.Simulation.{Simulates, refuse, leave}
+use Rattle.certificates.specs.Certificates.{AllAreas}
+use Rattle.checker.specs.Checker as walk
+use Rattle.checker.specs.declared.Counts.{Counts}
+use Rattle.checker_laws.proofs.Whole.{judged, Released, check-law}
+use Rattle.reports.specs.Release.{releasedBy, told}
+use Rattle.reports.proofs.Reported.{Reported}
+
+-- Reading and judging give neither 1 nor 2.
+later-judged : (rulebook goals certificate : List ℕ) → Later (judged rulebook goals certificate)
+unfolding judged
+later-judged rulebook goals certificate =
+    later-bind _ (later-theory rulebook) λ th.
+    later-bind _ (later-goals document01 th goals []) λ p.
+    later-bind _ (later-certificate document01 th (p .0) certificate (p .1)) λ q.
+    later-ok
+
+reports : (bytes : ℕ) {m : Did AllAreas Counts} {m′ : Result calls.Report} → Simulates (Released bytes) m m′ → Later m′
+    → Reported (releasedBy bytes m .number) (releaseAnswer m′) (told (releasedBy bytes m))
+unfolding releaseAnswer
+reports bytes (refuse {n} e) (later-refused r h) =
+    record { same = ap (λ (k : ℕ). report k 0 0 0 0) (sym e); not-1 = λ z. absurd (omega arith); not-2 = λ z. absurd (omega arith) }
+reports bytes (leave q) later-ok = record { same = q; not-1 = λ z. absurd (omega arith); not-2 = λ z. absurd (omega arith) }
+
+pub release-reported : (rulebook goals certificate : List ℕ) → length rulebook ≤ 8192 → length goals ≤ 8192 → length certificate ≤ 32768
+    → (a b c d : List ℕ) → length a ≡ 16384 → length b ≡ 16384 → length c ≡ 16384 → length d ≡ 16384
+    → Reported (releasedBy (length certificate) (walk.check rulebook goals certificate a b c d) .number)
+    (releaseAnswer (judged rulebook goals certificate))
+    (told (releasedBy (length certificate) (walk.check rulebook goals certificate a b c d)))
+release-reported rulebook goals certificate short-rulebook short-goals short a b c d long-a long-b long-c long-d =
+    reports (length certificate) (check-law rulebook goals certificate short-rulebook short-goals short a b c d long-a long-b long-c long-d)
+    (later-judged rulebook goals certificate)

@@ -1,0 +1,44 @@
+-- `reports::clear_all` meets its contract. Assumes nothing.
+use Rattle.reports.proofs.clear_all.Statement.{statement}
+use Rattle.reports.proofs.clear_all.Tie as tie
+
+clear-requires : tie.Need-clear-requires
+clear-requires c κs = tt
+
+clear-requires-2 : tie.Need-clear-requires-2
+clear-requires-2 c κs = tt
+
+clear-requires-3 : tie.Need-clear-requires-3
+clear-requires-3 c κs = tt
+
+clear-requires-4 : tie.Need-clear-requires-4
+clear-requires-4 c κs = tt
+
+same-length : tie.Need-same-length
+same-length c = c .before .before .before .before .before .before .before .before .before .before .before .before .before .a .given
+
+same-length-2 : tie.Need-same-length-2
+same-length-2 c = c .before .before .before .before .before .before .before .before .before .b .given
+
+same-length-3 : tie.Need-same-length-3
+same-length-3 c = c .before .before .before .before .before .c .given
+
+same-length-4 : tie.Need-same-length-4
+same-length-4 c = c .before .d .given
+
+returns : tie.Need-returns
+returns c = (c .before .before .before .before .before .before .before .before .before .before .before .before .before .before .clear .ensures, (c .before .before .before .before .before .before .before .before .before .before .clear2 .ensures, (c .before .before .before .before .before .before .clear3 .ensures, c .before .before .clear4 .ensures)))
+
+pub clear-all-spec : {M : Type 1} → statement M
+clear-all-spec =
+    tie.close
+    (tie.spec
+    clear-requires
+    clear-requires-2
+    clear-requires-3
+    clear-requires-4
+    same-length
+    same-length-2
+    same-length-3
+    same-length-4
+    returns)

@@ -1,0 +1,31 @@
+// The call with the rulebook alone: the lengths, then what crate `reports` answers of the first 16,384 words of each area.
+ghost use mathlib.Core.Path.{_≡_};
+ghost use Rattle.horn.specs.Setting.{document01};
+ghost use Rattle.horn.specs.Calls.{called, rulebookLeft};
+ghost use Rattle.reports.specs.Rulebook.{answered};
+use reports::RulebookReport;
+
+// "One call takes the rulebook alone and answers a number and the counts of sorts, constructors, predicates and rules."
+pub fn rulebook(
+    rulebook: &[u8],
+    a: &mut [u32],
+    b: &mut [u32],
+    c: &mut [u32],
+    d: &mut [u32],
+) -> RulebookReport
+    ensures { λ r. ⌜ called (answered r) (now (a .exit)) (now (b .exit)) (now (c .exit)) (now (d .exit)) ≡ rulebookLeft document01 (now (a .entry)) (now (b .entry)) (now (c .entry)) (now (d .entry)) (now (rulebook .entry)) ⌝ }
+{
+    if !reports::long_enough(a.len(), b.len(), c.len(), d.len()) {
+        return reports::refused(1);
+    }
+    if 8192 < rulebook.len() {
+        return reports::refused(2);
+    }
+    reports::judge(
+        rulebook,
+        &mut a[..16384],
+        &mut b[..16384],
+        &mut c[..16384],
+        &mut d[..16384],
+    )
+}

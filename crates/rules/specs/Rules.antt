@@ -1,0 +1,109 @@
+-- Declarations of rules: what each function answers, and what it leaves of the variables and of the theory.
+use Prim.Native.Nat.{ℕ, zero, suc, _+_, _*_, _-_, _%_}
+use mathlib.Core.Bool.{Bool, true, false, not}
+use mathlib.Core.List.{List}
+use lib.Dec.{ltb}
+use lib.ListN.{length, getD, set}
+use Rattle.lex.specs.Answers as lex
+use Rattle.lex.specs.Answers.{Answer, taken}
+use Rattle.lex.specs.declared.Token.the-variants as tokens
+use Rattle.items.specs.Places as places
+use Rattle.outcomes.specs.Outcomes.{Outcome, ok, refused, need, pick}
+use Rattle.outcomes.specs.Outcomes as outcomes
+use Rattle.outcomes.specs.Leaving.{Did, _leaving_, _>>=_, beside}
+use Rattle.words.specs.Sums.{sum32}
+use Rattle.items.specs.Items.{Met, atom, list, readOn, openedOne, withTop, itemDue, listDue, closingDue, question}
+use Rattle.leaves.specs.Leaves.{Areas}
+use Rattle.patterns.specs.Patterns.{judgment, judgments}
+use Rattle.items.specs.declared.Walk.{Walk}
+use Rattle.symbols.specs.Symbols.{entered}
+use Rattle.rules.specs.declared.RuleName.{RuleName}
+use Rattle.rules.specs.declared.RuleName.the-variants as ruleNames
+use Rattle.rules.specs.declared.Kept.{Kept}
+use Rattle.rules.specs.declared.Kept.the-variants as kepts
+use Rattle.rules.specs.declared.Body.{Body}
+use Rattle.rules.specs.declared.Body.the-variants as bodies
+
+-- What each case of the answer says: what stands in a rule's place for its name, and the walk after it; or a refusal.
+abbrev pub kept : Kept → Outcome (RuleName × Walk)
+kept (kepts.Got name w) = ok (name, w)
+kept (kepts.Refused n) = refused n
+
+-- The number of a rule's premises, the place of its conclusion and the walk after it; or a refusal.
+abbrev pub body : Body → Outcome (ℕ × ℕ × Walk)
+body (bodies.Got n conclusion w) = ok (n, conclusion, w)
+body (bodies.Refused n) = refused n
+
+-- How far a token goes down into lists, and 1: an opening 2, an atom 1, a closing 0.
+abbrev pub passedFrom : Walk → Answer → Outcome (ℕ × Walk)
+passedFrom w (lex.token tokens.Opening r) = ok (2, openedOne w r)
+passedFrom w (lex.token tokens.Closing r) = ok (0, readOn w r)
+passedFrom w (lex.token (tokens.Atom s t) r) = ok (1, readOn w r)
+passedFrom w lex.ended = refused 5
+passedFrom w (lex.refused n) = refused n
+
+unfoldable pub passed : List ℕ → Walk → Outcome (ℕ × Walk)
+passed text w = passedFrom w (taken text (w .reader))
+
+-- Past the closing of so many lists.
+unfoldable pub skipped : ℕ → ℕ → List ℕ → Walk → Outcome Walk
+skipped zero depth text w = pick (ltb 0 depth) (λ _. refused 4) (λ _. ok w)
+skipped (suc fuel) depth text w =
+    pick (ltb 0 depth)
+    (λ _. outcomes._>>=_ (passed text w) (λ (k, q). skipped fuel (sum32 (depth - 1) k) text q))
+    (λ _. ok w)
+
+-- A rule's name is judged after its patterns, so it is kept; a list there is skipped.
+abbrev pub keptFrom : List ℕ → Met → Outcome (RuleName × Walk)
+keptFrom text (atom s t w) = ok (ruleNames.Atom s t, w)
+keptFrom text (list n w) = outcomes._>>=_ (skipped (length text) 1 text w) (λ q. ok (ruleNames.List, q))
+
+unfoldable pub nameKept : List ℕ → List ℕ → Walk → Outcome (RuleName × Walk)
+nameKept text counts w = outcomes._>>=_ (itemDue text counts w) (keptFrom text)
+
+-- "N or S as a list is 7, with a leading `?` 11".
+abbrev pub nameJudged : List ℕ → RuleName → Outcome (ℕ × ℕ)
+nameJudged text (ruleNames.Atom s t) = outcomes._>>=_ (need (not (question text s)) 11) (λ _. ok (s, t))
+nameJudged text ruleNames.List = refused 7
+
+-- A walk before a rule's patterns, which stand behind seven words of its entry.
+unfoldable pub begun : Walk → Walk
+begun w = record { reader = w .reader; opened = w .opened; top = sum32 (w .top) places.patterns; variables = 0 }
+
+-- "Premises left to right, conclusion", with the number of premises and the place of the conclusion's words.
+unfoldable pub bodyRead : List ℕ → List ℕ → Walk → List ℕ → List ℕ → Did Areas (ℕ × ℕ × Walk)
+bodyRead text counts w vars heap = do
+  ((n, q), (vars, heap)) ← listDue text counts w leaving (vars, heap)
+  (p, (vars, heap)) ← judgments n text counts q vars heap
+  (o, (vars, heap)) ← judgment text counts p vars heap
+  ok (n, p .top, o) leaving (vars, heap)
+
+-- The four words behind a rule's name: how many premises and variables it has, and where its conclusion and its variables stand.
+unfoldable pub ruleDescribed : ℕ → ℕ → ℕ → ℕ → ℕ → List ℕ → List ℕ
+ruleDescribed e premises variables conclusion place heap =
+    set (set (set (set heap (e + places.premise-count) premises) (e + places.variable-count) variables) (e + places.conclusion) conclusion) (e + places.variables) place
+
+-- The words of the variables from the i-th on, behind the patterns.
+unfoldable pub copied : ℕ → ℕ → List ℕ → ℕ → List ℕ → List ℕ
+copied zero i vars top heap = heap
+copied (suc left) i vars top heap = copied left (i + 1) vars top (set heap (top + i) (getD vars i 0))
+
+-- The rule's variables stored behind its patterns.
+unfoldable pub variablesStored : Walk → List ℕ → List ℕ → Did (List ℕ) Walk
+variablesStored w vars heap =
+    ok (withTop w ((w .top + 3 * w .variables) % 4294967296)) leaving copied (3 * w .variables) 0 vars (w .top) heap
+
+-- A rule's entry, then the closing of its declaration.
+unfoldable pub ruleEntered : List ℕ → ℕ → ℕ → ℕ → ℕ → ℕ → Walk → List ℕ → List ℕ → Did (List ℕ) Walk
+ruleEntered text e s t n conclusion w vars heap = do
+  (q, heap) ← entered text places.rules e s t w heap
+  (q, heap) ← variablesStored q vars (ruleDescribed e n (q .variables) conclusion (q .top) heap)
+  closingDue text q leaving heap
+
+-- "`(rule N (J...) J)`: premises left to right, conclusion, N, duplicate."
+unfoldable pub ruleDeclared : List ℕ → List ℕ → Walk → List ℕ → List ℕ → Did Areas Walk
+ruleDeclared text counts w vars heap = do
+  ((name, q), (vars, heap)) ← nameKept text counts w leaving (vars, heap)
+  ((n, conclusion, q), (vars, heap)) ← bodyRead text counts (begun q) vars heap
+  ((s, t), (vars, heap)) ← nameJudged text name leaving (vars, heap)
+  beside vars (ruleEntered text (w .top) s t n conclusion q vars heap)

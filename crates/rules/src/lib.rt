@@ -1,0 +1,249 @@
+// Declarations of rules.
+ghost use mathlib.Core.Path.{_≡_};
+ghost use lib.ListN.{length};
+ghost use Rattle.outcomes.specs.Outcomes.{ok, refusal};
+ghost use Rattle.outcomes.specs.Leaving.{_leaving_};
+ghost use Rattle.items.specs.Items.{numbered, walked};
+ghost use Rattle.rules.specs.Rules.{kept, body, passed, skipped, nameKept, begun, bodyRead, ruleDescribed, variablesStored, ruleEntered, ruleDeclared};
+use items::Item;
+use items::Numbered;
+use items::Walk;
+use items::Walked;
+use items::places;
+use lex::Read;
+use lex::Token;
+
+// What stands in the place of a rule's name, which is judged after the patterns.
+pub enum RuleName {
+    Atom(usize, usize),
+    List,
+}
+
+pub enum Kept {
+    Got(RuleName, Walk),
+    Refused(u32),
+}
+
+// The number of a rule's premises, the place of its conclusion and the walk after it.
+pub enum Body {
+    Got(u32, u32, Walk),
+    Refused(u32),
+}
+
+pub fn kept_refusal(r: Kept) -> u32
+    ensures { λ n. ⌜ n ≡ refusal (kept r) ⌝ }
+{
+    match r {
+        Kept::Got(_, _) => 0,
+        Kept::Refused(n) => n,
+    }
+}
+
+pub fn body_refusal(r: Body) -> u32
+    ensures { λ n. ⌜ n ≡ refusal (body r) ⌝ }
+{
+    match r {
+        Body::Got(_, _, _) => 0,
+        Body::Refused(n) => n,
+    }
+}
+
+// How far the next token goes down into lists, and 1.
+pub fn pass(text: &[u8], w: Walk) -> Numbered
+    ensures { λ r. ⌜ numbered r ≡ passed (now (text .entry)) w ⌝ }
+{
+    let reader = w.reader;
+    let opened = w.opened;
+    let read = reader.token(text);
+    match read {
+        Read::End => Numbered::Refused(5),
+        Read::Bad => Numbered::Refused(3),
+        Read::Got(token, next) => match token {
+            Token::Opening => Numbered::Got(
+                2,
+                Walk {
+                    reader: next,
+                    opened: words::plus(opened, 1),
+                    top: w.top,
+                    variables: w.variables,
+                },
+            ),
+            Token::Closing => Numbered::Got(
+                0,
+                Walk {
+                    reader: next,
+                    opened,
+                    top: w.top,
+                    variables: w.variables,
+                },
+            ),
+            Token::Atom(_, _) => Numbered::Got(
+                1,
+                Walk {
+                    reader: next,
+                    opened,
+                    top: w.top,
+                    variables: w.variables,
+                },
+            ),
+        },
+    }
+}
+
+// Past the closing of a list whose opening was taken.
+pub fn skip(text: &[u8], w: Walk) -> Walked
+    ensures { λ r. ⌜ walked r ≡ skipped (length (now (text .entry))) 1 (now (text .entry)) w ⌝ }
+{
+    let mut v = w;
+    let mut depth: u32 = 1;
+    let mut fuel = text.len();
+    while 0 < depth {
+        if fuel == 0 {
+            return Walked::Refused(4);
+        }
+        let p = pass(text, v);
+        let Numbered::Got(k, q) = p else {
+            return Walked::Refused(items::numbered_refusal(p));
+        };
+        v = q;
+        depth = words::plus(depth - 1, k);
+        fuel -= 1;
+    }
+    Walked::To(v)
+}
+
+pub fn keep_name(text: &[u8], counts: &[u32], w: Walk) -> Kept
+    ensures { λ r. ⌜ kept r ≡ nameKept (now (text .entry)) (now (counts .entry)) w ⌝ }
+{
+    let i = items::next_item(text, counts, w);
+    match i {
+        Item::Refused(n) => Kept::Refused(n),
+        Item::Atom(s, t, q) => Kept::Got(RuleName::Atom(s, t), q),
+        Item::List(_, q) => {
+            let p = skip(text, q);
+            match p {
+                Walked::Refused(n) => Kept::Refused(n),
+                Walked::To(o) => Kept::Got(RuleName::List, o),
+            }
+        }
+    }
+}
+
+pub fn begin(w: Walk) -> Walk
+    ensures { λ r. ⌜ r ≡ begun w ⌝ }
+{
+    let reader = w.reader;
+    Walk {
+        reader,
+        opened: w.opened,
+        top: words::plus(w.top, places::PATTERNS),
+        variables: 0,
+    }
+}
+
+// A rule's premises and its conclusion.
+pub fn read_body(text: &[u8], counts: &[u32], vars: &mut [u32], heap: &mut [u32], w: Walk) -> Body
+    ensures { λ r. ⌜ (body r leaving (now (vars .exit), now (heap .exit))) ≡ bodyRead (now (text .entry)) (now (counts .entry)) w (now (vars .entry)) (now (heap .entry)) ⌝ }
+{
+    let l = items::next_list(text, counts, w);
+    let Numbered::Got(n, q) = l else {
+        return Body::Refused(items::numbered_refusal(l));
+    };
+    let j = patterns::judgments(text, counts, vars, heap, n, q);
+    let Walked::To(p) = j else {
+        return Body::Refused(items::walked_refusal(j));
+    };
+    let conclusion = p.top;
+    let k = patterns::judgment(text, counts, vars, heap, p);
+    let Walked::To(o) = k else {
+        return Body::Refused(items::walked_refusal(k));
+    };
+    Body::Got(n, conclusion, o)
+}
+
+// The four words behind a rule's name: how many premises and variables it has, and where its conclusion and its variables stand.
+pub fn describe_rule(
+    heap: &mut [u32],
+    e: u32,
+    premises: u32,
+    variables: u32,
+    conclusion: u32,
+    place: u32,
+)
+    ensures { λ r. ⌜ now (heap .exit) ≡ ruleDescribed e premises variables conclusion place (now (heap .entry)) ⌝ }
+{
+    words::put(heap, e as usize + places::PREMISE_COUNT, premises);
+    words::put(heap, e as usize + places::VARIABLE_COUNT, variables);
+    words::put(heap, e as usize + places::CONCLUSION, conclusion);
+    words::put(heap, e as usize + places::VARIABLES, place);
+}
+
+// The rule's variables behind its patterns.
+pub fn store_variables(vars: &[u32], heap: &mut [u32], w: Walk) -> Walk
+    ensures { λ r. ⌜ (ok r leaving now (heap .exit)) ≡ variablesStored w (now (vars .entry)) (now (heap .entry)) ⌝ }
+{
+    let top = w.top;
+    let end = 3 * w.variables as usize;
+    let mut i: usize = 0;
+    while i < end {
+        let word = words::at(vars, i);
+        words::put(heap, top as usize + i, word);
+        i += 1;
+    }
+    let reader = w.reader;
+    Walk {
+        reader,
+        opened: w.opened,
+        top: items::low(top as usize + end),
+        variables: w.variables,
+    }
+}
+
+pub fn enter_rule(
+    text: &[u8],
+    vars: &[u32],
+    heap: &mut [u32],
+    e: u32,
+    s: usize,
+    t: usize,
+    n: u32,
+    conclusion: u32,
+    w: Walk,
+) -> Walked
+    ensures { λ r. ⌜ (walked r leaving now (heap .exit)) ≡ ruleEntered (now (text .entry)) e s t n conclusion w (now (vars .entry)) (now (heap .entry)) ⌝ }
+{
+    let m = symbols::enter(text, heap, places::RULES, e, s, t, w);
+    let Walked::To(q) = m else {
+        return Walked::Refused(items::walked_refusal(m));
+    };
+    describe_rule(heap, e, n, q.variables, conclusion, q.top);
+    let p = store_variables(vars, heap, q);
+    items::close(text, p)
+}
+
+pub fn declare_rule(
+    text: &[u8],
+    counts: &[u32],
+    vars: &mut [u32],
+    heap: &mut [u32],
+    w: Walk,
+) -> Walked
+    ensures { λ r. ⌜ (walked r leaving (now (vars .exit), now (heap .exit))) ≡ ruleDeclared (now (text .entry)) (now (counts .entry)) w (now (vars .entry)) (now (heap .entry)) ⌝ }
+{
+    let e = w.top;
+    let k = keep_name(text, counts, w);
+    let Kept::Got(name, q) = k else {
+        return Walked::Refused(kept_refusal(k));
+    };
+    let b = read_body(text, counts, vars, heap, begin(q));
+    let Body::Got(n, conclusion, p) = b else {
+        return Walked::Refused(body_refusal(b));
+    };
+    let RuleName::Atom(s, t) = name else {
+        return Walked::Refused(7);
+    };
+    if items::is_question(text, s) {
+        return Walked::Refused(11);
+    }
+    enter_rule(text, vars, heap, e, s, t, n, conclusion, p)
+}

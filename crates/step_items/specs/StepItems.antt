@@ -1,0 +1,69 @@
+-- The items of a step: what each function answers, and what it leaves of the store, of the stack and of the theory's area with its bindings.
+use Prim.Native.Nat.{ℕ, zero, suc, _+_}
+use mathlib.Core.List.{List}
+use lib.Dec.{eqb}
+use lib.ListN.{length, set}
+use Rattle.words.specs.Parts.{part}
+use Rattle.words.specs.Sums.{sum32}
+use Rattle.lex.specs.declared.Reader.{Reader}
+use Rattle.outcomes.specs.Outcomes.{ok, refused, need, orElse, pick}
+use Rattle.outcomes.specs.Leaving.{Did, _leaving_, _>>=_}
+use Rattle.items.specs.Items.{question}
+use Rattle.theory_reading.specs.Reading.{variableFound, sortOfVariable}
+use Rattle.theory_reading.specs.Storing.{Areas, before}
+use Rattle.asking.specs.Asking.{Ahead, closing, member, atomDue, listDue, closingDue, closingNext}
+use Rattle.terms.specs.Terms.{term, headedJudgment, sortOf}
+use Rattle.matching.specs.Matching.{bindingOf, bindingAt}
+
+-- The store and the stack, then the theory's area with its bindings.
+abbrev pub Worked : Type 0
+Worked = Areas × List ℕ
+
+-- "`(?v T)`: unknown v 12, T, closing 10, bound already or wrong sort 21." The name v was asked for.
+unfoldable pub binding : List ℕ → List ℕ → List ℕ → ℕ → ℕ → ℕ → ℕ → Reader → List ℕ → List ℕ → List ℕ → Did Worked Reader
+binding text rules table rule top s t r store stack heap = do
+  (v, _) ← orElse (variableFound heap rules rule (part s t text)) 12 leaving ((store, stack), heap)
+  ((k, r), ((store, stack), heap)) ← before heap (term 255 text rules heap table top r store stack)
+  (r, _) ← closingDue text r leaving ((store, stack), heap)
+  _ ← need (eqb (bindingOf heap v) 0) 21 leaving ((store, stack), heap)
+  _ ← need (eqb (sortOf heap store k) (sortOfVariable heap rule v)) 21 leaving ((store, stack), heap)
+  ok r leaving ((store, stack), set heap (bindingAt v) (sum32 k 1))
+
+-- "Otherwise a judgment; a second, once read, is 22." Its head was asked for. A stated conclusion is kept as its number plus 1.
+unfoldable pub stated : List ℕ → List ℕ → List ℕ → ℕ → ℕ → ℕ → ℕ → Reader → List ℕ → List ℕ → List ℕ → Did Worked (ℕ × Reader)
+stated text rules table top word s t r store stack heap = do
+  ((k, r), areas) ← before heap (headedJudgment 255 text rules heap table top s t r store stack)
+  _ ← need (eqb word 0) 22 leaving areas
+  ok (sum32 k 1, r) leaving areas
+
+-- An item by its head, which was asked for.
+unfoldable pub headedItem : List ℕ → List ℕ → List ℕ → ℕ → ℕ → ℕ → ℕ → ℕ → Reader → List ℕ → List ℕ → List ℕ → Did Worked (ℕ × Reader)
+headedItem text rules table rule top word s t r store stack heap =
+    pick (question text s)
+    (λ _. binding text rules table rule top s t r store stack heap >>= λ p. ok (word, p .0) leaving (p .1))
+    (λ _. stated text rules table top word s t r store stack heap)
+
+-- "An item is a list with an atom head; after 4, 5 and 6, an answer that is no atom there is refused 7."
+unfoldable pub item : List ℕ → List ℕ → List ℕ → ℕ → ℕ → ℕ → Reader → List ℕ → List ℕ → List ℕ → Did Worked (ℕ × Reader)
+item text rules table rule top word r store stack heap = do
+  (r, _) ← listDue text 256 r leaving ((store, stack), heap)
+  ((s, t, r), _) ← atomDue text 255 r leaving ((store, stack), heap)
+  headedItem text rules table rule top word s t r store stack heap
+
+-- One item more, and those behind it.
+abbrev pub oneItem : (ℕ → Reader → List ℕ → List ℕ → List ℕ → Did Worked (ℕ × Reader)) → List ℕ → List ℕ → List ℕ → ℕ → ℕ → ℕ → Ahead → List ℕ → List ℕ → List ℕ → Did Worked (ℕ × Reader)
+oneItem on text rules table rule top word (closing r) store stack heap = ok (word, r) leaving ((store, stack), heap)
+oneItem on text rules table rule top word (member r) store stack heap = do
+  ((word, r), ((store, stack), heap)) ← item text rules table rule top word r store stack heap
+  on word r store stack heap
+
+-- "Item...", asked for until a closing is next. `fuel` is a bound on their number.
+unfoldable pub itemsFrom : ℕ → List ℕ → List ℕ → List ℕ → ℕ → ℕ → ℕ → Reader → List ℕ → List ℕ → List ℕ → Did Worked (ℕ × Reader)
+itemsFrom zero text rules table rule top word r store stack heap = refused 2 leaving ((store, stack), heap)
+itemsFrom (suc fuel) text rules table rule top word r store stack heap = do
+  (next, _) ← closingNext text r leaving ((store, stack), heap)
+  oneItem (itemsFrom fuel text rules table rule top) text rules table rule top word next store stack heap
+
+-- All items of a step: the stated conclusion's number plus 1, or 0; and the reader after the closing.
+unfoldable pub items : List ℕ → List ℕ → List ℕ → ℕ → ℕ → Reader → List ℕ → List ℕ → List ℕ → Did Worked (ℕ × Reader)
+items text rules table rule top r store stack heap = itemsFrom (length text + 1) text rules table rule top 0 r store stack heap
