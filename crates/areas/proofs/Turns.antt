@@ -31,7 +31,8 @@ unfolding filled
 filled-end zero i w step s h = refl
 filled-end (suc n) i w step s h = absurd (omega arith)
 
-pub held-on : (left i n w step : ℕ) (s : List ℕ) → 0 < left → getD s i 0 ≡ due i n w → held left i n w step s ≡ held (left - 1) (i + 1) n ((w + step) % 2 ^ 32) step s
+pub held-on : (left i n w step : ℕ) (s : List ℕ) → 0 < left → getD s i 0 ≡ due i n w
+    → held left i n w step s ≡ held (left - 1) (i + 1) n ((w + step) % 2 ^ 32) step s
 unfolding held
 held-on zero i n w step s h e = absurd (omega arith)
 held-on (suc m) i n w step s h e = rw (less m, eq-eqb _ _ e, held) refl
@@ -60,6 +61,7 @@ module _ (n first step : ℕ) (a b c d : List ℕ) where
   unfolding allHeld
   all-off-3 p q r = rw (p, allHeld) (rw (q) (rw (r) refl))
 
-  pub all-last : areaHeld n first step a ≡ true → areaHeld n first step b ≡ true → areaHeld n first step c ≡ true → areaHeld n first step d ≡ allHeld n first step a b c d
+  pub all-last : areaHeld n first step a ≡ true → areaHeld n first step b ≡ true → areaHeld n first step c ≡ true
+      → areaHeld n first step d ≡ allHeld n first step a b c d
   unfolding allHeld
   all-last p q r = rw (p, allHeld) (rw (q) (rw (r) refl))

@@ -59,6 +59,7 @@ pub fn fill_all(first: u32, step: u32, a: &mut [u32], b: &mut [u32], c: &mut [u3
     fill(d, first, step);
 }
 
+// Whether all four areas hold zeros in their first n words and behind them what `fill` left there.
 pub fn all_hold(n: usize, first: u32, step: u32, a: &[u32], b: &[u32], c: &[u32], d: &[u32]) -> bool
     ensures { λ r. ⌜ r ≡ allHeld n first step (now (a .entry)) (now (b .entry)) (now (c .entry)) (now (d .entry)) ⌝ }
 {

@@ -1,12 +1,12 @@
--- Words read and copied between lists.
+-- Words read from lists.
 use Prim.Native.Nat.{ℕ, zero, suc, _+_, _-_, _≤_, _<_}
 use mathlib.Core.Path.{_≡_, refl, sym, ap, _∙_}
-use mathlib.Core.List.{List, [], _∷_}
+use mathlib.Core.List.{List}
 use native.Mathlib.Omega.{arith}
-use lib.ListN.{length, getD, set, length-set, take, drop}
-use lib.Seq.{getD-set-same, getD-set-other, drop-cons, take-length}
-use Rattle.words.specs.Parts.{part, cleared}
-use Rattle.arena.specs.Store.{wordsAt, copied}
+use lib.ListN.{length, getD, take, drop}
+use lib.Seq.{drop-cons, take-length}
+use Rattle.words.specs.Parts.{part}
+use Rattle.arena.specs.Store.{wordsAt}
 
 pub length-wordsAt : (s : List ℕ) (i n : ℕ) → length (wordsAt s i n) ≡ n
 unfolding wordsAt
@@ -46,41 +46,3 @@ unfolding wordsAt
 getD-wordsAt s i zero d h = absurd (omega arith)
 getD-wordsAt s i (suc n) zero h = let z : i + 0 ≡ i = omega arith in rw z
 getD-wordsAt s i (suc n) (suc d) h = let z : i + 1 + d ≡ i + suc d = omega arith in rw (getD-wordsAt s (i + 1) n d (omega arith), z)
-
-pub length-copied : (n : ℕ) (a : List ℕ) (i : ℕ) (s : List ℕ) (j : ℕ) → length (copied a i s j n) ≡ length a
-unfolding copied
-length-copied zero a i s j = refl
-length-copied (suc n) a i s j = length-copied n (set a i (getD s j 0)) (i + 1) s (j + 1) ∙ length-set a i (getD s j 0)
-
-pub copied-before : (n : ℕ) (a : List ℕ) (i : ℕ) (s : List ℕ) (j m : ℕ) → m < i → getD (copied a i s j n) m 0 ≡ getD a m 0
-unfolding copied
-copied-before zero a i s j m h = refl
-copied-before (suc n) a i s j m h =
-    copied-before n (set a i (getD s j 0)) (i + 1) s (j + 1) m (omega arith) ∙ getD-set-other a i m (getD s j 0) 0 (λ e. omega arith)
-
-pub copied-there : (n : ℕ) (a : List ℕ) (i : ℕ) (s : List ℕ) (j d : ℕ) → i + n ≤ length a → d < n →
-    getD (copied a i s j n) (i + d) 0 ≡ getD s (j + d) 0
-unfolding copied
-copied-there zero a i s j d fits h = absurd (omega arith)
-copied-there (suc n) a i s j zero fits h =
-    let i0 : i + 0 ≡ i = omega arith in
-    let j0 : j + 0 ≡ j = omega arith in
-    rw (i0, j0)
-    (copied-before n (set a i (getD s j 0)) (i + 1) s (j + 1) i (omega arith) ∙ getD-set-same a i (getD s j 0) 0 (omega arith))
-copied-there (suc n) a i s j (suc d) fits h =
-    let p : i + suc d ≡ i + 1 + d = omega arith in
-    let q : j + suc d ≡ j + 1 + d = omega arith in
-    rw (p, q) (copied-there n (set a i (getD s j 0)) (i + 1) s (j + 1) d (rw (length-set a i (getD s j 0)) (omega arith)) (omega arith))
-
-pub length-cleared : (n : ℕ) (s : List ℕ) → length (cleared n s) ≡ length s
-unfolding cleared
-length-cleared zero s = refl
-length-cleared (suc n) [] = refl
-length-cleared (suc n) (w ∷ s) = ap suc (length-cleared n s)
-
-pub getD-cleared : (n : ℕ) (s : List ℕ) (i : ℕ) → i < n → getD (cleared n s) i 0 ≡ 0
-unfolding cleared
-getD-cleared zero s i h = absurd (omega arith)
-getD-cleared (suc n) [] i h = refl
-getD-cleared (suc n) (w ∷ s) zero h = refl
-getD-cleared (suc n) (w ∷ s) (suc i) h = getD-cleared n s i (omega arith)

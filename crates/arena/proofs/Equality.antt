@@ -1,31 +1,15 @@
--- The tests of equality that are not in `horn`: of words, and of what stands at a place of a store.
+-- What stands at a place of a store.
 use Prim.Native.Nat.{ℕ, zero, suc, _<_}
 use mathlib.Core.Path.{_≡_, refl, sym, ap, _∙_}
 use mathlib.Core.Bool.{Bool, true, false}
 use mathlib.Core.List.{List, [], _∷_}
 use native.Mathlib.Omega.{arith}
 use native.Mathlib.Nat.{le-of-suc-le-suc}
-use lib.Dec.{eqb}
 use lib.ListN.{length, getD}
-use Rattle.words.specs.Parts.{sameBytes}
-use Rattle.horn.specs.Names.{named, sameList, some-of}
+use Rattle.horn.specs.Names.{some-of}
 use Rattle.horn.specs.StoredTerms.{Term, sameTerm, holds}
-use Rattle.horn.proofs.Equality.{Decides, named-decides, sameTerm-decides}
+use Rattle.horn.proofs.Equality.{sameTerm-decides}
 use Rattle.arena.proofs.Cases.{not-both}
-
-same-tests : (x y : List ℕ) → sameBytes x y ≡ named x y
-unfolding sameBytes named sameList
-same-tests [] [] = refl
-same-tests [] (b ∷ y) = refl
-same-tests (a ∷ x) [] = refl
-same-tests (a ∷ x) (b ∷ y) = ap (λ (r : Bool). elim (eqb a b) as (λ _. Bool) [ true ↦ r | false ↦ false ]) (same-tests x y)
-
-pub words-decide : Decides sameBytes
-words-decide =
-    record {
-      equal = λ x y e. named-decides .equal x y (sym (same-tests x y) ∙ e);
-      same = λ x. same-tests x x ∙ named-decides .same x;
-    }
 
 -- A term is held exactly when it stands at some place of the store.
 pub held-place : (t d : Term) (ts : List Term) → holds ts t ≡ true → (k : ℕ) × (k < length ts) × (getD ts k d ≡ t)

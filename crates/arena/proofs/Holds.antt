@@ -6,11 +6,12 @@ use native.Mathlib.Omega.{arith}
 use native.Mathlib.Decide.{ℕ-discrete}
 use lib.ListN.{length, getD, set, take, length-set, length-append, List·getD-append}
 use lib.Seq.{getD-append-seam, getD-set-same, getD-set-other, take-append-le, take-all, take-length}
-use Rattle.words.specs.Parts.{part, sameBytes}
+use Rattle.words.specs.Parts.{part, sameBytes, copied}
+use Rattle.words.proofs.Writing.{length-copied, copied-before, copied-there}
 use Rattle.arena.specs.Probing.{probe}
-use Rattle.arena.specs.Store.{startAt, placeAt, wordAt, areaWords, wordsAt, copied, count, start, isKey, withNode}
+use Rattle.arena.specs.Store.{startAt, placeAt, wordAt, areaWords, wordsAt, count, start, isKey, withNode}
 use Rattle.arena.specs.declared.Probe.the-variants.{Free}
-use Rattle.arena.proofs.Copies.{wordsAt-same, wordsAt-all, wordsAt-part, length-copied, copied-before, copied-there}
+use Rattle.arena.proofs.Copies.{wordsAt-same, wordsAt-all, wordsAt-part}
 use Rattle.arena.proofs.Nodes.{Node, Nodes, nodeOf, total, total-next, total-most, total-one-more, asked, last-or-before, Indexed}
 use Rattle.arena.proofs.Walks
 use Rattle.arena.proofs.Nodes as N
@@ -60,7 +61,8 @@ module _ (nodes : ℕ) (c : List ℕ) (n v p : ℕ) where
       (rw (length-set (set c (startAt (n + 1)) v) 0 (n + 1), length-set c (startAt (n + 1)) v) h)
 
 with-node : (a : List ℕ) (nodes places : ℕ) (key : List ℕ) (p : ℕ) →
-    withNode a nodes places key p ≡ grown nodes (copied a (wordAt nodes places (start a (count a))) key 0 (length key)) (count a) (start a (count a) + length key) p
+    withNode a nodes places key p ≡ grown nodes (copied a (wordAt nodes places (start a (count a))) key 0 (length key)) (count a)
+    (start a (count a) + length key) p
 unfolding withNode grown
 with-node a nodes places key p = refl
 

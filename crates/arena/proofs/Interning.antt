@@ -8,7 +8,7 @@ use native.Mathlib.Decide.{decLe}
 use lib.ListN.{length, getD}
 use Rattle.words.specs.Hash.{hash}
 use Rattle.words.specs.Parts.{cleared}
-use Rattle.arena.proofs.Copies.{length-cleared, getD-cleared}
+use Rattle.words.proofs.Writing.{length-cleared, getD-cleared}
 use Rattle.arena.specs.Probing.{probe, startPlace}
 use Rattle.arena.specs.Store.{areaWords, placeAt, count, start, searched, addedAnswer, addedArea, answerAt, areaAt, internAnswer, internArea, emptied}
 use Rattle.arena.specs.declared.Probe.{Probe}
@@ -85,7 +85,9 @@ module _ (nodes words places : ℕ) (l : Limits nodes words places) where
 
       not-nowhere : walk ≡ Nowhere → ⊥
       unfolding walk
-      not-nowhere e = N.ends places (places-positive nodes words places l) (place places) (place-below nodes words places l) places-read s (h .index) x (omega (arith, few-nodes nodes words places l, h .nodes-fit)) e
+      not-nowhere e =
+          N.ends places (places-positive nodes words places l) (place places) (place-below nodes words places l) places-read s (h .index) x
+          (omega (arith, few-nodes nodes words places l, h .nodes-fit)) e
 
       -- Probing always ends at the node or at a free place.
       pub probing-ends : Ending s x (searched a nodes places x)

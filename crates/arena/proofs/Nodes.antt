@@ -11,7 +11,7 @@ use lib.Seq.{getD-append-seam, take-suc}
 use Rattle.words.specs.Parts.{sameBytes}
 use Rattle.arena.specs.Probing.{probe}
 use Rattle.arena.specs.declared.Probe.the-variants.{Held, Free, Nowhere}
-use Rattle.arena.proofs.Equality.{words-decide}
+use Rattle.facts.proofs.Comparing.{words-decide}
 use Rattle.arena.proofs.Walks
 
 abbrev pub Node : Type 0
@@ -135,7 +135,8 @@ module _ (places : ℕ) (pos : 0 < places) (start : Node → ℕ) (start-below :
           old k h =
               rw (List·getD-append s (x ∷ []) [] k h)
               (Walks.still-held places pos r r′ (length s) p others here (free .1)
-              (asked s (nodeOf s k)) (asked (s ++ (x ∷ [])) (nodeOf s k)) (more (nodeOf s k)) k places (start (nodeOf s k)) (start-below (nodeOf s k)) (index .each k h))
+              (asked s (nodeOf s k)) (asked (s ++ (x ∷ [])) (nodeOf s k)) (more (nodeOf s k)) k places (start (nodeOf s k)) (start-below (nodeOf s k))
+              (index .each k h))
 
           itself : asked (s ++ (x ∷ [])) x (length s) ≡ true
           itself = rw (getD-append-seam s x [] []) (words-decide .same x)

@@ -253,7 +253,8 @@ module _ (symbolAt : ℕ → Symbol) where
       pub interned-tree : (limits : Setting) (places : ℕ) → Limits (limits .nodes) (limits .nodeWords) places →
           (a : List ℕ) (ts : List Term) → Trees (limits .nodes) (limits .nodeWords) places a ts →
           (x : Node) → Formed used (length ts) x →
-          InternedTree limits places a ts (build ts x) (internAnswer a (limits .nodes) (limits .nodeWords) places x) (internArea a (limits .nodes) (limits .nodeWords) places x)
+          InternedTree limits places a ts (build ts x) (internAnswer a (limits .nodes) (limits .nodeWords) places x)
+          (internArea a (limits .nodes) (limits .nodeWords) places x)
       interned-tree limits places l a ts trees x fx = go (interned (limits .nodes) (limits .nodeWords) places l a s (trees .kept) x)
         where
           s : Nodes
@@ -265,8 +266,10 @@ module _ (symbolAt : ℕ → Symbol) where
           fs : Formed used (length s) x
           fs = rw (h .same) at fx
 
-          go : Interned (limits .nodes) (limits .nodeWords) places a s x (internAnswer a (limits .nodes) (limits .nodeWords) places x) (internArea a (limits .nodes) (limits .nodeWords) places x) →
-              InternedTree limits places a ts (build ts x) (internAnswer a (limits .nodes) (limits .nodeWords) places x) (internArea a (limits .nodes) (limits .nodeWords) places x)
+          go : Interned (limits .nodes) (limits .nodeWords) places a s x (internAnswer a (limits .nodes) (limits .nodeWords) places x)
+              (internArea a (limits .nodes) (limits .nodeWords) places x) →
+              InternedTree limits places a ts (build ts x) (internAnswer a (limits .nodes) (limits .nodeWords) places x)
+              (internArea a (limits .nodes) (limits .nodeWords) places x)
           go (found k e left b same) =
               let t = held ts s h x fs k b same in
               known k e left (omega (arith, h .same)) (t .0) (t .1) (defined-held ts s h x fs limits (t .1))

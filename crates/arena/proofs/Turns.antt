@@ -11,12 +11,13 @@ use lib.Pow.{shr-lt, pow-mono}
 use lib.Dec.{leb}
 use lib.ListN.{length, getD, set}
 use Rattle.arena.specs.Probing.{probe, startPlace}
-use Rattle.arena.specs.Store.{placeAt, wordAt, copied, count, start, isKey, searched, addedAnswer, withNode, addedArea}
+use Rattle.arena.specs.Store.{placeAt, wordAt, count, start, isKey, searched, addedAnswer, withNode, addedArea}
 use Rattle.arena.specs.Store.{answerAt, areaAt, internAnswer, internArea, internReport, answered}
 use Rattle.arena.specs.declared.Answer.{Answer}
 use Rattle.arena.specs.declared.Answer.the-variants.{Found, Made, Full}
 use Rattle.arena.specs.declared.Probe.{Probe}
 use Rattle.words.specs.Hash.{hash}
+use Rattle.words.specs.Parts.{copied}
 use Rattle.arena.specs.declared.Probe.the-variants.{Held, Free, Nowhere}
 use Rattle.arena.proofs.Walks.{turn-none, turn-free, turn-held, turn-on}
 
@@ -59,17 +60,6 @@ module _ (places : ℕ) (r : ℕ → ℕ) (q : ℕ → Bool) where
       let n : suc v - 1 ≡ v = omega arith in
       let m : suc f - 1 ≡ f = omega arith in
       rw m (turn-on places f r q i v (sym e) (rw n at t))
-
-pub copy-on : (a a′ : List ℕ) (i : ℕ) (s : List ℕ) (j n v : ℕ) → 0 < n → v ≡ getD s j 0 → a′ ≡ set a i v →
-    copied a i s j n ≡ copied a′ (i + 1) s (j + 1) (n - 1)
-unfolding copied
-copy-on a a′ i s j zero v h e f = absurd (omega arith)
-copy-on a a′ i s j (suc n) v h e f = let m : suc n - 1 ≡ n = omega arith in rw (m, f, e)
-
-pub copy-end : (a : List ℕ) (i : ℕ) (s : List ℕ) (j n : ℕ) → (0 < n → ⊥) → copied a i s j n ≡ a
-unfolding copied
-copy-end a i s j zero h = refl
-copy-end a i s j (suc n) h = absurd (h (omega arith))
 
 -- The ways through `add`.
 module _ (a : List ℕ) (nodes limit places : ℕ) (key : List ℕ) (p n : ℕ) (counted : n ≡ getD a 0 0) where
@@ -119,7 +109,8 @@ module _ (a : List ℕ) (nodes limit places : ℕ) (key : List ℕ) (h i : ℕ) 
   unfolding searched
   ended = rw (← hashed, ← begun) (sym walked)
 
-  told : (answer : Answer) (left : List ℕ) → answer ≡ answerAt a nodes limit key r → left ≡ areaAt a nodes limit places key r → Told a nodes limit places key answer left
+  told : (answer : Answer) (left : List ℕ) → answer ≡ answerAt a nodes limit key r → left ≡ areaAt a nodes limit places key r
+      → Told a nodes limit places key answer left
   unfolding internAnswer internArea internReport
   told answer left e f =
       record { answer-is = rw ended e; area-is = rw ended f; report-is = ap answered (rw ended e) }
@@ -128,7 +119,8 @@ module _ (a : List ℕ) (nodes limit places : ℕ) (key : List ℕ) (h i : ℕ) 
   unfolding answerAt areaAt
   told-held k e = told (Found k) a (rw e) (rw e)
 
-  pub told-free : (p : ℕ) (answer : Answer) (left : List ℕ) → r ≡ Free p → answer ≡ addedAnswer a nodes limit key → left ≡ addedArea a nodes limit places key p →
+  pub told-free : (p : ℕ) (answer : Answer) (left : List ℕ) → r ≡ Free p → answer ≡ addedAnswer a nodes limit key
+      → left ≡ addedArea a nodes limit places key p →
       Told a nodes limit places key answer left
   unfolding answerAt areaAt
   told-free p answer left e f g = told answer left (rw e f) (rw e g)

@@ -1,11 +1,13 @@
 -- The store in one area, in this order: the number of nodes; the nodes' starts, one more than there may be nodes, the last in use being
--- the number of words; the index; the nodes' words. The first two words are the counts of an empty store. A key is a node's words, head first, lent as a part of other words.
+-- the number of words; the index; the nodes' words. The first two words are the counts of an empty store. A key is a node's words, head first, lent
+-- as a part of other words.
 use Prim.Native.Nat.{ℕ, zero, suc, _+_, _-_}
 use mathlib.Core.Bool.{Bool, true, false}
 use mathlib.Core.List.{List, [], _∷_}
 use lib.Dec.{leb, ltb}
 use lib.ListN.{length, getD, set}
-use Rattle.words.specs.Parts.{part, sameBytes, cleared}
+use Rattle.words.specs.Choice.{pick}
+use Rattle.words.specs.Parts.{part, sameBytes, copied, cleared}
 use Rattle.words.specs.Hash.{hash}
 use Rattle.horn.specs.Refusals.{number, storeFull}
 use Rattle.arena.specs.Probing.{probe, startPlace}
@@ -32,11 +34,6 @@ unfoldable pub wordsAt : List ℕ → ℕ → ℕ → List ℕ
 wordsAt s i zero = []
 wordsAt s i (suc n) = getD s i 0 ∷ wordsAt s (i + 1) n
 
--- A list with n words at i taken from those at j of another.
-unfoldable pub copied : List ℕ → ℕ → List ℕ → ℕ → ℕ → List ℕ
-copied a i s j zero = a
-copied a i s j (suc n) = copied (set a i (getD s j 0)) (i + 1) s (j + 1) n
-
 unfoldable pub count : List ℕ → ℕ
 count a = getD a 0 0
 
@@ -51,11 +48,6 @@ isKey a nodes places key k = sameBytes (part (wordAt nodes places (start a k)) (
 unfoldable pub searched : List ℕ → ℕ → ℕ → List ℕ → Probe
 searched a nodes places key =
     probe places places (λ (p : ℕ). getD a (placeAt nodes p) 0) (isKey a nodes places key) (startPlace (hash key) places)
-
--- A choice whose two sides wait.
-abbrev pub pick : {A : Type 0} → Bool → (Unit {0} → A) → (Unit {0} → A) → A
-pick true x y = x tt
-pick false x y = y tt
 
 -- "Refusal 28 comes when a node not yet held would pass either, and otherwise never."
 unfoldable pub addedAnswer : List ℕ → ℕ → ℕ → List ℕ → Answer

@@ -2,9 +2,8 @@
 ghost use mathlib.Core.Path.{_≡_};
 ghost use Prim.Native.Nat.{ℕ};
 ghost use lib.ListN.{getD};
-ghost use Rattle.words.specs.Parts.{sameBytes};
 ghost use Rattle.arena.specs.Probing.{probe, startPlace};
-ghost use Rattle.arena.specs.Store.{placeAt, wordAt, copied, count, isKey, addedAnswer, addedArea};
+ghost use Rattle.arena.specs.Store.{placeAt, count, isKey, addedAnswer, addedArea};
 ghost use Rattle.arena.specs.Store.{internAnswer, internArea, internReport, answered, emptied, sizeOf, headOf, argumentOf};
 
 // Where probing the index ends: at the node that is asked for, at a free place, or nowhere, which a store within its limits rules out.
@@ -32,22 +31,6 @@ pub fn start_place(h: u64, places: u32) -> u32
     (h >> (64 - t)) as u32
 }
 
-fn same_words(a: &[u32], b: &[u32]) -> bool
-    ensures { λ r. ⌜ r ≡ sameBytes (now (a .entry)) (now (b .entry)) ⌝ }
-{
-    if a.len() != b.len() {
-        return false;
-    }
-    let mut i = 0;
-    while i < a.len() {
-        if a[i] != b[i] {
-            return false;
-        }
-        i += 1;
-    }
-    true
-}
-
 // Whether node k is the key.
 fn is_key(a: &[u32], nodes: u32, places: u32, key: &[u32], k: u32) -> bool
     ensures { λ r. ⌜ r ≡ isKey (now (a .entry)) nodes places (now (key .entry)) k ⌝ }
@@ -56,12 +39,13 @@ fn is_key(a: &[u32], nodes: u32, places: u32, key: &[u32], k: u32) -> bool
     let next = words::at(a, k as usize + 1 + 1);
     let base = 2 + nodes as usize + places as usize;
     let node = words::words_part(a, base + start as usize, base + next as usize);
-    same_words(node, key)
+    words::same_words(node, key)
 }
 
 // Walks the index from a place, at most once around.
 fn walk(a: &[u32], nodes: u32, places: u32, key: &[u32], start: u32) -> Probe
-    ensures { λ r. ⌜ r ≡ probe places places (λ (p : ℕ). getD (now (a .entry)) (placeAt nodes p) 0) (isKey (now (a .entry)) nodes places (now (key .entry))) start ⌝ }
+    ensures { λ r. ⌜ r
+        ≡ probe places places (λ (p : ℕ). getD (now (a .entry)) (placeAt nodes p) 0) (isKey (now (a .entry)) nodes places (now (key .entry))) start ⌝ }
 {
     let mut fuel = places;
     let mut i = start;
@@ -77,22 +61,6 @@ fn walk(a: &[u32], nodes: u32, places: u32, key: &[u32], start: u32) -> Probe
         fuel -= 1;
     }
     Probe::Nowhere
-}
-
-// Copies the first words of a key to where word w of the nodes stands.
-fn copy(a: &mut [u32], nodes: u32, places: u32, w: u32, key: &[u32], len: u32)
-    ensures { λ r. ⌜ now (a .exit) ≡ copied (now (a .entry)) (wordAt nodes places w) (now (key .entry)) 0 len ⌝ }
-{
-    let mut i = 2 + nodes as usize + places as usize + w as usize;
-    let mut j: usize = 0;
-    let mut left = len;
-    while 0 < left {
-        let v = words::at(key, j);
-        words::put(a, i, v);
-        i += 1;
-        j += 1;
-        left -= 1;
-    }
 }
 
 // Adds a node that is not held, where both limits allow it.
@@ -112,7 +80,8 @@ fn add(a: &mut [u32], nodes: u32, limit: u32, places: u32, key: &[u32], p: u32) 
         return Answer::Full;
     }
     let len = key.len() as u32;
-    copy(a, nodes, places, w, key, len);
+    let base = 2 + nodes as usize + places as usize;
+    words::copy(a, base + w as usize, key, key.len());
     words::put(a, n as usize + 1 + 1, w + len);
     words::put(a, 0, n + 1);
     words::put(a, 2 + nodes as usize + p as usize, n + 1);
@@ -161,6 +130,7 @@ pub fn node_size(a: &[u32], k: u32) -> u32
     next - start
 }
 
+// The head of a node.
 pub fn node_head(a: &[u32], nodes: u32, places: u32, k: u32) -> u32
     ensures { λ r. ⌜ r ≡ headOf (now (a .entry)) nodes places k ⌝ }
 {

@@ -19,6 +19,10 @@ use Rattle.asking.specs.declared.Look.the-variants as looks
 use Rattle.asking.specs.declared.Begun.{Begun}
 use Rattle.asking.specs.declared.Begun.the-variants as begins
 
+-- What is left for the members of a form, which are at depth 1.
+abbrev pub inForm : ℕ
+inForm = 256
+
 -- An atom with its bounds, or a list, its opening taken; and the reader after it.
 pub data Met : Type 0 where
   atom : ℕ → ℕ → Reader → Met

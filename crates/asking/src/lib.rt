@@ -7,6 +7,9 @@ use lex::Read;
 use lex::Reader;
 use lex::Token;
 
+// What is left for the members of a form, which are at depth 1.
+pub const IN_FORM: u32 = 256;
+
 // An atom with its bounds and the reader after it, or a list with the reader after its opening.
 pub enum Item {
     Atom(usize, usize, Reader),
@@ -140,6 +143,7 @@ pub fn form_due(text: &[u8], reader: Reader) -> Begun
     }
 }
 
+// The number of its refusal, 0 where there is none.
 pub fn named_refusal(r: Named) -> u32
     ensures { λ n. ⌜ n ≡ refusal (named r) ⌝ }
 {
@@ -149,6 +153,7 @@ pub fn named_refusal(r: Named) -> u32
     }
 }
 
+// The number of its refusal, 0 where there is none.
 pub fn passed_refusal(r: Passed) -> u32
     ensures { λ n. ⌜ n ≡ refusal (passed r) ⌝ }
 {

@@ -17,9 +17,9 @@ use Rattle.words.specs.Parts.{part}
 use Rattle.lex.specs.Answers as lexed
 use Rattle.lex.specs.declared.Token.the-variants.{Opening, Closing, Atom}
 use Rattle.lex.specs.declared.Reader.{Reader}
-use Rattle.lex.proofs.Standing as standing
 use Rattle.lex.proofs.Standing.{Stands}
-use Rattle.lex.proofs.Positions.{never-past}
+use Rattle.lex.proofs.Readers.{Takes, take-opening, take-closing, take-atom, takes, taken-end, taken-bad, Sees, see-end, see-bad}
+use Rattle.lex.proofs.Readers.{see-opening, see-closing, see-atom, sees}
 use Rattle.outcomes.specs.Outcomes as outcomes
 use Rattle.outcomes.specs.Outcomes.{Outcome}
 use Rattle.theory_laws.specs.Reading.{weight}
@@ -28,49 +28,6 @@ use Rattle.theory_laws.proofs.Lookups.{part-length}
 use Rattle.asking.specs.Asking as asked
 use Rattle.asking.specs.Asking.{Met, Ahead, Top, itemDue, atomDue, listDue, closingDue, closingNext, formDue}
 use Rattle.asking_laws.proofs.Places.{Begins, Comes, Left, At}
-
--- What taking a token answers, by the tokens that come.
-data Takes (text : List ℕ) : Stream Token → lexed.Answer → Type 0 where
-  take-end : Takes text end lexed.ended
-  take-bad : Takes text bad (lexed.refused 3)
-  take-opening : {r : Reader} {s : Stream Token} → Stands text r s → Takes text (opening ▹ s) (lexed.token Opening r)
-  take-closing : {r : Reader} {s : Stream Token} → Stands text r s → Takes text (closing ▹ s) (lexed.token Closing r)
-  take-atom : {a b : ℕ} {r : Reader} {bytes : List ℕ} {s : Stream Token} → Stands text r s → part a b text ≡ bytes → a < b → b ≤ length text
-      → Takes text (atom bytes ▹ s) (lexed.token (Atom a b) r)
-
--- What a look answers.
-data Sees (text : List ℕ) : Stream Token → lexed.Answer → Type 0 where
-  see-end : Sees text end lexed.ended
-  see-bad : Sees text bad (lexed.refused 3)
-  see-opening : {r : Reader} {s : Stream Token} → Stands text r (opening ▹ s) → Sees text (opening ▹ s) (lexed.token Opening r)
-  see-closing : {r : Reader} {s : Stream Token} → Stands text r (closing ▹ s) → Sees text (closing ▹ s) (lexed.token Closing r)
-  see-atom : {a b : ℕ} {r : Reader} {bytes : List ℕ} {s : Stream Token} → Stands text r (atom bytes ▹ s)
-      → Sees text (atom bytes ▹ s) (lexed.token (Atom a b) r)
-
-module _ (text : List ℕ) where
-  takes : (r : Reader) (s : Stream Token) → Stands text r s → Takes text s (lexed.taken text r)
-  unfolding standing.Takes standing.Moved standing.meant number
-  takes r s st = by (lexed.taken text r) (standing.token-law text r s st) where
-    by : (a : lexed.Answer) → standing.Takes text (standing.place r) a s → Takes text s a
-    by lexed.ended k = rw k take-end
-    by (lexed.refused n) k = rw (k .0, k .1) take-bad
-    by (lexed.token Opening q) k = rw (k .next) (take-opening (k .stands))
-    by (lexed.token Closing q) k = rw (k .next) (take-closing (k .stands))
-    by (lexed.token (Atom a b) q) k =
-        let m = k .moved in
-        let u = never-past text q (k .others) (k .stands) in
-        let e = m .to in
-        rw (k .next) (take-atom (k .stands) refl (m .some) (omega arith))
-
-  sees : (r : Reader) (s : Stream Token) → Stands text r s → Sees text s (lexed.peeked text r)
-  unfolding standing.Sees standing.meant number
-  sees r s st = by (lexed.peeked text r) (standing.peek-law text r s st) where
-    by : (a : lexed.Answer) → standing.Sees text (standing.place r) a s → Sees text s a
-    by lexed.ended k = rw k see-end
-    by (lexed.refused n) k = rw (k .0, k .1) see-bad
-    by (lexed.token Opening q) k = rw (k .next) (see-opening (rw (k .next) at (k .stands)))
-    by (lexed.token Closing q) k = rw (k .next) (see-closing (rw (k .next) at (k .stands)))
-    by (lexed.token (Atom a b) q) k = rw (k .next) (see-atom (rw (k .next) at (k .stands)))
 
 -- "Asking for an item at depth 257 is refusal 4, before its token is taken": the code counts down, the definition up.
 pub asked-at : {A B : Type 0} {Q : A → B → Type 0} {o : Outcome A} {m : Result B} (left depth : ℕ) → depth + left ≡ 257 → Answers Q o m
@@ -111,17 +68,11 @@ module _ (text : List ℕ) where
       got t (b .others) (lexed.taken text r) (b .on) (rw (b .next) at (a .light))
       (rw (b .next) at (takes text r (a .coming) (a .stands)))
 
-  taken-end : {a : lexed.Answer} → Takes text end a → a ≡ lexed.ended
-  taken-end take-end = refl
-
-  taken-bad : {a : lexed.Answer} → Takes text bad a → a ≡ lexed.refused 3
-  taken-bad take-bad = refl
-
   end-taken : {n : ℕ} {r : Reader} → At text (λ s. s ≡ end) n r → lexed.taken text r ≡ lexed.ended
-  end-taken {n} {r} a = taken-end (rw (a .here) at (takes text r (a .coming) (a .stands)))
+  end-taken {n} {r} a = taken-end text (rw (a .here) at (takes text r (a .coming) (a .stands)))
 
   bad-taken : {n : ℕ} {r : Reader} → At text (λ s. s ≡ bad) n r → lexed.taken text r ≡ lexed.refused 3
-  bad-taken {n} {r} a = taken-bad (rw (a .here) at (takes text r (a .coming) (a .stands)))
+  bad-taken {n} {r} a = taken-bad text (rw (a .here) at (takes text r (a .coming) (a .stands)))
 
   module _ (K : Stream Token → Type 0) (n : ℕ) where
     -- An item that was asked for: an atom by its bounds, or a list, its opening taken; what is left of the list around it stays.
@@ -222,16 +173,18 @@ module _ (text : List ℕ) where
     look-law badLine {r} a = by (rw (a .here) at (sees text r (a .coming) (a .stands))) where
       by : {b : lexed.Answer} → Sees text bad b → Looked badLine (asked.nextFrom text r b)
       by see-bad = look-bad
-    look-law (word name then rest) {r} a = go (rw (a .here .next) at (sees text r (a .coming) (a .stands))) (λ q st. seen-at a (rw (← a .here .next) at st)) where
-      go : {b : lexed.Answer} {u : Stream Token} → Sees text (atom name ▹ u) b
-          → ((q : Reader) → Stands text q (atom name ▹ u) → At text (Left (word name then rest) K) n q)
-          → Looked (word name then rest) (asked.nextFrom text r b)
-      go (see-atom st) g = look-item (g _ st)
-    look-law (group inner then rest) {r} a = go (rw (a .here .next) at (sees text r (a .coming) (a .stands))) (λ q st. seen-at a (rw (← a .here .next) at st)) where
-      go : {b : lexed.Answer} {u : Stream Token} → Sees text (opening ▹ u) b
-          → ((q : Reader) → Stands text q (opening ▹ u) → At text (Left (group inner then rest) K) n q)
-          → Looked (group inner then rest) (asked.nextFrom text r b)
-      go (see-opening st) g = look-item (g _ st)
+    look-law (word name then rest) {r} a =
+        go (rw (a .here .next) at (sees text r (a .coming) (a .stands))) (λ q st. seen-at a (rw (← a .here .next) at st)) where
+          go : {b : lexed.Answer} {u : Stream Token} → Sees text (atom name ▹ u) b
+              → ((q : Reader) → Stands text q (atom name ▹ u) → At text (Left (word name then rest) K) n q)
+              → Looked (word name then rest) (asked.nextFrom text r b)
+          go (see-atom st) g = look-item (g _ st)
+    look-law (group inner then rest) {r} a =
+        go (rw (a .here .next) at (sees text r (a .coming) (a .stands))) (λ q st. seen-at a (rw (← a .here .next) at st)) where
+          go : {b : lexed.Answer} {u : Stream Token} → Sees text (opening ▹ u) b
+              → ((q : Reader) → Stands text q (opening ▹ u) → At text (Left (group inner then rest) K) n q)
+              → Looked (group inner then rest) (asked.nextFrom text r b)
+          go (see-opening st) g = look-item (g _ st)
 
     -- The next form at top level.
     pub data FormMet : Items → Outcome Top → Type 0 where

@@ -6,7 +6,8 @@ use mathlib.Core.List.{List}
 use lib.ListN.{length}
 use native.Mathlib.Omega.{arith}
 use Rattle.horn.specs.Tokens.{Stream, end, bad, _▹_, Token, opening, closing, atom, tokens}
-use Rattle.horn.specs.NestedLists.{Item, word, group, Items, closed, ended, badLine, _then_, Around, atEnd, atBadLine, _inside_, innermost, outer, add, around, items}
+use Rattle.horn.specs.NestedLists.{Item, word, group, Items, closed, ended, badLine, _then_, Around, atEnd, atBadLine, _inside_, innermost}
+use Rattle.horn.specs.NestedLists.{outer, add, around, items}
 use Rattle.lex.specs.Answers.{start}
 use Rattle.lex.specs.declared.Reader.{Reader}
 use Rattle.lex.proofs.Standing.{Stands, start-stands}

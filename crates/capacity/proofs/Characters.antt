@@ -42,23 +42,29 @@ data Within (n : ℕ) : Option (List Char) → Type 0 where
   within-some : {cs : List Char} → charBytes cs ≤ n → Within n (some cs)
   within-none : Within n none
 
-within-map : {n m : ℕ} {o : Option (List Char)} (taken : List ℕ) (value : ℕ) → 0 < length taken → m ≡ length taken + n → Within n o → Within m (Option·map (λ cs. char taken value ∷ cs) o)
+within-map : {n m : ℕ} {o : Option (List Char)} (taken : List ℕ) (value : ℕ) → 0 < length taken → m ≡ length taken + n → Within n o
+    → Within m (Option·map (λ cs. char taken value ∷ cs) o)
 unfolding charBytes
 within-map taken value l e (within-some {cs} h) = let w = wide-is taken l in within-some {cs = char taken value ∷ cs} (omega arith)
 within-map taken value l e within-none = within-none
 
-within-next : (taken : List ℕ) (value b : ℕ) (bs : List ℕ) → 0 < length taken → ((v : ℕ) (rest : List Range) → Within (1 + length bs) (resumed (b ∷ []) v rest bs)) → (o : Option Sequence)
-    → Within (length taken + suc (length bs)) (elim o [ none ↦ none | some (sequence first mark rest) ↦ Option·map (λ cs. char taken value ∷ cs) (resumed (b ∷ []) (b - mark) rest bs) ])
+within-next : (taken : List ℕ) (value b : ℕ) (bs : List ℕ) → 0 < length taken
+    → ((v : ℕ) (rest : List Range) → Within (1 + length bs) (resumed (b ∷ []) v rest bs)) → (o : Option Sequence)
+    → Within (length taken + suc (length bs))
+    (elim o [ none ↦ none | some (sequence first mark rest) ↦ Option·map (λ cs. char taken value ∷ cs) (resumed (b ∷ []) (b - mark) rest bs) ])
 within-next taken value b bs l ih none = within-none
 within-next taken value b bs l ih (some (sequence first mark rest)) = within-map taken value l (omega arith) (ih _ rest)
 
-within-resumed : (taken : List ℕ) (value : ℕ) (rs : List Range) (bs : List ℕ) (n : ℕ) → 0 < length taken → n ≡ length taken + length bs → Within n (resumed taken value rs bs)
+within-resumed : (taken : List ℕ) (value : ℕ) (rs : List Range) (bs : List ℕ) (n : ℕ) → 0 < length taken → n ≡ length taken + length bs
+    → Within n (resumed taken value rs bs)
 unfolding resumed charBytes
 within-resumed taken value (r ∷ rs) [] n l e = within-none
 within-resumed taken value (r ∷ rs) (b ∷ bs) n l e =
-    either (Within n) (within r b) (within-resumed _ _ rs bs n (let h = length-append taken (b ∷ []) in omega arith) (let h = length-append taken (b ∷ []) in omega arith)) within-none
+    either (Within n) (within r b)
+    (within-resumed _ _ rs bs n (let h = length-append taken (b ∷ []) in omega arith) (let h = length-append taken (b ∷ []) in omega arith)) within-none
 within-resumed taken value [] [] n l e = let w = wide-is taken l in within-some {cs = char taken value ∷ []} (omega arith)
-within-resumed taken value [] (b ∷ bs) n l e = rw e (within-next taken value b bs l (λ v rest. within-resumed (b ∷ []) v rest bs (1 + length bs) (omega arith) (omega arith)) (startedBy b sequences))
+within-resumed taken value [] (b ∷ bs) n l e =
+    rw e (within-next taken value b bs l (λ v rest. within-resumed (b ∷ []) v rest bs (1 + length bs) (omega arith) (omega arith)) (startedBy b sequences))
 
 within-decoded : (bs : List ℕ) → Within (length bs) (decoded bs)
 unfolding decoded charBytes

@@ -2,7 +2,7 @@
 use Prim.Native.Nat.{ℕ, suc, _+_, _*_, _≤_}
 use mathlib.Core.Path.{_≡_, refl, ap, sym, _∙_}
 use mathlib.Core.Bool.{Bool, true, false, not, _&&_, true≢false}
-use mathlib.Core.List.{List, [], _∷_, _++_}
+use mathlib.Core.List.{List, [], _∷_}
 use mathlib.Core.Option.{none}
 use native.Mathlib.Omega.{arith}
 use borrow.Author.Tests.{eqb-true}
@@ -86,7 +86,8 @@ unfolding itemsCost
 more-some item rest = let h = item-some item (wordFirst rest) in omega arith
 
 module _ (limits : Setting) (th : Theory) where
-  pub arguments-some : (defs : List Def) (depth : ℕ) (is : Items) (s : Store) {s′ : Store} {ts : Terms} → checker.arguments limits th defs depth is s ≡ ok (ts, s′)
+  pub arguments-some : (defs : List Def) (depth : ℕ) (is : Items) (s : Store) {s′ : Store} {ts : Terms}
+      → checker.arguments limits th defs depth is s ≡ ok (ts, s′)
       → 1 ≤ itemsBytes is
   unfolding checker.arguments itemsCost
   arguments-some defs depth closed s e = omega arith
@@ -101,7 +102,8 @@ module _ (limits : Setting) (th : Theory) where
   references-some ended e = absent-not _ _ e
   references-some (item then rest) e = more-some item rest
 
-  pub items-some : (defs : List Def) (r : Rule) (is : Items) (g : Given) (s : Store) {s′ : Store} {g′ : Given} → certificate.stepItems limits th defs r is g s ≡ ok (g′, s′)
+  pub items-some : (defs : List Def) (r : Rule) (is : Items) (g : Given) (s : Store) {s′ : Store} {g′ : Given}
+      → certificate.stepItems limits th defs r is g s ≡ ok (g′, s′)
       → 1 ≤ itemsBytes is
   unfolding certificate.stepItems itemsCost
   items-some defs r closed g s e = omega arith
@@ -110,7 +112,8 @@ module _ (limits : Setting) (th : Theory) where
   items-some defs r (item then rest) g s e = more-some item rest
 
   -- A term has two bytes at least where an atom stands before it, with the byte that parts them.
-  pub term-two : (defs : List Def) (depth : ℕ) (item : Item) (b : Bool) (s : Store) {s′ : Store} {t : Term} → checker.term limits th defs depth item s ≡ ok (t, s′)
+  pub term-two : (defs : List Def) (depth : ℕ) (item : Item) (b : Bool) (s : Store) {s′ : Store} {t : Term}
+      → checker.term limits th defs depth item s ≡ ok (t, s′)
       → 2 ≤ gap (isWord item) + itemBytes item b
   unfolding checker.term checker.compound itemCost isWord gap
   term-two defs depth (word name) b s e = let h = item-some (word name) b in omega arith
@@ -119,7 +122,8 @@ module _ (limits : Setting) (th : Theory) where
   term-two defs depth (group badLine) b s e = lift-absent _ _ _ e
   term-two defs depth (group (item then rest)) b s e = let h = more-some item rest in omega arith
 
-  pub asked-term {ℓ} : {C : Type ℓ} (defs : List Def) (depth : ℕ) (is : Items) (s : Store) {s′ : Store} {q : Term × Items} → checker.askTerm limits th defs depth is s ≡ ok (q, s′)
+  pub asked-term {ℓ} : {C : Type ℓ} (defs : List Def) (depth : ℕ) (is : Items) (s : Store) {s′ : Store} {q : Term × Items}
+      → checker.askTerm limits th defs depth is s ≡ ok (q, s′)
       → ((item : Item) → is ≡ item then (q .1) → ((b : Bool) → 2 ≤ gap (isWord item) + itemBytes item b) → C)
       → C
   unfolding checker.askTerm
@@ -128,7 +132,8 @@ module _ (limits : Setting) (th : Theory) where
       k (p .0) (z ∙ ap (λ (x : Term × Items). (p .0) then (x .1)) same) (λ b. term-two defs depth (p .0) b s e₃)
 
   -- A judgment has three: brackets and a head.
-  pub asked-judgment {ℓ} : {C : Type ℓ} (defs : List Def) (depth : ℕ) (is : Items) (s : Store) {s′ : Store} {q : Term × Items} → checker.askJudgment limits th defs depth is s ≡ ok (q, s′)
+  pub asked-judgment {ℓ} : {C : Type ℓ} (defs : List Def) (depth : ℕ) (is : Items) (s : Store) {s′ : Store} {q : Term × Items}
+      → checker.askJudgment limits th defs depth is s ≡ ok (q, s′)
       → ((inner : Items) → is ≡ group inner then (q .1) → 2 ≤ itemsBytes inner → C)
       → C
   unfolding checker.askJudgment checker.headedJudgment itemsCost
@@ -201,7 +206,8 @@ isDef otherWord = false
 pub is-step : (name : Name) → certificate.keyword name ≡ stepWord → wide name ≡ 4
 unfolding isStep
 is-step name e =
-    by-keyword name stepWord e (λ k w. w) (λ k. other-keyword isStep k refl refl) (λ k w. other-keyword isStep k refl refl) (λ k. other-keyword isStep k refl refl)
+    by-keyword name stepWord e (λ k w. w) (λ k. other-keyword isStep k refl refl) (λ k w. other-keyword isStep k refl refl)
+    (λ k. other-keyword isStep k refl refl)
 
 pub is-def : (name : Name) → certificate.keyword name ≡ defWord → wide name ≡ 3
 unfolding isDef
@@ -224,12 +230,10 @@ pub step-shape : (head number name : Name) (refs left : Items) (b : Bool) → wi
 unfolding itemCost itemsCost wordFirst isWord atomBytes gap
 step-shape head number name refs left b h k l = omega (arith, wide-some number, wide-some name)
 
-one-more : {A : Type 0} (xs : List A) (x : A) → length (xs ++ (x ∷ [])) ≡ length xs + 1
-one-more xs x = length-append xs (x ∷ [])
-
 module _ (limits : Setting) (th : Theory) where
   -- "(goal N J)".
-  pub goal-takes : (goals : List Goal) (item : Item) (b : Bool) (s : Store) {s′ : Store} {more : List Goal} → checker.goalForm limits th goals item s ≡ ok (more, s′)
+  pub goal-takes : (goals : List Goal) (item : Item) (b : Bool) (s : Store) {s′ : Store} {more : List Goal}
+      → checker.goalForm limits th goals item s ≡ ok (more, s′)
       → (length more ≡ length goals + 1) × (11 ≤ itemBytes item b)
   unfolding checker.goalForm itemCost itemsCost wordFirst isWord atomBytes gap
   goal-takes goals item b s e =
@@ -246,7 +250,7 @@ module _ (limits : Setting) (th : Theory) where
       asked-judgment limits th [] 1 (p₁ .1) s e₉ λ j i₃ two. closing-due (p₂ .1) f₁ λ i₄.
       let w = wide-name (p .0) 4 (codes "goal") h wide-goal in
       let v = wide-some (p₁ .0) in
-      (ap length (sym same) ∙ one-more goals (goal (p₁ .0) (p₂ .0)), rw (i₀, i₁, i₂, i₃, i₄) (omega arith))
+      (ap length (sym same) ∙ length-append goals (goal (p₁ .0) (p₂ .0) ∷ []), rw (i₀, i₁, i₂, i₃, i₄) (omega arith))
 
   -- "(def ?a T)", behind its head.
   pub def-takes : (now : Progress) (is : Items) (s : Store) {s′ : Store} {next : Progress} → certificate.defForm limits th now is s ≡ ok (next, s′)
@@ -262,7 +266,7 @@ module _ (limits : Setting) (th : Theory) where
       asked-word 1 is e₁ λ i₁. asked-term limits th (now .defs) 1 (p .1) s e₄ λ item i₂ two. closing-due (p₁ .1) e₇ λ i₃.
       let w = wide-variable (p .0) h in
       let t = two false in (
-        ap (λ (x : Progress). length (x .defs)) (sym same) ∙ one-more (now .defs) (def (p .0) (p₁ .0)),
+        ap (λ (x : Progress). length (x .defs)) (sym same) ∙ length-append (now .defs) (def (p .0) (p₁ .0) ∷ []),
         ap (λ (x : Progress). length (x .steps)) (sym same),
         rw (i₁, i₂, i₃) (omega arith),
       )
@@ -288,7 +292,7 @@ module _ (limits : Setting) (th : Theory) where
       let c = references-some limits th (p₂ .0) f in
       let d = items-some limits th (now .defs) r (p₂ .1) (given [] none) s f₃ in (
         ap (λ (x : Progress). length (x .defs)) (sym same),
-        ap (λ (x : Progress). length (x .steps)) (sym same) ∙ one-more (now .steps) (step j r),
+        ap (λ (x : Progress). length (x .steps)) (sym same) ∙ length-append (now .steps) (step j r ∷ []),
         rw (i₁, i₂, i₃) (omega arith),
       )
 
@@ -308,7 +312,8 @@ module _ (limits : Setting) (th : Theory) where
   -- Any form of a certificate.
   form-takes : (k : Keyword) (now : Progress) (name : Name) (is : Items) (s : Store) {s′ : Store} {next : Progress} → certificate.keyword name ≡ k
       → certificate.headedForm limits th k now is s ≡ ok (next, s′)
-      → 10 * length (next .defs) + 12 * length (next .steps) ≤ 10 * length (now .defs) + 12 * length (now .steps) + (1 + (wide name + gap (wordFirst is) + itemsBytes is))
+      → 10 * length (next .defs) + 12 * length (next .steps) ≤ 10 * length (now .defs) + 12 * length (now .steps) +
+      (1 + (wide name + gap (wordFirst is) + itemsBytes is))
   unfolding certificate.headedForm
   form-takes stepWord now name is s k e =
       let w = is-step name k in let (a, b, c) = step-takes now is s e in omega arith
@@ -317,7 +322,8 @@ module _ (limits : Setting) (th : Theory) where
   form-takes resultWord now name is s k e = let (a, b) = result-takes now is s e in omega arith
   form-takes otherWord now name is s k e = lift-refused _ _ e
 
-  pub certificate-takes : (now : Progress) (item : Item) (b : Bool) (s : Store) {s′ : Store} {next : Progress} → certificate.certificateForm limits th now item s ≡ ok (next, s′)
+  pub certificate-takes : (now : Progress) (item : Item) (b : Bool) (s : Store) {s′ : Store} {next : Progress}
+      → certificate.certificateForm limits th now item s ≡ ok (next, s′)
       → 10 * length (next .defs) + 12 * length (next .steps) ≤ 10 * length (now .defs) + 12 * length (now .steps) + itemBytes item b
   unfolding certificate.certificateForm itemCost itemsCost atomBytes
   certificate-takes now item b s e =

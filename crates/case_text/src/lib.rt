@@ -13,14 +13,17 @@ pub struct Digits {
     pub at: u32,
 }
 
+// The byte at a place, 0 where there is none.
 pub fn byte_at(list: &[u8], i: u32) -> u8 {
     words::byte(list, i as usize)
 }
 
+// Whether a place lies behind the last byte.
 pub fn beyond(list: &[u8], i: u32) -> bool {
     list.len() <= i as usize
 }
 
+// Writes a byte, where there is room.
 fn put(out: &mut [u8], i: u32, v: u8) {
     let p = i as usize;
     if p < out.len() {
@@ -28,6 +31,7 @@ fn put(out: &mut [u8], i: u32, v: u8) {
     }
 }
 
+// Ten times a number, in 32 bits.
 fn ten_times(n: u32) -> u32 {
     let two = words::plus(n, n);
     let four = words::plus(two, two);
@@ -51,6 +55,7 @@ pub fn find(list: &[u8], from: u32, value: u8) -> u32 {
     i
 }
 
+// Whether a byte is an ASCII digit.
 fn is_digit(b: u8) -> bool {
     if b < 48 {
         return false;
@@ -92,6 +97,7 @@ fn hex_digit(b: u8) -> u8 {
     0
 }
 
+// The last digit of a number.
 fn put_digit(out: &mut [u8], len: u32, n: u32) -> u32 {
     put(out, len, words::byte(b"0123456789", (n % 10) as usize));
     words::plus(len, 1)
@@ -103,6 +109,7 @@ fn put_number(out: &mut [u8], len: u32, n: u32) -> u32 {
     put_digit(out, to, n)
 }
 
+// The digits before the last, if there are any.
 fn put_tens(out: &mut [u8], len: u32, n: u32) -> u32 {
     if n == 0 {
         return len;
@@ -111,6 +118,7 @@ fn put_tens(out: &mut [u8], len: u32, n: u32) -> u32 {
     put_digit(out, to, n)
 }
 
+// Those before the last two.
 fn put_hundreds(out: &mut [u8], len: u32, n: u32) -> u32 {
     if n == 0 {
         return len;
@@ -119,6 +127,7 @@ fn put_hundreds(out: &mut [u8], len: u32, n: u32) -> u32 {
     put_digit(out, to, n)
 }
 
+// The one before the last three.
 fn put_thousands(out: &mut [u8], len: u32, n: u32) -> u32 {
     if n == 0 {
         return len;
@@ -187,6 +196,7 @@ fn signs(list: &[u8], from: u32, to: u32, turn: u32, out: &mut [u8], len: u32) -
     m.len
 }
 
+// The signs from one place to another, so many times.
 fn repeated(list: &[u8], from: u32, to: u32, count: u32, out: &mut [u8], len: u32) -> u32 {
     let mut n = len;
     let mut turn: u32 = 0;
@@ -210,6 +220,7 @@ fn repetition(list: &[u8], i: u32, out: &mut [u8], len: u32) -> Made {
     }
 }
 
+// What begins at a place: a repetition, or one sign.
 fn sign_or_repetition(list: &[u8], i: u32, out: &mut [u8], len: u32) -> Made {
     if byte_at(list, i) == 92 {
         if byte_at(list, words::plus(i, 1)) == 123 {

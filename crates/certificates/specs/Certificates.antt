@@ -15,7 +15,7 @@ use Rattle.items.specs.Items.{question}
 use Rattle.theory_reading.specs.Storing.{Areas, before}
 use Rattle.tables.specs.declared.Tally.{Tally}
 use Rattle.tables.specs.Words.{goalOpen, goalClosed, goalDone, defFound, defAdded, defCounted, stepWord, stepAdded, stepCounted}
-use Rattle.asking.specs.Asking.{Top, over, form, atomDue, closingDue, formDue}
+use Rattle.asking.specs.Asking.{inForm, Top, over, form, atomDue, closingDue, formDue}
 use Rattle.terms.specs.Terms.{term}
 use Rattle.steps.specs.Steps as steps
 use Rattle.references.specs.References.{numberDue}
@@ -47,7 +47,7 @@ keywordOf name =
 -- "Name without `?`, or `?` alone, 11": the bounds of the name, and the reader after it.
 unfoldable pub defNamed : List ℕ → Reader → Outcome (ℕ × ℕ × Reader)
 defNamed text r =
-    outcomes._>>=_ (atomDue text 256 r) (λ p.
+    outcomes._>>=_ (atomDue text inForm r) (λ p.
     outcomes._>>=_ (need (question text (p .0)) 11) (λ _.
     outcomes._>>=_ (need (not (eqb (p .1 - p .0) 1)) 11) (λ _. ok p)))
 
@@ -55,7 +55,7 @@ defNamed text r =
 unfoldable pub defForm : List ℕ → List ℕ → List ℕ → Tally → Reader → List ℕ → List ℕ → List ℕ → Did (Areas × List ℕ) (Tally × Reader)
 defForm text rules heap tally r store stack table = do
   ((s, t, r), _) ← defNamed text r leaving ((store, stack), table)
-  ((k, r), ((store, stack), table)) ← before table (term 256 text rules heap table 0 r store stack)
+  ((k, r), ((store, stack), table)) ← before table (term inForm text rules heap table 0 r store stack)
   _ ← need (not (present (defFound 128 text (part s t text) table))) 13 leaving ((store, stack), table)
   (r, _) ← closingDue text r leaving ((store, stack), table)
   ok (defCounted tally, r) leaving ((store, stack), defAdded 128 text s t k tally table)
@@ -63,9 +63,9 @@ defForm text rules heap tally r store stack table = do
 -- "`(result N I)`: N not a goal still open, 12; I as a number, 18; no such step yet, 24; other judgment, 27; closing."
 unfoldable pub resultForm : List ℕ → List ℕ → Tally → Reader → List ℕ → Did (List ℕ) (Tally × Reader)
 resultForm text goals tally r table = do
-  ((s, t, r), _) ← atomDue text 256 r leaving table
+  ((s, t, r), _) ← atomDue text inForm r leaving table
   ((e, j), _) ← orElse (goalOpen goals (part s t text) table) 12 leaving table
-  ((n, r), _) ← numberDue text 256 r leaving table
+  ((n, r), _) ← numberDue text inForm r leaving table
   (k, _) ← orElse (stepWord n 0 tally table) 24 leaving table
   _ ← need (eqb k j) 27 leaving table
   (r, _) ← closingDue text r leaving table
@@ -91,11 +91,12 @@ headedForm Other text goals rules tally r store stack heap table = refused 9 lea
 -- One form, its opening taken.
 unfoldable pub formRead : List ℕ → List ℕ → List ℕ → Tally → Reader → List ℕ → List ℕ → List ℕ → List ℕ → Did AllAreas (Tally × Reader)
 formRead text goals rules tally r store stack heap table = do
-  ((s, t, r), _) ← atomDue text 256 r leaving (((store, stack), heap), table)
+  ((s, t, r), _) ← atomDue text inForm r leaving (((store, stack), heap), table)
   headedForm (keywordOf (part s t text)) text goals rules tally r store stack heap table
 
 -- One form more, and those behind it.
-abbrev pub oneForm : (Tally → Reader → List ℕ → List ℕ → List ℕ → List ℕ → Did AllAreas Tally) → List ℕ → List ℕ → List ℕ → Tally → Top → List ℕ → List ℕ → List ℕ → List ℕ → Did AllAreas Tally
+abbrev pub oneForm : (Tally → Reader → List ℕ → List ℕ → List ℕ → List ℕ → Did AllAreas Tally) → List ℕ → List ℕ → List ℕ → Tally → Top → List ℕ → List ℕ
+    → List ℕ → List ℕ → Did AllAreas Tally
 oneForm on text goals rules tally over store stack heap table = ok tally leaving (((store, stack), heap), table)
 oneForm on text goals rules tally (form r) store stack heap table = do
   ((tally, r), (((store, stack), heap), table)) ← formRead text goals rules tally r store stack heap table

@@ -31,6 +31,7 @@ pub enum Keyword {
     Other,
 }
 
+// The form that a head names.
 pub fn keyword_of(text: &[u8], s: usize, t: usize) -> Keyword
     ensures { λ r. ⌜ r ≡ keywordOf (part s t (now (text .entry))) ⌝ }
 {
@@ -50,7 +51,7 @@ pub fn keyword_of(text: &[u8], s: usize, t: usize) -> Keyword
 pub fn def_name(text: &[u8], reader: Reader) -> Named
     ensures { λ r. ⌜ named r ≡ defNamed (now (text .entry)) reader ⌝ }
 {
-    let a = asking::atom_due(text, 256, reader);
+    let a = asking::atom_due(text, asking::IN_FORM, reader);
     let Named::Atom(s, t, q) = a else {
         return a;
     };
@@ -74,13 +75,24 @@ pub fn def_form(
     tally: Tally,
     reader: Reader,
 ) -> Form
-    ensures { λ r. ⌜ (formed r leaving ((now (store .exit), now (stack .exit)), now (table .exit))) ≡ defForm (now (text .entry)) (now (rules .entry)) (now (heap .entry)) tally reader (now (store .entry)) (now (stack .entry)) (now (table .entry)) ⌝ }
+    ensures { λ r. ⌜ (formed r leaving ((now (store .exit), now (stack .exit)), now (table .exit)))
+        ≡ defForm (now (text .entry)) (now (rules .entry)) (now (heap .entry)) tally reader (now (store .entry)) (now (stack .entry)) (now (table .entry)) ⌝ }
 {
     let d = def_name(text, reader);
     let Named::Atom(s, t, q) = d else {
         return Form::Refused(asking::named_refusal(d));
     };
-    let a = terms::term(text, rules, heap, table, store, stack, 0, 256, q);
+    let a = terms::term(
+        text,
+        rules,
+        heap,
+        table,
+        store,
+        stack,
+        0,
+        asking::IN_FORM,
+        q,
+    );
     let Numbered::Got(k, p) = a else {
         return Form::Refused(terms::numbered_refusal(a));
     };
@@ -105,7 +117,7 @@ pub fn result_form(
 ) -> Form
     ensures { λ r. ⌜ (formed r leaving now (table .exit)) ≡ resultForm (now (text .entry)) (now (goals .entry)) tally reader (now (table .entry)) ⌝ }
 {
-    let a = asking::atom_due(text, 256, reader);
+    let a = asking::atom_due(text, asking::IN_FORM, reader);
     let Named::Atom(s, t, q) = a else {
         return Form::Refused(asking::named_refusal(a));
     };
@@ -113,7 +125,7 @@ pub fn result_form(
     let Open::At(e, j) = goal else {
         return Form::Refused(12);
     };
-    let i = references::number_due(text, 256, q);
+    let i = references::number_due(text, asking::IN_FORM, q);
     match i {
         Indexed::Refused(m) => Form::Refused(m),
         Indexed::Got(n, p) => {
@@ -144,7 +156,8 @@ pub fn step_form(
     tally: Tally,
     reader: Reader,
 ) -> Form
-    ensures { λ r. ⌜ (formed r leaving (((now (store .exit), now (stack .exit)), now (heap .exit)), now (table .exit))) ≡ stepForm (now (text .entry)) (now (rules .entry)) tally reader (now (store .entry)) (now (stack .entry)) (now (heap .entry)) (now (table .entry)) ⌝ }
+    ensures { λ r. ⌜ (formed r leaving (((now (store .exit), now (stack .exit)), now (heap .exit)), now (table .exit)))
+        ≡ stepForm (now (text .entry)) (now (rules .entry)) tally reader (now (store .entry)) (now (stack .entry)) (now (heap .entry)) (now (table .entry)) ⌝ }
 {
     let s = steps::step(text, rules, table, store, stack, heap, tally.steps, reader);
     match s {
@@ -167,9 +180,11 @@ pub fn read_form(
     tally: Tally,
     reader: Reader,
 ) -> Form
-    ensures { λ r. ⌜ (formed r leaving (((now (store .exit), now (stack .exit)), now (heap .exit)), now (table .exit))) ≡ formRead (now (text .entry)) (now (goals .entry)) (now (rules .entry)) tally reader (now (store .entry)) (now (stack .entry)) (now (heap .entry)) (now (table .entry)) ⌝ }
+    ensures { λ r. ⌜ (formed r leaving (((now (store .exit), now (stack .exit)), now (heap .exit)), now (table .exit)))
+        ≡ formRead (now (text .entry)) (now (goals .entry)) (now (rules .entry)) tally reader (now (store .entry)) (now (stack .entry)) (now (heap .entry))
+        (now (table .entry)) ⌝ }
 {
-    let a = asking::atom_due(text, 256, reader);
+    let a = asking::atom_due(text, asking::IN_FORM, reader);
     let Named::Atom(s, t, q) = a else {
         return Form::Refused(asking::named_refusal(a));
     };
@@ -193,7 +208,9 @@ pub fn all_forms(
     heap: &mut [u32],
     tally: Tally,
 ) -> Forms
-    ensures { λ r. ⌜ (gathered r leaving (((now (store .exit), now (stack .exit)), now (heap .exit)), now (table .exit))) ≡ formsFrom (length (now (text .entry)) + 1) (now (text .entry)) (now (goals .entry)) (now (rules .entry)) tally start (now (store .entry)) (now (stack .entry)) (now (heap .entry)) (now (table .entry)) ⌝ }
+    ensures { λ r. ⌜ (gathered r leaving (((now (store .exit), now (stack .exit)), now (heap .exit)), now (table .exit)))
+        ≡ formsFrom (length (now (text .entry)) + 1) (now (text .entry)) (now (goals .entry)) (now (rules .entry)) tally start (now (store .entry))
+        (now (stack .entry)) (now (heap .entry)) (now (table .entry)) ⌝ }
 {
     let mut r = Reader::new();
     let mut now = tally;
@@ -230,7 +247,9 @@ pub fn certificate(
     heap: &mut [u32],
     tally: Tally,
 ) -> Forms
-    ensures { λ r. ⌜ (gathered r leaving (((now (store .exit), now (stack .exit)), now (heap .exit)), now (table .exit))) ≡ certificate (now (text .entry)) (now (goals .entry)) (now (rules .entry)) tally (now (store .entry)) (now (stack .entry)) (now (heap .entry)) (now (table .entry)) ⌝ }
+    ensures { λ r. ⌜ (gathered r leaving (((now (store .exit), now (stack .exit)), now (heap .exit)), now (table .exit)))
+        ≡ certificate (now (text .entry)) (now (goals .entry)) (now (rules .entry)) tally (now (store .entry)) (now (stack .entry)) (now (heap .entry))
+        (now (table .entry)) ⌝ }
 {
     let all = all_forms(text, goals, rules, table, store, stack, heap, tally);
     match all {

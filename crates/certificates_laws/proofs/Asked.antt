@@ -29,7 +29,8 @@ use Rattle.asking.specs.Asking.{atomDue}
 use Rattle.certificates.specs.Certificates.{defNamed}
 
 -- What was asked for and tested at once, where the definition does one after the other.
-pub lifted-tested : {S A B C D : Type 0} {Q : A → B → Type 0} {R : C → S → D → Type 0} {o : Outcome A} {s : S} (ts : List Term) (m : Result B) (g : B → Bool) (r : Refusal)
+pub lifted-tested : {S A B C D : Type 0} {Q : A → B → Type 0} {R : C → S → D → Type 0} {o : Outcome A} {s : S} (ts : List Term) (m : Result B) (g : B → Bool)
+    (r : Refusal)
     (f : A × S → Did S C) (f′ : B → List Term → Result D)
     → Answers Q o (refusals._>>=_ m (λ b. refusals._>>=_ (refusals.need (g b) r) (λ _. refusals.ok b)))
     → ((a : A) (b : B) → Q a b → Simulates R (f (a, s)) (f′ b ts))

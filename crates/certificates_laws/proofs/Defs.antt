@@ -68,7 +68,8 @@ known : {goalsText certificate table : List ℕ} {Means : ℕ → Term → Type 
 known {name} t e = rw e (known-def t name)
 
 -- What leaves the store, the stack and the table, beside the theory's area.
-beside-live : {A B : Type 0} {Q : A → Areas × List ℕ → B → Type 0} {R : A → walk.AllAreas → B → Type 0} {m : Did (Areas × List ℕ) A} {m′ : Result B} (live : List ℕ)
+beside-live : {A B : Type 0} {Q : A → Areas × List ℕ → B → Type 0} {R : A → walk.AllAreas → B → Type 0} {m : Did (Areas × List ℕ) A} {m′ : Result B}
+    (live : List ℕ)
     → Simulates Q m m′
     → ((a : A) (areas : Areas × List ℕ) (b : B) → Q a areas b → R a ((areas .0, live), areas .1) b)
     → Simulates R (walk.around live m) m′
@@ -77,17 +78,21 @@ beside-live live (leave q) k = leave (k _ _ _ q)
 
 module _ {rules heap : List ℕ} {es : Entries} {bound : ℕ} {th : Theory} (h : Holds rules heap es bound th) (high : bound ≤ 11948)
     (goalsText certificate : List ℕ) (short : length certificate ≤ 32768) {goals : List Goal} {tally : Tally} (now : Progress)
-    {ts : List Term} {store live table : List ℕ} (stack : List ℕ) (stored : Stored es th document01 4096 store ts) (long : length stack ≡ 16384) (keep : Keeps 12288 heap live) where
+    {ts : List Term} {store live table : List ℕ} (stack : List ℕ) (stored : Stored es th document01 4096 store ts) (long : length stack ≡ 16384)
+    (keep : Keeps 12288 heap live) where
   -- The form is read whole before the table is written.
   reads : {Recorded : ℕ → ℕ → ℕ → Step → Type 0} (K : Stream Token → Type 0) (is : Items) (r : Reader)
       → Tables goalsText certificate table 128 (Means es th ts) Recorded tally goals (now .openGoals) (now .defs) (now .steps)
       → At certificate (Left is K) 0 r
-      → Simulates (DefRead es th certificate table tally now K ts) (walk.defForm certificate rules live tally r store stack table) (definition.defForm document01 th now is ts)
+      → Simulates (DefRead es th certificate table tally now K ts) (walk.defForm certificate rules live tally r store stack table)
+      (definition.defForm document01 th now is ts)
   unfolding walk.defForm definition.defForm checker._>>=_ checker.lift checker.give AskedRead number
   reads K is r t at-items =
       lifted-tested ts (askWord 1 is) (λ y. questioned (y .0) && not (bare (y .0))) variableName _ _ (def-named certificate K 0 is at-items) (λ x y m.
-      bind-before table _ _ (certificate-term (holds-now h high keep) 256 1 0 2 refl (y .1) K (x .2) store stack stored (omega arith) long t short (m .reader)) (λ z areas v k.
-      lifted (v .1) _ _ (tested (not (present (defFound 128 certificate (part (x .0) (x .1) certificate) table))) 13 duplicate (ap not (known t (m .name))) refl) (λ a b fresh.
+      bind-before table _ _ (certificate-term (holds-now h high keep) 256 1 0 2 refl (y .1) K (x .2) store stack stored (omega arith) long t short (m .reader))
+      (λ z areas v k.
+      lifted (v .1) _ _
+      (tested (not (present (defFound 128 certificate (part (x .0) (x .1) certificate) table))) 13 duplicate (ap not (known t (m .name))) refl) (λ a b fresh.
       lifted (v .1) _ _ (closing-law certificate K 4 (v .0 .1) (k .reader)) (λ q c there.
       rw (← m .name)
       (leave (def-read {s = x .0} {t = x .1} {k = z .0} {u = v .0 .0} (let i = m .some in let j = m .inside in omega arith) (let j = m .inside in omega arith) (k .means) (rw (m .name) (not-true _ fresh)) (at-less 0 (omega arith) there)
@@ -99,15 +104,16 @@ module _ {rules heap : List ℕ} {es : Entries} {bound : ℕ} {th : Theory} (h :
       → At certificate (Left is (Left rest Any)) 0 r
       → Simulates (Standing rules heap es bound th goalsText certificate goals rest)
       (walk.around live (walk.defForm certificate rules live tally r store stack table)) (definition.defForm document01 th now is ts)
-  def-law item rest is r so-far same at-items = beside-live live (knowing (reads (Left rest Any) is r (so-far .tables) at-items)) (λ x areas y p. by (p .0) (p .1)) where
-    by : {x : Tally × Reader} {areas : Areas × List ℕ} {y : Progress × List Term} → DefRead es th certificate table tally now (Left rest Any) ts x areas y
-        → definition.defForm document01 th now is ts ≡ ok y
-        → Standing rules heap es bound th goalsText certificate goals rest x ((areas .0, live), areas .1) y
-    by (def-read {s} {t} {k} {u} {us} a b m fresh there st g l) e =
-        record {
-          reader = there;
-          between = next-def goalsText certificate 8192 32768 128 (Means es th us) (StepRecorded rules heap es bound th us) document01 th ts (between-longer g so-far) s t k u (same ∙ e) a b m fresh;
-          stored = st;
-          long = l;
-          keeps = keep;
-        }
+  def-law item rest is r so-far same at-items =
+      beside-live live (knowing (reads (Left rest Any) is r (so-far .tables) at-items)) (λ x areas y p. by (p .0) (p .1)) where
+        by : {x : Tally × Reader} {areas : Areas × List ℕ} {y : Progress × List Term} → DefRead es th certificate table tally now (Left rest Any) ts x areas y
+            → definition.defForm document01 th now is ts ≡ ok y
+            → Standing rules heap es bound th goalsText certificate goals rest x ((areas .0, live), areas .1) y
+        by (def-read {s} {t} {k} {u} {us} a b m fresh there st g l) e =
+            record {
+              reader = there;
+              between = next-def goalsText certificate 8192 32768 128 (Means es th us) (StepRecorded rules heap es bound th us) document01 th ts (between-longer g so-far) s t k u (same ∙ e) a b m fresh;
+              stored = st;
+              long = l;
+              keeps = keep;
+            }

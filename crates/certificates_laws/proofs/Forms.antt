@@ -49,7 +49,8 @@ abbrev pub Reads : List ℕ → List ℕ → Entries → ℕ → Theory → List
 Reads rules heap es bound th goalsText certificate goals fuel =
     (is : Items) (tally : Tally) (r : Reader) (areas : AllAreas) (now : Progress) (ts : List Term) → suc (itemCount is) ≤ fuel
     → Standing rules heap es bound th goalsText certificate goals is (tally, r) areas (now, ts)
-    → Simulates (Finished rules heap es bound th goalsText certificate goals) (walk.formsFrom fuel certificate goalsText rules tally r (areas .0 .0 .0) (areas .0 .0 .1) (areas .0 .1) (areas .1))
+    → Simulates (Finished rules heap es bound th goalsText certificate goals)
+    (walk.formsFrom fuel certificate goalsText rules tally r (areas .0 .0 .0) (areas .0 .0 .1) (areas .0 .1) (areas .1))
     (definition.certificateForms document01 th now is ts)
 
 module _ {rules heap : List ℕ} {es : Entries} {bound : ℕ} {th : Theory} (h : Holds rules heap es bound th) (high : bound ≤ 11948) (w : WellFormed th)
@@ -60,7 +61,8 @@ module _ {rules heap : List ℕ} {es : Entries} {bound : ℕ} {th : Theory} (h :
     by-head : {k : walk-keyword.Keyword} {k′ : definition.Keyword} (is : Items) (q : Reader) → Headed k k′
         → definition.certificateForm document01 th now (group inner) ts ≡ definition.headedForm document01 th k′ now is ts
         → At certificate (Left is (Left rest Any)) 0 q
-        → Simulates (Standing rules heap es bound th goalsText certificate goals rest) (walk.headedForm k certificate goalsText rules tally q (areas .0 .0 .0) (areas .0 .0 .1) (areas .0 .1) (areas .1))
+        → Simulates (Standing rules heap es bound th goalsText certificate goals rest)
+        (walk.headedForm k certificate goalsText rules tally q (areas .0 .0 .0) (areas .0 .0 .1) (areas .0 .1) (areas .1))
         (definition.headedForm document01 th k′ now is ts)
     unfolding definition.headedForm checker.lift refusals._>>=_ number
     by-head is q is-step e at-items =
@@ -75,7 +77,8 @@ module _ {rules heap : List ℕ} {es : Entries} {bound : ℕ} {th : Theory} (h :
 
     -- A form, its opening taken.
     pub form-law : (q : Reader) → At certificate (Left inner (Left rest Any)) 0 q
-        → Simulates (Standing rules heap es bound th goalsText certificate goals rest) (walk.formRead certificate goalsText rules tally q (areas .0 .0 .0) (areas .0 .0 .1) (areas .0 .1) (areas .1))
+        → Simulates (Standing rules heap es bound th goalsText certificate goals rest)
+        (walk.formRead certificate goalsText rules tally q (areas .0 .0 .0) (areas .0 .0 .1) (areas .0 .1) (areas .1))
         (definition.certificateForm document01 th now (group inner) ts)
     unfolding walk.formRead definition.certificateForm checker._>>=_ checker.lift checker.groupDue refusals._>>=_
     form-law q at-items =
@@ -84,7 +87,8 @@ module _ {rules heap : List ℕ} {es : Entries} {bound : ℕ} {th : Theory} (h :
         (by-head (y .1) (x .2) (headed (y .0)) (rw (p .1)) (at-less 0 (omega arith) (p .0 .reader))))
 
   -- One turn, by what comes at top level.
-  one-turn : (fuel : ℕ) → Reads rules heap es bound th goalsText certificate goals fuel → {is : Items} {o : Outcome Top} (tally : Tally) (r : Reader) (areas : AllAreas) (now : Progress) (ts : List Term) → itemCount is ≤ fuel
+  one-turn : (fuel : ℕ) → Reads rules heap es bound th goalsText certificate goals fuel
+      → {is : Items} {o : Outcome Top} (tally : Tally) (r : Reader) (areas : AllAreas) (now : Progress) (ts : List Term) → itemCount is ≤ fuel
       → Standing rules heap es bound th goalsText certificate goals is (tally, r) areas (now, ts)
       → FormMet certificate Any 0 is o
       → Simulates (Finished rules heap es bound th goalsText certificate goals)

@@ -4,7 +4,7 @@ use Rattle.horn.specs.Names.{Name, named, codes}
 use Rattle.horn.specs.Certificate as definition
 use Rattle.horn.specs.Certificate.{keyword, stepWord, resultWord, defWord, otherWord}
 use Rattle.outcomes.specs.Outcomes.{pick}
-use Rattle.theory_laws.proofs.Lookups.{same-named}
+use Rattle.facts.proofs.Comparing.{same-named}
 use Rattle.certificates.specs.Certificates.{stepName, resultName, defName, keywordOf}
 use Rattle.certificates.specs.declared.Keyword.{Keyword}
 use Rattle.certificates.specs.declared.Keyword.the-variants.{Step, Result, Def, Other}

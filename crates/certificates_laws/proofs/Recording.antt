@@ -27,7 +27,8 @@ use Rattle.certificates_laws.proofs.Standing.{SoFar, Standing, StepReco
 module _ {rules heap : List ℕ} {es : Entries} {bound : ℕ} {th : Theory} (goalsText certificate : List ℕ) {goals : List Goal} {tally : Tally} (now : Progress)
     {ts : List Term} {table : List ℕ} (store stack live : List ℕ) where
   -- From what was read of it.
-  pub step-form-law : (item : Item) (rest is : Items) (r : Reader) → SoFar rules heap es bound th goalsText certificate goals ts table tally now (item then rest)
+  pub step-form-law : (item : Item) (rest is : Items) (r : Reader)
+      → SoFar rules heap es bound th goalsText certificate goals ts table tally now (item then rest)
       → definition.certificateForm document01 th now item ts ≡ definition.stepForm document01 th now is ts
       → Simulates (StepRead rules heap es bound th certificate ts now (Left rest Any)) (steps.step certificate rules table (tally .steps) r store stack live)
       (definition.stepForm document01 th now is ts)

@@ -62,7 +62,8 @@ module _ {goalsText certificate table : List ℕ} {Means : ℕ → Term → Type
     {defs : List Def} {steps : List Step} (h : Tables goalsText certificate table 128 Means Recorded tally goals openGoals defs steps) where
   -- "N not a goal still open, 12".
   open-due : {key name : Name} → key ≡ name
-      → Answers (λ x g. OpenAt table 256 Means goals name (x .0) (x .1) g) (outcomes.orElse (goalOpen goalsText key table) 12) (refusals.found (first (isGoal name) openGoals) unknown)
+      → Answers (λ x g. OpenAt table 256 Means goals name (x .0) (x .1) g) (outcomes.orElse (goalOpen goalsText key table) 12)
+      (refusals.found (first (isGoal name) openGoals) unknown)
   unfolding refusals.found number
   open-due {name} e = rw e (by (open-goal h name)) where
     by : {o : Option (ℕ × ℕ)} {o′ : Option Goal} → OpenAgree table 256 Means goals name o o′
@@ -81,11 +82,13 @@ module _ {goalsText certificate table : List ℕ} {Means : ℕ → Term → Type
 
 module _ {rules heap : List ℕ} {es : Entries} {bound : ℕ} {th : Theory} (h : Holds rules heap es bound th)
     (goalsText certificate : List ℕ) {goals : List Goal} {tally : Tally} (now : Progress)
-    {ts : List Term} {store live table : List ℕ} (stack : List ℕ) (stored : Stored es th document01 4096 store ts) (long : length stack ≡ 16384) (keep : Keeps 12288 heap live) where
+    {ts : List Term} {store live table : List ℕ} (stack : List ℕ) (stored : Stored es th document01 4096 store ts) (long : length stack ≡ 16384)
+    (keep : Keeps 12288 heap live) where
   reads : (K : Stream Token → Type 0) (is : Items) (r : Reader)
       → Tables goalsText certificate table 128 (Means es th ts) (StepRecorded rules heap es bound th ts) tally goals (now .openGoals) (now .defs) (now .steps)
       → At certificate (Left is K) 0 r
-      → Simulates (ResultRead certificate table (Means es th ts) tally goals now K ts) (walk.resultForm certificate goalsText tally r table) (definition.resultForm document01 th now is ts)
+      → Simulates (ResultRead certificate table (Means es th ts) tally goals now K ts) (walk.resultForm certificate goalsText tally r table)
+      (definition.resultForm document01 th now is ts)
   unfolding walk.resultForm definition.resultForm checker._>>=_ checker.lift checker.give number
   reads K is r t at-items =
       lifted ts _ _ (member-law certificate K 0 is at-items) (λ x y m.
@@ -102,15 +105,17 @@ module _ {rules heap : List ℕ} {es : Entries} {bound : ℕ} {th : Theory} (h :
       → At certificate (Left is (Left rest Any)) 0 r
       → Simulates (Standing rules heap es bound th goalsText certificate goals rest)
       (beside ((store, stack), live) (walk.resultForm certificate goalsText tally r table)) (definition.resultForm document01 th now is ts)
-  result-law item rest is r so-far same at-items = aside ((store, stack), live) (knowing (reads (Left rest Any) is r (so-far .tables) at-items)) (λ x left y p. by (p .0) (p .1)) where
-    by : {x : Tally × Reader} {left : List ℕ} {y : Progress × List Term} → ResultRead certificate table (Means es th ts) tally goals now (Left rest Any) ts x left y
-        → definition.resultForm document01 th now is ts ≡ ok y
-        → Standing rules heap es bound th goalsText certificate goals rest x (((store, stack), live), left) y
-    by (result-read {e} {w} {key} {g} a there) f =
-        record {
-          reader = there;
-          between = next-result goalsText certificate 8192 32768 128 (Means es th ts) (StepRecorded rules heap es bound th ts) document01 th ts so-far key e w g (same ∙ f) a;
-          stored = stored;
-          long = long;
-          keeps = keep;
-        }
+  result-law item rest is r so-far same at-items =
+      aside ((store, stack), live) (knowing (reads (Left rest Any) is r (so-far .tables) at-items)) (λ x left y p. by (p .0) (p .1)) where
+        by : {x : Tally × Reader} {left : List ℕ} {y : Progress × List Term}
+            → ResultRead certificate table (Means es th ts) tally goals now (Left rest Any) ts x left y
+            → definition.resultForm document01 th now is ts ≡ ok y
+            → Standing rules heap es bound th goalsText certificate goals rest x (((store, stack), live), left) y
+        by (result-read {e} {w} {key} {g} a there) f =
+            record {
+              reader = there;
+              between = next-result goalsText certificate 8192 32768 128 (Means es th ts) (StepRecorded rules heap es bound th ts) document01 th ts so-far key e w g (same ∙ f) a;
+              stored = stored;
+              long = long;
+              keeps = keep;
+            }

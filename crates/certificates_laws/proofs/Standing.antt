@@ -49,7 +49,8 @@ module _ (rules heap : List ℕ) (es : Entries) (bound : ℕ) (th : Theory) wher
 
     -- After the last form.
     pub record Finished (tally : Tally) (areas : AllAreas) (y : Progress × List Term) : Type 0 where
-      pub tables : Tables goalsText certificate (areas .1) 128 (Means es th (y .1)) (StepRecorded (y .1)) tally goals (y .0 .openGoals) (y .0 .defs) (y .0 .steps)
+      pub tables : Tables goalsText certificate (areas .1) 128 (Means es th (y .1)) (StepRecorded (y .1)) tally goals (y .0 .openGoals) (y .0 .defs)
+          (y .0 .steps)
       pub stored : Stored es th document01 4096 (areas .0 .0 .0) (y .1)
 
 -- The store grew.

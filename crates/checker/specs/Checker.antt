@@ -32,6 +32,7 @@ countsOf tally store = record { steps = tally .steps; goals = tally .goals; term
 unfoldable pub check : List ℕ → List ℕ → List ℕ → List ℕ → List ℕ → List ℕ → List ℕ → Did AllAreas Counts
 check rulebook text certificateText store table stack heap = do
   (_, (((store, stack), heap), table)) ← besideStore store (theory rulebook table stack heap)
-  (tally, (((store, stack), heap), table)) ← around heap (goals.goals text rulebook heap (noneYet 128) (emptied store 2048 4096) stack (cleared (128 + 128) table))
+  (tally, (((store, stack), heap), table)) ← around heap
+      (goals.goals text rulebook heap (noneYet 128) (emptied store 2048 4096) stack (cleared (128 + 128) table))
   (tally, (((store, stack), heap), table)) ← certificate certificateText text rulebook tally store stack heap table
   ok (countsOf tally store) leaving (((store, stack), heap), table)

@@ -27,7 +27,9 @@ pub fn check(
     stack: &mut [u32],
     heap: &mut [u32],
 ) -> Checked
-    ensures { λ r. ⌜ (models.checked r leaving (((now (store .exit), now (stack .exit)), now (heap .exit)), now (table .exit))) ≡ models.check (now (rulebook .entry)) (now (text .entry)) (now (certificate .entry)) (now (store .entry)) (now (table .entry)) (now (stack .entry)) (now (heap .entry)) ⌝ }
+    ensures { λ r. ⌜ (models.checked r leaving (((now (store .exit), now (stack .exit)), now (heap .exit)), now (table .exit)))
+        ≡ models.check (now (rulebook .entry)) (now (text .entry)) (now (certificate .entry)) (now (store .entry)) (now (table .entry)) (now (stack .entry))
+        (now (heap .entry)) ⌝ }
 {
     let judged = theory::theory(rulebook, table, stack, heap);
     if let Judged::Refused(n) = judged {

@@ -15,7 +15,7 @@ use Rattle.items.specs.Items.{question}
 use Rattle.theory_reading.specs.Storing.{Areas, before}
 use Rattle.tables.specs.declared.Tally.{Tally}
 use Rattle.tables.specs.Words.{goalFound, goalAdded, goalCounted}
-use Rattle.asking.specs.Asking.{Top, over, form, atomDue, closingDue, formDue}
+use Rattle.asking.specs.Asking.{inForm, Top, over, form, atomDue, closingDue, formDue}
 use Rattle.terms.specs.Terms.{judgment}
 use Rattle.goals.specs.declared.Form.{Form}
 use Rattle.goals.specs.declared.Form.the-variants as forms
@@ -43,22 +43,23 @@ goalWord = 103 ∷ 111 ∷ 97 ∷ 108 ∷ []
 -- "`(goal N J)`: another head is 9, N with `?` 11": the bounds of N, and the reader after it. The form's opening was taken.
 unfoldable pub goalName : List ℕ → Reader → Outcome (ℕ × ℕ × Reader)
 goalName text r =
-    outcomes._>>=_ (atomDue text 256 r) (λ p.
+    outcomes._>>=_ (atomDue text inForm r) (λ p.
     outcomes._>>=_ (need (sameBytes (part (p .0) (p .1) text) goalWord) 9) (λ _.
-    outcomes._>>=_ (atomDue text 256 (p .2)) (λ q.
+    outcomes._>>=_ (atomDue text inForm (p .2)) (λ q.
     outcomes._>>=_ (need (not (question text (q .0))) 11) (λ _. ok q))))
 
 -- "J; closing (else 10); duplicate 13."
 unfoldable pub goal : List ℕ → List ℕ → List ℕ → Tally → Reader → List ℕ → List ℕ → List ℕ → Did Gathered (Tally × Reader)
 goal text rules heap tally r store stack table = do
   ((s, t, r), _) ← goalName text r leaving ((store, stack), table)
-  ((k, r), ((store, stack), table)) ← before table (judgment 256 text rules heap table 0 r store stack)
+  ((k, r), ((store, stack), table)) ← before table (judgment inForm text rules heap table 0 r store stack)
   (r, _) ← closingDue text r leaving ((store, stack), table)
   _ ← need (not (present (goalFound text (part s t text) table))) 13 leaving ((store, stack), table)
   ok (goalCounted tally, r) leaving ((store, stack), goalAdded text s t k tally table)
 
 -- One goal more, and those behind it.
-abbrev pub oneGoal : (Tally → Reader → List ℕ → List ℕ → List ℕ → Did Gathered Tally) → List ℕ → List ℕ → List ℕ → Tally → Top → List ℕ → List ℕ → List ℕ → Did Gathered Tally
+abbrev pub oneGoal : (Tally → Reader → List ℕ → List ℕ → List ℕ → Did Gathered Tally) → List ℕ → List ℕ → List ℕ → Tally → Top → List ℕ → List ℕ → List ℕ
+    → Did Gathered Tally
 oneGoal on text rules heap tally over store stack table = ok tally leaving ((store, stack), table)
 oneGoal on text rules heap tally (form r) store stack table = do
   ((tally, r), ((store, stack), table)) ← goal text rules heap tally r store stack table

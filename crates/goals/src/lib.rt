@@ -26,6 +26,7 @@ pub enum Forms {
     Refused(u32),
 }
 
+// The number of its refusal, 0 where there is none.
 pub fn form_refusal(r: Form) -> u32
     ensures { λ n. ⌜ n ≡ refusal (formed r) ⌝ }
 {
@@ -35,6 +36,7 @@ pub fn form_refusal(r: Form) -> u32
     }
 }
 
+// The number of its refusal, 0 where there is none.
 pub fn forms_refusal(r: Forms) -> u32
     ensures { λ n. ⌜ n ≡ refusal (gathered r) ⌝ }
 {
@@ -48,14 +50,14 @@ pub fn forms_refusal(r: Forms) -> u32
 pub fn goal_name(text: &[u8], reader: Reader) -> Named
     ensures { λ r. ⌜ named r ≡ goalName (now (text .entry)) reader ⌝ }
 {
-    let h = asking::atom_due(text, 256, reader);
+    let h = asking::atom_due(text, asking::IN_FORM, reader);
     let Named::Atom(s, t, q) = h else {
         return Named::Refused(asking::named_refusal(h));
     };
     if !words::same_bytes(text, s, t, b"goal", 0, 4) {
         return Named::Refused(9);
     }
-    let n = asking::atom_due(text, 256, q);
+    let n = asking::atom_due(text, asking::IN_FORM, q);
     let Named::Atom(a, b, p) = n else {
         return Named::Refused(asking::named_refusal(n));
     };
@@ -76,13 +78,24 @@ pub fn goal(
     tally: Tally,
     reader: Reader,
 ) -> Form
-    ensures { λ r. ⌜ (formed r leaving ((now (store .exit), now (stack .exit)), now (table .exit))) ≡ goal (now (text .entry)) (now (rules .entry)) (now (heap .entry)) tally reader (now (store .entry)) (now (stack .entry)) (now (table .entry)) ⌝ }
+    ensures { λ r. ⌜ (formed r leaving ((now (store .exit), now (stack .exit)), now (table .exit)))
+        ≡ goal (now (text .entry)) (now (rules .entry)) (now (heap .entry)) tally reader (now (store .entry)) (now (stack .entry)) (now (table .entry)) ⌝ }
 {
     let n = goal_name(text, reader);
     let Named::Atom(s, t, q) = n else {
         return Form::Refused(asking::named_refusal(n));
     };
-    let j = terms::judgment(text, rules, heap, table, store, stack, 0, 256, q);
+    let j = terms::judgment(
+        text,
+        rules,
+        heap,
+        table,
+        store,
+        stack,
+        0,
+        asking::IN_FORM,
+        q,
+    );
     let Numbered::Got(k, p) = j else {
         return Form::Refused(terms::numbered_refusal(j));
     };
@@ -109,7 +122,9 @@ pub fn goals_from(
     tally: Tally,
     reader: Reader,
 ) -> Forms
-    ensures { λ r. ⌜ (gathered r leaving ((now (store .exit), now (stack .exit)), now (table .exit))) ≡ goalsFrom (length (now (text .entry)) + 1) (now (text .entry)) (now (rules .entry)) (now (heap .entry)) tally reader (now (store .entry)) (now (stack .entry)) (now (table .entry)) ⌝ }
+    ensures { λ r. ⌜ (gathered r leaving ((now (store .exit), now (stack .exit)), now (table .exit)))
+        ≡ goalsFrom (length (now (text .entry)) + 1) (now (text .entry)) (now (rules .entry)) (now (heap .entry)) tally reader (now (store .entry))
+        (now (stack .entry)) (now (table .entry)) ⌝ }
 {
     let mut sofar = tally;
     let mut r = reader;
@@ -143,7 +158,8 @@ pub fn goals(
     stack: &mut [u32],
     tally: Tally,
 ) -> Forms
-    ensures { λ r. ⌜ (gathered r leaving ((now (store .exit), now (stack .exit)), now (table .exit))) ≡ goals (now (text .entry)) (now (rules .entry)) (now (heap .entry)) tally (now (store .entry)) (now (stack .entry)) (now (table .entry)) ⌝ }
+    ensures { λ r. ⌜ (gathered r leaving ((now (store .exit), now (stack .exit)), now (table .exit)))
+        ≡ goals (now (text .entry)) (now (rules .entry)) (now (heap .entry)) tally (now (store .entry)) (now (stack .entry)) (now (table .entry)) ⌝ }
 {
     let reader = Reader::new();
     let all = goals_from(text, rules, heap, table, store, stack, tally, reader);

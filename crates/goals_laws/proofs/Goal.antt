@@ -20,7 +20,8 @@ use Rattle.words.specs.Parts.{part}
 use Rattle.lex.specs.declared.Reader.{Reader}
 use Rattle.outcomes.specs.Simulation.{Simulates, leave, knowing, weaker}
 use Rattle.theory_laws.specs.Representation.{Entries, Holds}
-use Rattle.theory_laws.proofs.Lookups.{same-named, part-question}
+use Rattle.facts.proofs.Comparing.{same-named}
+use Rattle.theory_laws.proofs.Lookups.{part-question}
 use Rattle.theory_reading.proofs.Stored.{Longer, Stored, Means, means-longer, few-terms}
 use Rattle.tables.specs.declared.Tally.{Tally}
 use Rattle.tables.specs.Words.{goalAdded, goalCounted}
@@ -71,7 +72,8 @@ module _ {rules heap : List ℕ} {es : Entries} {bound : ℕ} {th : Theory} (h :
     (short : length goalsText ≤ 8192)
     {ts : List Term} {goals : List Goal} {tally : Tally} {table : List ℕ} (store stack : List ℕ) {inner rest : Items}
     (g : Gathering goalsText certificate 8192 32768 128 (Means es th ts) (Recorded ts) table tally goals (group inner then rest))
-    (stored : Stored es th document01 4096 store ts) (long : length stack ≡ 16384) (K : Stream Token → Type 0) {r : Reader} (there : At goalsText (Left inner K) 0 r) where
+    (stored : Stored es th document01 4096 store ts) (long : length stack ≡ 16384) (K : Stream Token → Type 0) {r : Reader}
+    (there : At goalsText (Left inner K) 0 r) where
   goal-met : Simulates (GoalMet es th goalsText K ts goals tally table) (walk.goal goalsText rules heap tally r store stack table)
       (definition.goalForm document01 th goals (group inner) ts)
   unfolding AskedRead walk.goal walk.goalName definition.goalForm definition._>>=_ definition.lift definition.give definition.groupDue refusals._>>=_ number codes

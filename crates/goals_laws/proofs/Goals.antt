@@ -51,7 +51,8 @@ pub record GoalsRead (es : Entries) (th : Theory) (goalsText certificate : List 
   pub long : length (left .0 .1) ≡ 16384
   pub counted : tally .goals ≡ length (y .0)
 
-atom-form : (th : Theory) (goals : List Goal) (name : Name) (ts : List Term) → definition.goalForm document01 th goals (word name) ts ≡ refusals.refused atomOrList
+atom-form : (th : Theory) (goals : List Goal) (name : Name) (ts : List Term)
+    → definition.goalForm document01 th goals (word name) ts ≡ refusals.refused atomOrList
 unfolding definition.goalForm definition._>>=_ definition.lift definition.groupDue refusals._>>=_
 atom-form th goals name ts = refl
 

@@ -51,6 +51,7 @@ pub enum Walked {
     Refused(u32),
 }
 
+// The number of its refusal, 0 where there is none.
 pub fn named_refusal(r: Named) -> u32
     ensures { λ n. ⌜ n ≡ refusal (named r) ⌝ }
 {
@@ -60,6 +61,7 @@ pub fn named_refusal(r: Named) -> u32
     }
 }
 
+// The number of its refusal, 0 where there is none.
 pub fn numbered_refusal(r: Numbered) -> u32
     ensures { λ n. ⌜ n ≡ refusal (numbered r) ⌝ }
 {
@@ -69,6 +71,7 @@ pub fn numbered_refusal(r: Numbered) -> u32
     }
 }
 
+// The number of its refusal, 0 where there is none.
 pub fn walked_refusal(r: Walked) -> u32
     ensures { λ n. ⌜ n ≡ refusal (walked r) ⌝ }
 {
@@ -138,6 +141,7 @@ pub fn next_item(text: &[u8], counts: &[u32], w: Walk) -> Item
     }
 }
 
+// The next item, which must be an atom.
 pub fn next_atom(text: &[u8], counts: &[u32], w: Walk) -> Named
     ensures { λ r. ⌜ named r ≡ atomDue (now (text .entry)) (now (counts .entry)) w ⌝ }
 {
@@ -149,6 +153,7 @@ pub fn next_atom(text: &[u8], counts: &[u32], w: Walk) -> Named
     }
 }
 
+// The next item, which must be a list, with its member count.
 pub fn next_list(text: &[u8], counts: &[u32], w: Walk) -> Numbered
     ensures { λ r. ⌜ numbered r ≡ listDue (now (text .entry)) (now (counts .entry)) w ⌝ }
 {
@@ -160,6 +165,7 @@ pub fn next_list(text: &[u8], counts: &[u32], w: Walk) -> Numbered
     }
 }
 
+// "Where a closing is due, end of text is 5 and any other token 10."
 pub fn close(text: &[u8], w: Walk) -> Walked
     ensures { λ r. ⌜ walked r ≡ closingDue (now (text .entry)) w ⌝ }
 {
@@ -188,6 +194,7 @@ pub fn is_question(text: &[u8], s: usize) -> bool
     words::byte(text, s) == 0x3F
 }
 
+// The next item, which must be an atom without a leading `?`.
 pub fn declared_name(text: &[u8], counts: &[u32], w: Walk) -> Named
     ensures { λ r. ⌜ named r ≡ declaredName (now (text .entry)) (now (counts .entry)) w ⌝ }
 {
@@ -201,6 +208,7 @@ pub fn declared_name(text: &[u8], counts: &[u32], w: Walk) -> Named
     Named::Atom(s, t, q)
 }
 
+// The head of a list of so many members: "not empty (8), its head an atom (7)".
 pub fn head(text: &[u8], counts: &[u32], members: u32, w: Walk) -> Named
     ensures { λ r. ⌜ named r ≡ headDue (now (text .entry)) (now (counts .entry)) members w ⌝ }
 {

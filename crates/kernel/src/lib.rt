@@ -17,7 +17,8 @@ pub fn rulebook(
     c: &mut [u32],
     d: &mut [u32],
 ) -> RulebookReport
-    ensures { λ r. ⌜ called (answered r) (now (a .exit)) (now (b .exit)) (now (c .exit)) (now (d .exit)) ≡ rulebookLeft document01 (now (a .entry)) (now (b .entry)) (now (c .entry)) (now (d .entry)) (now (rulebook .entry)) ⌝ }
+    ensures { λ r. ⌜ called (answered r) (now (a .exit)) (now (b .exit)) (now (c .exit)) (now (d .exit))
+        ≡ rulebookLeft document01 (now (a .entry)) (now (b .entry)) (now (c .entry)) (now (d .entry)) (now (rulebook .entry)) ⌝ }
 {
     rulebook_call::rulebook(rulebook, a, b, c, d)
 }
@@ -32,9 +33,12 @@ pub fn release(
     c: &mut [u32],
     d: &mut [u32],
 ) -> Report
-    ensures whole { λ r. ⌜ called (told r) (now (a .exit)) (now (b .exit)) (now (c .exit)) (now (d .exit)) ≡ releaseLeft document01 (now (a .entry)) (now (b .entry)) (now (c .entry)) (now (d .entry)) (now (rulebook .entry)) (now (goals .entry)) (now (certificate .entry)) ⌝ }
+    ensures whole { λ r. ⌜ called (told r) (now (a .exit)) (now (b .exit)) (now (c .exit)) (now (d .exit))
+        ≡ releaseLeft document01 (now (a .entry)) (now (b .entry)) (now (c .entry)) (now (d .entry)) (now (rulebook .entry)) (now (goals .entry))
+        (now (certificate .entry)) ⌝ }
     ensures sound { λ r. ⌜ Sound document01 (now (rulebook .entry)) (now (goals .entry)) (told r) ⌝ }
-    ensures complete { λ r. ⌜ Complete document01 (length (now (a .entry))) (length (now (b .entry))) (length (now (c .entry))) (length (now (d .entry))) (now (rulebook .entry)) (now (goals .entry)) (now (certificate .entry)) (told r) ⌝ }
+    ensures complete { λ r. ⌜ Complete document01 (length (now (a .entry))) (length (now (b .entry))) (length (now (c .entry))) (length (now (d .entry)))
+        (now (rulebook .entry)) (now (goals .entry)) (now (certificate .entry)) (told r) ⌝ }
 {
     release_call::release(rulebook, goals, certificate, a, b, c, d)
 }
@@ -48,11 +52,13 @@ pub extern "C" fn horn_rulebook(
     c: &mut [u32],
     d: &mut [u32],
 ) -> RulebookReport
-    ensures { λ r. ⌜ called (answered r) (now (a .exit)) (now (b .exit)) (now (c .exit)) (now (d .exit)) ≡ rulebookLeft document01 (now (a .entry)) (now (b .entry)) (now (c .entry)) (now (d .entry)) (now (text .entry)) ⌝ }
+    ensures { λ r. ⌜ called (answered r) (now (a .exit)) (now (b .exit)) (now (c .exit)) (now (d .exit))
+        ≡ rulebookLeft document01 (now (a .entry)) (now (b .entry)) (now (c .entry)) (now (d .entry)) (now (text .entry)) ⌝ }
 {
     rulebook(text, a, b, c, d)
 }
 
+// The call with three texts.
 #[no_mangle]
 pub extern "C" fn horn_release(
     rulebook: &[u8],
@@ -63,9 +69,12 @@ pub extern "C" fn horn_release(
     c: &mut [u32],
     d: &mut [u32],
 ) -> Report
-    ensures whole { λ r. ⌜ called (told r) (now (a .exit)) (now (b .exit)) (now (c .exit)) (now (d .exit)) ≡ releaseLeft document01 (now (a .entry)) (now (b .entry)) (now (c .entry)) (now (d .entry)) (now (rulebook .entry)) (now (goals .entry)) (now (certificate .entry)) ⌝ }
+    ensures whole { λ r. ⌜ called (told r) (now (a .exit)) (now (b .exit)) (now (c .exit)) (now (d .exit))
+        ≡ releaseLeft document01 (now (a .entry)) (now (b .entry)) (now (c .entry)) (now (d .entry)) (now (rulebook .entry)) (now (goals .entry))
+        (now (certificate .entry)) ⌝ }
     ensures sound { λ r. ⌜ Sound document01 (now (rulebook .entry)) (now (goals .entry)) (told r) ⌝ }
-    ensures complete { λ r. ⌜ Complete document01 (length (now (a .entry))) (length (now (b .entry))) (length (now (c .entry))) (length (now (d .entry))) (now (rulebook .entry)) (now (goals .entry)) (now (certificate .entry)) (told r) ⌝ }
+    ensures complete { λ r. ⌜ Complete document01 (length (now (a .entry))) (length (now (b .entry))) (length (now (c .entry))) (length (now (d .entry)))
+        (now (rulebook .entry)) (now (goals .entry)) (now (certificate .entry)) (told r) ⌝ }
 {
     release(rulebook, goals, certificate, a, b, c, d)
 }

@@ -29,6 +29,7 @@ pub fn find_variable(text: &[u8], vars: &[u32], variables: u32, s: usize, t: usi
     Found::Nothing
 }
 
+// A variable met for the first time takes its place's sort.
 pub fn introduce(vars: &mut [u32], heap: &mut [u32], s: usize, t: usize, sort: u32, w: Walk) -> Walk
     ensures { λ r. ⌜ (ok r leaving (now (vars .exit), now (heap .exit))) ≡ introduced s t sort w (now (vars .entry)) (now (heap .entry)) ⌝ }
 {
@@ -47,6 +48,7 @@ pub fn introduce(vars: &mut [u32], heap: &mut [u32], s: usize, t: usize, sort: u
     items::push(heap, words::plus(places::VARIABLE, v), q)
 }
 
+// A variable met again, at another sort 14.
 pub fn meet_again(vars: &[u32], heap: &mut [u32], v: u32, sort: u32, w: Walk) -> Walked
     ensures { λ r. ⌜ (walked r leaving (now (vars .entry), now (heap .exit))) ≡ metAgain v sort w (now (vars .entry)) (now (heap .entry)) ⌝ }
 {
@@ -106,6 +108,7 @@ pub fn apply(
     Numbered::Got(c, q)
 }
 
+// An atom that is a constructor without inputs.
 pub fn constant(text: &[u8], heap: &mut [u32], s: usize, t: usize, sort: u32, w: Walk) -> Walked
     ensures { λ r. ⌜ (walked r leaving now (heap .exit)) ≡ constant (now (text .entry)) s t sort w (now (heap .entry)) ⌝ }
 {

@@ -1,8 +1,23 @@
-// Either call over lent areas that held other words, and whether the areas are afterwards as the paper says.
+// Either call over lent areas that held other words, whether the areas are afterwards as the paper says, and how programs write answers.
 
-const FIRST: u32 = 3735928559;
+// What the areas hold before a call: word i is first + i * step, in 32 bits.
+pub struct Before {
+    pub first: u32,
+    pub step: u32,
+}
 
-const STEP: u32 = 2654435761;
+// Words of no sense.
+pub fn garbage() -> Before {
+    Before {
+        first: 3735928559,
+        step: 2654435761,
+    }
+}
+
+// Ones.
+pub fn ones() -> Before {
+    Before { first: 1, step: 0 }
+}
 
 // A report of either call, or one that is stated.
 pub struct Answer {
@@ -21,6 +36,7 @@ pub struct Lengths {
     pub fourth: u32,
 }
 
+// A report of the rulebook alone as an answer.
 fn rulebook_answer(r: reports::RulebookReport) -> Answer {
     Answer {
         number: r.number,
@@ -31,6 +47,7 @@ fn rulebook_answer(r: reports::RulebookReport) -> Answer {
     }
 }
 
+// A report of three texts as an answer.
 fn release_answer(r: reports::Report) -> Answer {
     Answer {
         number: r.number,
@@ -53,28 +70,30 @@ fn cleared(number: u32) -> usize {
 }
 
 // The answer, or 99 where the areas are not as they must be afterwards.
-fn with_areas(x: Answer, a: &[u32], b: &[u32], c: &[u32], d: &[u32]) -> Answer {
-    if areas::all_hold(cleared(x.number), FIRST, STEP, a, b, c, d) {
+fn with_areas(p: Before, x: Answer, a: &[u32], b: &[u32], c: &[u32], d: &[u32]) -> Answer {
+    if areas::all_hold(cleared(x.number), p.first, p.step, a, b, c, d) {
         return x;
     }
     io::write_all(1, b"areas wrong\n");
     Answer { number: 99, ..x }
 }
 
-// The call with the rulebook alone, over areas that hold words of no sense.
+// The call with the rulebook alone, over areas that held other words.
 fn run_alone(
+    p: Before,
     rulebook: &[u8],
     a: &mut [u32],
     b: &mut [u32],
     c: &mut [u32],
     d: &mut [u32],
 ) -> reports::RulebookReport {
-    areas::fill_all(FIRST, STEP, a, b, c, d);
+    areas::fill_all(p.first, p.step, a, b, c, d);
     kernel::rulebook(rulebook, a, b, c, d)
 }
 
 // The call with three texts, over the same.
 fn run_whole(
+    p: Before,
     rulebook: &[u8],
     goals: &[u8],
     certificate: &[u8],
@@ -83,22 +102,26 @@ fn run_whole(
     c: &mut [u32],
     d: &mut [u32],
 ) -> reports::Report {
-    areas::fill_all(FIRST, STEP, a, b, c, d);
+    areas::fill_all(p.first, p.step, a, b, c, d);
     kernel::release(rulebook, goals, certificate, a, b, c, d)
 }
 
+// The call with the rulebook alone, with its areas tested.
 fn called_alone(
+    p: Before,
     rulebook: &[u8],
     a: &mut [u32],
     b: &mut [u32],
     c: &mut [u32],
     d: &mut [u32],
 ) -> Answer {
-    let r = run_alone(rulebook, a, b, c, d);
-    with_areas(rulebook_answer(r), a, b, c, d)
+    let r = run_alone(p, rulebook, a, b, c, d);
+    with_areas(p, rulebook_answer(r), a, b, c, d)
 }
 
+// The call with three texts, with its areas tested.
 fn called_whole(
+    p: Before,
     rulebook: &[u8],
     goals: &[u8],
     certificate: &[u8],
@@ -107,11 +130,13 @@ fn called_whole(
     c: &mut [u32],
     d: &mut [u32],
 ) -> Answer {
-    let r = run_whole(rulebook, goals, certificate, a, b, c, d);
-    with_areas(release_answer(r), a, b, c, d)
+    let r = run_whole(p, rulebook, goals, certificate, a, b, c, d);
+    with_areas(p, release_answer(r), a, b, c, d)
 }
 
+// Either call.
 fn called(
+    p: Before,
     alone: bool,
     rulebook: &[u8],
     goals: &[u8],
@@ -122,13 +147,14 @@ fn called(
     d: &mut [u32],
 ) -> Answer {
     if alone {
-        return called_alone(rulebook, a, b, c, d);
+        return called_alone(p, rulebook, a, b, c, d);
     }
-    called_whole(rulebook, goals, certificate, a, b, c, d)
+    called_whole(p, rulebook, goals, certificate, a, b, c, d)
 }
 
 // As many words of each area as the case lends; 98 where it lends more than there are.
 fn lend(
+    p: Before,
     alone: bool,
     s: Lengths,
     rulebook: &[u8],
@@ -163,6 +189,7 @@ fn lend(
         return too_long;
     }
     called(
+        p,
         alone,
         rulebook,
         goals,
@@ -174,7 +201,9 @@ fn lend(
     )
 }
 
+// What a case answers on areas of its lengths.
 pub fn answered(
+    p: Before,
     alone: bool,
     s: Lengths,
     rulebook: &[u8],
@@ -186,6 +215,7 @@ pub fn answered(
     let mut c = [0u32; 40000];
     let mut d = [0u32; 40000];
     lend(
+        p,
         alone,
         s,
         rulebook,
@@ -196,4 +226,102 @@ pub fn answered(
         &mut c,
         &mut d,
     )
+}
+
+// Whether two answers are equal.
+pub fn same(x: Answer, y: Answer) -> bool {
+    if x.number != y.number {
+        return false;
+    }
+    if x.first != y.first {
+        return false;
+    }
+    if x.second != y.second {
+        return false;
+    }
+    if x.third != y.third {
+        return false;
+    }
+    x.fourth == y.fourth
+}
+
+// Writes a number behind a space.
+pub fn number(n: u32) {
+    io::write_all(1, b" ");
+    io::print_decimal(1, n as u64);
+}
+
+// Writes an answer.
+pub fn show(x: Answer) {
+    number(x.number);
+    number(x.first);
+    number(x.second);
+    number(x.third);
+    number(x.fourth);
+}
+
+// Writes what an example answers, and what it did to the areas.
+pub fn show_example(label: &[u8], x: Answer) {
+    io::write_all(1, label);
+    io::write_all(1, b":");
+    show(x);
+    if cleared(x.number) == 0 {
+        io::write_all(1, b" untouched\n");
+        return;
+    }
+    io::write_all(1, b" cleared\n");
+}
+
+// What became of a kept case.
+pub enum Case {
+    End,
+    Agrees,
+    Differs,
+}
+
+// The answer of a kept case beside the one that is kept. Where they differ, it says so.
+pub fn compare(label: &[u8], kept: Answer, x: Answer) -> Case {
+    if same(kept, x) {
+        return Case::Agrees;
+    }
+    io::write_all(1, label);
+    io::write_all(1, b": kept");
+    show(kept);
+    io::write_all(1, b", answered");
+    show(x);
+    io::write_all(1, b"\n");
+    Case::Differs
+}
+
+// How many cases there were, and how many of them differed.
+pub struct Tally {
+    pub cases: u32,
+    pub differences: u32,
+}
+
+impl Tally {
+    // None yet.
+    pub fn new() -> Tally {
+        Tally {
+            cases: 0,
+            differences: 0,
+        }
+    }
+
+    // One case more.
+    pub fn and(self, different: u32) -> Tally {
+        Tally {
+            cases: std::num::wrapping_add_u32(self.cases, 1),
+            differences: std::num::wrapping_add_u32(self.differences, different),
+        }
+    }
+}
+
+// Writes the counts.
+pub fn finish(t: Tally) {
+    io::write_all(1, b"cases");
+    number(t.cases);
+    io::write_all(1, b"\ndifferences");
+    number(t.differences);
+    io::write_all(1, b"\n");
 }

@@ -1,21 +1,19 @@
 -- One turn of the scan for a token, and the token at a place. Assumes nothing.
-use mathlib.Core.Path.{_≡_, _∙_, refl, ap, sym}
-use mathlib.Core.Bool.{Bool, true, false}
-use mathlib.Core.List.{List, [], _∷_}
+use mathlib.Core.Path.{_≡_, _∙_, refl, sym}
+use mathlib.Core.List.{List}
 use Prim.Native.Nat.{ℕ, zero, suc, _+_, _-_, _≤_, _<_}
 use native.Mathlib.Omega.{arith}
 use borrow.Author.Tests.{lt-leb, le-leb, eq-eqb, ne-eqb, eqb-true, eqb-false, ltb-true, ltb-false}
-use lib.Dec.{eqb, ltb, leb}
+use lib.Dec.{eqb, ltb}
 use lib.ListN.{length, getD, drop}
 use Rattle.horn.specs.Refusals.{number, notUtf8}
 use Rattle.lex.specs.Characters.{first, width, kindAt}
 use Rattle.lex.specs.Scan.{blanks, atomEnd, lineEnd}
-use Rattle.lex.specs.Answers.{Answer, token, ended, refused, answer, after, tokenAt, scannedOn, scanned}
-use Rattle.lex.specs.declared.Line.{Line}
+use Rattle.lex.specs.Answers.{token, ended, refused, after, tokenAt, scannedOn}
 use Rattle.lex.specs.declared.Line.the-variants as lines
 use Rattle.lex.specs.declared.Token.the-variants.{Opening, Closing, Atom}
 use Rattle.lex.specs.declared.Ahead.the-variants.{Nothing}
-use Rattle.lex.proofs.Grammar.{case}
+use Rattle.horn.proofs.Equality.{case}
 use Rattle.lex.proofs.Turns.{width-steps, line-stop, line-bad, line-step, line-over}
 
 -- A good line ends after its start and within the text.

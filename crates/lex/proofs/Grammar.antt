@@ -1,25 +1,21 @@
 -- The first character by the class of its first byte is the first character by the grammar of RFC 3629.
 -- Assumes nothing.
-use mathlib.Core.Path.{_≡_, _∙_, refl, ap, sym}
-use mathlib.Core.Bool.{Bool, true, false, _&&_}
+use mathlib.Core.Path.{_≡_, _∙_, refl}
+use mathlib.Core.Bool.{Bool, true, false}
 use mathlib.Core.List.{List, [], _∷_}
 use mathlib.Core.Option.{Option, none, some}
-use Prim.Native.Nat.{ℕ, zero, suc, _+_, _*_, _-_, _%_, _≤_, _<_}
+use Prim.Native.Nat.{ℕ, _+_, _*_, _-_, _%_, _≤_, _<_}
 use native.Mathlib.Omega.{arith}
-use borrow.Author.Tests.{lt-ltb, le-ltb, lt-leb, le-leb, ltb-true, ltb-false, eq-eqb, ne-eqb}
-use lib.Dec.{T, eqb, ltb, leb, eqb→eq, ltb→lt}
+use borrow.Author.Tests.{lt-ltb, le-ltb, lt-leb, le-leb, ltb-true, ltb-false, ne-eqb}
+use lib.Dec.{T, eqb, ltb, eqb→eq, ltb→lt}
 use lib.ListN.{length, getD, drop}
 use lib.Seq.{getD-drop}
-use Rattle.horn.specs.Utf8.{Range, range, within, Sequence, sequence, sequences, startedBy, tail}
+use Rattle.horn.specs.Utf8.{Range, range, within, Sequence, sequence, sequences, startedBy}
 use Rattle.horn.specs.Tokens.{kind}
+use Rattle.horn.proofs.Equality.{case}
 use Rattle.lex.specs.Classes.{kindNumber, classOf, lowOf, highOf}
 use Rattle.lex.specs.Characters.{First, broken, found, oneMore, rest, first, inRange, longerBy}
 use Rattle.lex.proofs.Table.{and-left, and-right, ruled, ruled-at}
-
--- A split on a test, with its equation.
-pub case : {C : Type 0} (b : Bool) → (b ≡ true → C) → (b ≡ false → C) → C
-case true f g = f refl
-case false f g = g refl
 
 -- What the class of a byte says of the sequence that it begins.
 pub data Known (b c : ℕ) (o : Option Sequence) : Type 0 where

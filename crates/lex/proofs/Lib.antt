@@ -9,3 +9,4 @@ pub mod Skipping
 pub mod Standing
 pub mod Positions
 pub mod Looking
+pub mod Readers

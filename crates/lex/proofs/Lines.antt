@@ -1,27 +1,23 @@
 -- A line of whole characters in a text, and what the tokens are while it is read. Assumes nothing.
 use mathlib.Core.Path.{_≡_, _∙_, refl, ap, sym}
-use mathlib.Core.Bool.{Bool, true, false}
 use mathlib.Core.List.{List, [], _∷_, _++_}
 use Prim.Native.Nat.{ℕ, zero, suc, _+_, _-_, _≤_, _<_}
 use native.Mathlib.Numerals.{add-one}
 use native.Mathlib.Omega.{arith}
-use borrow.Author.Tests.{ne-eqb, eqb-true, eqb-false, ltb-true, ltb-false}
+use borrow.Author.Tests.{eqb-true, eqb-false, ltb-true, ltb-false}
 use lib.Dec.{eqb, ltb}
 use lib.ListN.{length, getD, take, drop, length-drop, drop-of-length-le}
-use lib.Seq.{drop-drop, drop-cons, getD-drop}
+use lib.Seq.{drop-drop, drop-cons}
 use Rattle.horn.specs.Utf8.{Char, char}
-use Rattle.horn.specs.Tokens as horn
-use Rattle.horn.specs.Tokens.{Stream, end, bad, _▹_, before, lines, characters, kind, Kind, blank, opens, closes, comments, ordinary}
-use Rattle.horn.specs.Tokens.{Place, between, inComment, inAtom, begins, continues, move, unended, tokensFrom, white, whiteRanges, inSome}
-use Rattle.horn.specs.Utf8.{within}
-use Rattle.lex.specs.Classes.{kindNumber}
-use Rattle.lex.specs.Characters.{First, broken, found, first, width, kindAt}
-use Rattle.lex.specs.Scan.{blanks, atomEnd, lineEnd}
+use Rattle.horn.specs.Tokens.{Stream, end, _▹_, before, lines, characters}
+use Rattle.lex.specs.Characters.{First, broken, found, first, width}
+use Rattle.lex.specs.Scan.{lineEnd}
 use Rattle.lex.specs.declared.Line.the-variants as line
-use Rattle.lex.proofs.Grammar.{case}
+use Rattle.horn.proofs.Equality.{case}
+use Rattle.horn.proofs.CompleteLines.{before-append}
 use Rattle.lex.proofs.Turns.{at-drop, Sound, sound, width-zero, width-steps, line-stop, line-bad, line-step, line-over}
-use Rattle.lex.proofs.Streams.{GoodLine, BadLine, good-end, good-newline, good-on, bad-on, head-broken, first-newline}
-use Rattle.lex.proofs.Streams.{stream-newline, stream-on, stream-bad, value-on}
+use Rattle.lex.proofs.Streams.{GoodLine, BadLine, good-end, good-newline, good-on, bad-on, head-broken}
+use Rattle.lex.proofs.Streams.{stream-newline, stream-on, value-on}
 
 -- From p a line of whole characters runs to e: to the end of the text, or to just after its first byte 0A.
 pub data Clean (text : List ℕ) : ℕ → ℕ → Type 0 where
@@ -142,11 +138,6 @@ module _ (text : List ℕ) where
       let g : line.Good q ≡ line.Bad = sym (line-over text q (suc f) (ltb-false _ _ i)) ∙ e in
       let k : _≡_ {A = ℕ} 0 1 = cc in
       absurd (omega arith))
-
-before-append : {A : Type 0} (a b : List A) (s : Stream A) → before (a ++ b) s ≡ before a (before b s)
-unfolding before
-before-append [] b s = refl
-before-append (x ∷ a) b s = ap (λ t. x ▹ t) (before-append a b s)
 
 -- The definition's characters of the text reach a place, so no line before it is bad: a bad one would have ended them.
 pub record Passed (text : List ℕ) (p : ℕ) : Type 0 where

@@ -1,6 +1,5 @@
 -- White space, comments and atoms: what the tokens are while a line is read. Assumes nothing.
 use mathlib.Core.Path.{_≡_, _∙_, refl, ap, sym}
-use mathlib.Core.Bool.{Bool, true, false}
 use mathlib.Core.List.{List, [], _∷_, _++_}
 use Prim.Native.Nat.{ℕ, zero, suc, _+_, _-_, _≤_, _<_}
 use native.Mathlib.Omega.{arith}
@@ -9,14 +8,14 @@ use lib.Dec.{eqb}
 use lib.ListN.{length, getD, take, drop}
 use lib.Seq.{drop-drop, take-add}
 use Rattle.horn.specs.Utf8.{Char, char, within}
-use Rattle.horn.specs.Tokens.{Stream, end, bad, _▹_, before, Token, opening, closing, atom}
+use Rattle.horn.specs.Tokens.{Stream, _▹_, before, Token, opening, closing, atom}
 use Rattle.horn.specs.Tokens.{kind, Kind, blank, opens, closes, comments, ordinary, white, whiteRanges, inSome}
 use Rattle.horn.specs.Tokens.{Place, between, inComment, inAtom, begins, continues, move, unended, tokensFrom}
 use Rattle.words.specs.Parts.{part}
 use Rattle.lex.specs.Classes.{kindNumber}
-use Rattle.lex.specs.Characters.{First, broken, found, first, width, kindAt}
+use Rattle.lex.specs.Characters.{found, first, width, kindAt}
 use Rattle.lex.specs.Scan.{blanks, atomEnd}
-use Rattle.lex.proofs.Grammar.{case}
+use Rattle.horn.proofs.Equality.{case}
 use Rattle.lex.proofs.Turns.{atom-stop, atom-step, atom-over, blank-stop, blank-step, blank-over, comment-stop}
 use Rattle.lex.proofs.Streams.{first-newline}
 use Rattle.lex.proofs.Lines.{Clean, over, newline, on, charsAt, found-steps, clean-le, at-newline, at-end, over-newline, over-char, value-inner}

@@ -1,22 +1,21 @@
 -- Where a reader stands: the law that joins the reader to the definition's tokens. Assumes nothing.
 use mathlib.Core.Path.{_≡_, _∙_, refl, ap, sym}
-use mathlib.Core.Bool.{Bool, true, false}
-use mathlib.Core.List.{List, [], _∷_, _++_}
+use mathlib.Core.List.{List, []}
 use mathlib.Core.Logic.{_⊎_, inl, inr}
 use Prim.Native.Nat.{ℕ, zero, suc, _+_, _-_, _≤_, _<_}
 use native.Mathlib.Nat.{sub-self}
 use native.Mathlib.Omega.{arith}
-use borrow.Author.Tests.{eqb-true, eqb-false, ltb-true, ltb-false}
-use lib.Dec.{eqb, ltb}
-use lib.ListN.{length, getD, take, drop}
+use borrow.Author.Tests.{ltb-true, ltb-false}
+use lib.Dec.{ltb}
+use lib.ListN.{length, take, drop}
 use Rattle.horn.specs.Refusals.{number, notUtf8}
 use Rattle.horn.specs.Utf8.{Char, char}
-use Rattle.horn.specs.Tokens.{Stream, end, bad, _▹_, before, Place, between, inAtom, unended, tokensFrom, tokens, characters, lines}
+use Rattle.horn.specs.Tokens.{Stream, end, bad, _▹_, before, between, inAtom, unended, tokensFrom, tokens}
 use Rattle.horn.specs.Tokens.{kind, Kind, blank, opens, closes, comments, ordinary}
 use Rattle.horn.specs.Tokens as horn
 use Rattle.words.specs.Parts.{part}
 use Rattle.lex.specs.Classes.{kindNumber}
-use Rattle.lex.specs.Characters.{First, broken, found, first, width, kindAt}
+use Rattle.lex.specs.Characters.{first, kindAt}
 use Rattle.lex.specs.Scan.{blanks, atomEnd, lineEnd}
 use Rattle.lex.specs.Answers.{Answer, token, ended, refused, after, tokenAt, scannedOn, scanned, holding, peeked, peekedBy, taken, takenBy, start}
 use Rattle.lex.specs.declared.Line.{Line}
@@ -26,11 +25,13 @@ use Rattle.lex.specs.declared.Token.the-variants.{Opening, Closing, Atom
 use Rattle.lex.specs.declared.Ahead.{Ahead}
 use Rattle.lex.specs.declared.Ahead.the-variants.{Nothing, Held}
 use Rattle.lex.specs.declared.Reader.{Reader}
-use Rattle.lex.proofs.Grammar.{case, lt-of-le-of-ne}
+use Rattle.horn.proofs.Equality.{case}
+use Rattle.lex.proofs.Grammar.{lt-of-le-of-ne}
 use Rattle.lex.proofs.Answering.{line-bounds, scan-token, scan-ended, scan-bad, scan-step, at-atom, at-opening, at-closing}
 use Rattle.lex.proofs.Streams.{stream-bad}
-use Rattle.lex.proofs.Lines.{Clean, over, newline, on, charsAt, found-steps, clean-le, at-end, over-char, line-clean, line-broken, Passed, passed-start, passed-on}
-use Rattle.lex.proofs.Skipping.{tokensAt, kind-here, width-here, kind-ordinary, opening-move, closing-move, atom-move}
+use Rattle.lex.proofs.Lines.{Clean, over, newline, on, charsAt, found-steps, clean-le, at-end, over-char, line-clean, line-broken}
+use Rattle.lex.proofs.Lines.{Passed, passed-start, passed-on}
+use Rattle.lex.proofs.Skipping.{tokensAt, kind-here, width-here, opening-move, closing-move, atom-move}
 use Rattle.lex.proofs.Turns.{blank-over}
 use Rattle.lex.proofs.Skipping.{Reached, at-line-end, at-token, step-reached, past-blanks, past-atom, newline-kind}
 

@@ -1,18 +1,18 @@
 -- The characters of a text, one at a time: how the definition's lines and characters begin. Assumes nothing.
 use mathlib.Core.Path.{_≡_, _∙_, refl, ap, sym}
-use mathlib.Core.Bool.{Bool, true, false, _&&_}
+use mathlib.Core.Bool.{Bool, true, _&&_}
 use mathlib.Core.List.{List, [], _∷_, _++_, append-assoc, append-nil}
 use mathlib.Core.Option.{Option, none, some, Option·map}
-use Prim.Native.Nat.{ℕ, zero, suc, _+_, _*_, _-_, _≤_, _<_}
+use Prim.Native.Nat.{ℕ, suc, _+_, _*_, _-_, _≤_, _<_}
 use native.Mathlib.Omega.{arith}
-use borrow.Author.Tests.{eq-eqb, ne-eqb, eqb-true, eqb-false}
+use borrow.Author.Tests.{ne-eqb, eqb-true, eqb-false}
 use lib.Dec.{T, eqb, ltb, leb, eqb→eq, ltb→lt, leb→le}
 use lib.ListN.{length, getD, take, drop}
 use Rattle.horn.specs.Utf8.{Range, range, within, Sequence, sequence, sequences, startedBy, tail, Char, char, resumed, decoded}
-use Rattle.horn.specs.Tokens.{Stream, end, bad, _▹_, before, onto, lines, characters}
+use Rattle.horn.specs.Tokens.{Stream, bad, _▹_, before, onto, lines, characters}
 use Rattle.lex.specs.Characters.{First, broken, found, oneMore, rest, first}
 use Rattle.lex.proofs.Table.{and-left, and-right}
-use Rattle.lex.proofs.Grammar.{case}
+use Rattle.horn.proofs.Equality.{case}
 
 -- The first line and the others.
 topLine : List (List ℕ) → List ℕ

@@ -1,23 +1,21 @@
 -- One turn of each loop, and what a step over a character keeps. Assumes nothing.
 use mathlib.Core.Path.{_≡_, _∙_, refl, ap, sym}
-use mathlib.Core.Bool.{Bool, true, false}
 use mathlib.Core.List.{List, [], _∷_}
 use mathlib.Core.Option.{Option, none, some}
 use Prim.Native.Nat.{ℕ, zero, suc, _+_, _*_, _-_, _≤_, _<_}
 use native.Mathlib.Nat.{add-zero}
 use native.Mathlib.Omega.{arith}
 use borrow.Author.Tests.{lt-ltb, le-ltb, eq-eqb, ne-eqb}
-use lib.Dec.{eqb, ltb}
 use lib.ListN.{length, getD, take, drop, length-drop, drop-of-length-le}
 use lib.Seq.{take-all, getD-drop}
-use Rattle.horn.specs.Utf8.{Range, range, within, Sequence, sequence, sequences, startedBy}
-use Rattle.horn.specs.Tokens.{Kind, blank, opens, closes, comments, ordinary, kind}
+use Rattle.horn.specs.Utf8.{Range, within, Sequence, sequence, sequences, startedBy}
+use Rattle.horn.specs.Tokens.{kind}
 use Rattle.lex.specs.Classes.{kindNumber, classOf}
 use Rattle.lex.specs.Characters.{First, broken, found, oneMore, rest, first, width, value, kindAt}
 use Rattle.lex.specs.Scan.{blanks, atomEnd, lineEnd}
-use Rattle.lex.specs.declared.Line.{Line}
 use Rattle.lex.specs.declared.Line.the-variants.{Good, Bad}
-use Rattle.lex.proofs.Grammar.{case, first-one, kind-one}
+use Rattle.horn.proofs.Equality.{case}
+use Rattle.lex.proofs.Grammar.{first-one, kind-one}
 
 -- A character has at least one byte, and no more than there are.
 unfoldable pub Sound : First → ℕ → Type 0

@@ -5,6 +5,7 @@ use mathlib.Core.List.{List}
 use lib.Dec.{eqb, ltb, leb}
 use lib.ListN.{length, drop}
 use Rattle.horn.specs.Refusals.{number, notUtf8}
+use Rattle.lex.specs.Classes.{isOrdinary, isOpening, isClosing}
 use Rattle.lex.specs.Characters.{first, width, kindAt}
 use Rattle.lex.specs.Scan.{blanks, atomEnd, lineEnd}
 use Rattle.lex.specs.declared.Line.{Line}
@@ -35,11 +36,11 @@ after at end ahead = record { at = at; end = end; ahead = ahead }
 -- The token at a place where a character stands that is neither white nor `;`.
 unfoldable pub tokenAt : List ℕ → ℕ → ℕ → Answer
 tokenAt text end p =
-    elim (eqb (kindAt (first (drop p text))) 0) [
+    elim (eqb (kindAt (first (drop p text))) isOrdinary) [
       | true ↦ token (Atom p (atomEnd (suc (length text)) text end p)) (after (atomEnd (suc (length text)) text end p) end Nothing)
-      | false ↦ elim (eqb (kindAt (first (drop p text))) 2) [
+      | false ↦ elim (eqb (kindAt (first (drop p text))) isOpening) [
         | true ↦ token Opening (after (p + width (first (drop p text))) end Nothing)
-        | false ↦ elim (eqb (kindAt (first (drop p text))) 3) [
+        | false ↦ elim (eqb (kindAt (first (drop p text))) isClosing) [
           | true ↦ token Closing (after (p + width (first (drop p text))) end Nothing)
           | false ↦ refused (number notUtf8)
         ]

@@ -8,13 +8,28 @@ use lib.ListN.{length}
 use Rattle.horn.specs.Utf8.{Range, range, Sequence, sequence, sequences, startedBy}
 use Rattle.horn.specs.Tokens.{Kind, blank, opens, closes, comments, ordinary, kind}
 
--- The classes 0 to 4: characters of one byte, by their kind.
+-- The classes of bytes that are a character, which are also the kinds of all characters.
+abbrev pub isOrdinary : ℕ
+isOrdinary = 0
+
+abbrev pub isWhite : ℕ
+isWhite = 1
+
+abbrev pub isOpening : ℕ
+isOpening = 2
+
+abbrev pub isClosing : ℕ
+isClosing = 3
+
+abbrev pub isComment : ℕ
+isComment = 4
+
 unfoldable pub kindNumber : Kind → ℕ
-kindNumber ordinary = 0
-kindNumber blank = 1
-kindNumber opens = 2
-kindNumber closes = 3
-kindNumber comments = 4
+kindNumber ordinary = isOrdinary
+kindNumber blank = isWhite
+kindNumber opens = isOpening
+kindNumber closes = isClosing
+kindNumber comments = isComment
 
 -- The class of bytes that begin no character.
 abbrev pub never : ℕ

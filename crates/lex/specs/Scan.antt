@@ -5,6 +5,7 @@ use mathlib.Core.Bool.{Bool, true, false}
 use mathlib.Core.List.{List}
 use lib.Dec.{eqb, ltb}
 use lib.ListN.{length, getD, drop}
+use Rattle.lex.specs.Classes.{isOrdinary, isWhite, isComment}
 use Rattle.lex.specs.Characters.{first, width, kindAt}
 use Rattle.lex.specs.declared.Line.{Line}
 use Rattle.lex.specs.declared.Line.the-variants.{Good, Bad}
@@ -15,9 +16,9 @@ blanks zero text end p = p
 blanks (suc fuel) text end p =
     elim (ltb p end) [
       | false ↦ p
-      | true ↦ elim (eqb (kindAt (first (drop p text))) 1) [
+      | true ↦ elim (eqb (kindAt (first (drop p text))) isWhite) [
         | true ↦ blanks fuel text end (p + width (first (drop p text)))
-        | false ↦ elim (eqb (kindAt (first (drop p text))) 4) [ true ↦ end | false ↦ p ]
+        | false ↦ elim (eqb (kindAt (first (drop p text))) isComment) [ true ↦ end | false ↦ p ]
       ]
     ]
 
@@ -27,7 +28,7 @@ atomEnd zero text end p = p
 atomEnd (suc fuel) text end p =
     elim (ltb p end) [
       | false ↦ p
-      | true ↦ elim (eqb (kindAt (first (drop p text))) 0) [
+      | true ↦ elim (eqb (kindAt (first (drop p text))) isOrdinary) [
         | true ↦ atomEnd fuel text end (p + width (first (drop p text)))
         | false ↦ p
       ]

@@ -2,7 +2,32 @@
 ghost use mathlib.Core.Path.{_≡_};
 ghost use Rattle.lex.specs.Classes.{classOf, lowOf, highOf, table};
 
-// 0 ordinary, 1 white, 2 `(`, 3 `)`, 4 `;`, 5 never a first byte, 6 to 12 first bytes of longer characters.
+// Classes of bytes that are a character, which are also the kinds of all characters (specs/Classes.antt says the same of the models).
+pub const ORDINARY: u8 = 0;
+
+pub const WHITE: u8 = 1;
+
+pub const OPENS: u8 = 2;
+
+pub const CLOSES: u8 = 3;
+
+pub const COMMENTS: u8 = 4;
+
+// Never a first byte; as a kind, no character.
+pub const NEVER: u8 = 5;
+
+// First bytes of longer characters: C2 to DF; E0; E1 to EC, EE, EF; ED; F0; F1 to F3; F4.
+pub const LEADS_TWO: u8 = 6;
+
+pub const LEADS_E0: u8 = 7;
+
+pub const LEADS_ED: u8 = 9;
+
+pub const LEADS_F0: u8 = 10;
+
+pub const LEADS_F4: u8 = 12;
+
+// The class of each byte: those above, 8 for E1 to EC, EE and EF, 11 for F1 to F3.
 const CLASSES: [u8; 256] = [
     0,
     0,
@@ -281,10 +306,10 @@ pub fn class(classes: &[u8; 256], b: u8) -> u8
 pub fn low(c: u8) -> u8
     ensures { λ r. ⌜ r ≡ lowOf c ⌝ }
 {
-    if c == 7 {
+    if c == LEADS_E0 {
         return 0xA0;
     }
-    if c == 10 {
+    if c == LEADS_F0 {
         return 0x90;
     }
     0x80
@@ -294,10 +319,10 @@ pub fn low(c: u8) -> u8
 pub fn high(c: u8) -> u8
     ensures { λ r. ⌜ r ≡ highOf c ⌝ }
 {
-    if c == 9 {
+    if c == LEADS_ED {
         return 0x9F;
     }
-    if c == 12 {
+    if c == LEADS_F4 {
         return 0x8F;
     }
     0xBF

@@ -51,10 +51,10 @@ fn skip_blanks(classes: &[u8; 256], text: &[u8], end: usize, p: usize) -> usize
     while q < end {
         let seen = utf8::look(classes, text, q);
         let kind = seen.kind;
-        if kind == 4 {
+        if kind == classes::COMMENTS {
             return end;
         }
-        if kind != 1 {
+        if kind != classes::WHITE {
             return q;
         }
         q += seen.width;
@@ -71,7 +71,7 @@ fn atom_end(classes: &[u8; 256], text: &[u8], end: usize, p: usize) -> usize
     while q < end {
         let seen = utf8::look(classes, text, q);
         let kind = seen.kind;
-        if kind != 0 {
+        if kind != classes::ORDINARY {
             return q;
         }
         q += seen.width;
@@ -107,7 +107,7 @@ fn token_at(classes: &[u8; 256], text: &[u8], end: usize, p: usize) -> Read
     let seen = utf8::look(classes, text, p);
     let kind = seen.kind;
     let width = seen.width;
-    if kind == 0 {
+    if kind == classes::ORDINARY {
         let q = atom_end(classes, text, end, p);
         return Read::Got(
             Token::Atom(p, q),
@@ -118,7 +118,7 @@ fn token_at(classes: &[u8; 256], text: &[u8], end: usize, p: usize) -> Read
             },
         );
     }
-    if kind == 2 {
+    if kind == classes::OPENS {
         return Read::Got(
             Token::Opening,
             Reader {
@@ -128,7 +128,7 @@ fn token_at(classes: &[u8; 256], text: &[u8], end: usize, p: usize) -> Read
             },
         );
     }
-    if kind == 3 {
+    if kind == classes::CLOSES {
         return Read::Got(
             Token::Closing,
             Reader {

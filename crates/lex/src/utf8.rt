@@ -6,6 +6,7 @@ ghost use Rattle.horn.specs.Tokens.{white, kind};
 ghost use Rattle.horn.specs.Utf8.{within, range};
 ghost use Rattle.lex.specs.Classes.{kindNumber, table};
 ghost use Rattle.lex.specs.Characters.{first, longerBy, width, value, kindAt};
+use crate::classes;
 
 // A character's width in bytes, 0 where there is none, and its value.
 pub struct Character {
@@ -19,6 +20,7 @@ pub struct Seen {
     pub width: usize,
 }
 
+// Whether a value lies in a range.
 pub fn between(low: u32, v: u32, high: u32) -> bool
     ensures { λ r. ⌜ r ≡ within (range low high) v ⌝ }
 {
@@ -70,33 +72,35 @@ pub fn kind_of(v: u32) -> u8
     ensures { λ r. ⌜ r ≡ kindNumber (kind v) ⌝ }
 {
     if is_white(v) {
-        return 1;
+        return classes::WHITE;
     }
     if v == 0x28 {
-        return 2;
+        return classes::OPENS;
     }
     if v == 0x29 {
-        return 3;
+        return classes::CLOSES;
     }
     if v == 0x3B {
-        return 4;
+        return classes::COMMENTS;
     }
-    0
+    classes::ORDINARY
 }
 
-// The values of characters of two, three and four bytes.
+// The value of a character of two bytes.
 fn two(a: u8, b: u8) -> u32
     ensures { λ r. ⌜ r ≡ a % 32 * 64 + b % 64 ⌝ }
 {
     (a % 32) as u32 * 64 + (b % 64) as u32
 }
 
+// Of three bytes.
 fn three(a: u8, b: u8, c: u8) -> u32
     ensures { λ r. ⌜ r ≡ (a % 16 * 64 + b % 64) * 64 + c % 64 ⌝ }
 {
     ((a % 16) as u32 * 64 + (b % 64) as u32) * 64 + (c % 64) as u32
 }
 
+// Of four bytes.
 fn four(a: u8, b: u8, c: u8, d: u8) -> u32
     ensures { λ r. ⌜ r ≡ ((a % 8 * 64 + b % 64) * 64 + c % 64) * 64 + d % 64 ⌝ }
 {
@@ -113,32 +117,32 @@ pub fn first_of(classes: &[u8; 256], s: &[u8]) -> Character
         return Character { width: 0, value: 0 };
     }
     let b = s[0];
-    let c = crate::classes::class(classes, b);
-    if c < 5 {
+    let c = classes::class(classes, b);
+    if c < classes::NEVER {
         return Character {
             width: 1,
             value: b as u32,
         };
     }
-    if c == 5 {
+    if c == classes::NEVER {
         return Character { width: 0, value: 0 };
     }
     longer(s, b, c)
 }
 
-// The first character of some bytes whose first byte has a class above 5.
+// The first character of some bytes whose first byte leads longer ones.
 fn longer(s: &[u8], b: u8, c: u8) -> Character
     ensures wide { λ r. ⌜ r .width ≡ width (longerBy c b (now (s .entry))) ⌝ }
     ensures valued { λ r. ⌜ r .value ≡ value (longerBy c b (now (s .entry))) ⌝ }
 {
     let second = words::byte(s, 1);
-    if second < crate::classes::low(c) {
+    if second < classes::low(c) {
         return Character { width: 0, value: 0 };
     }
-    if crate::classes::high(c) < second {
+    if classes::high(c) < second {
         return Character { width: 0, value: 0 };
     }
-    if c == 6 {
+    if c == classes::LEADS_TWO {
         return Character {
             width: 2,
             value: two(b, second),
@@ -151,7 +155,7 @@ fn longer(s: &[u8], b: u8, c: u8) -> Character
     if 0xBF < third {
         return Character { width: 0, value: 0 };
     }
-    if c < 10 {
+    if c < classes::LEADS_F0 {
         return Character {
             width: 3,
             value: three(b, second, third),
@@ -177,15 +181,21 @@ pub fn look(classes: &[u8; 256], text: &[u8], p: usize) -> Seen
     ensures wide { λ r. ⌜ r .width ≡ width (first (drop p (now (text .entry)))) ⌝ }
 {
     if text.len() <= p {
-        return Seen { kind: 5, width: 0 };
+        return Seen {
+            kind: classes::NEVER,
+            width: 0,
+        };
     }
-    let c = crate::classes::class(classes, text[p]);
-    if c < 5 {
+    let c = classes::class(classes, text[p]);
+    if c < classes::NEVER {
         return Seen { kind: c, width: 1 };
     }
     let found = first_of(classes, &text[p..]);
     if found.width == 0 {
-        return Seen { kind: 5, width: 0 };
+        return Seen {
+            kind: classes::NEVER,
+            width: 0,
+        };
     }
     let kind = kind_of(found.value);
     Seen {

@@ -58,7 +58,8 @@ module _ (nodes limit places : ℕ) where
     pub building-first : argumentsBuilt nodes limit places one n from o p stack store ≡ argumentsBuilt nodes limit places one (n - 0) from o p stack store
     building-first = let e : n - 0 ≡ n = omega arith in rw e
 
-    pub building-on : (j : ℕ) {r : Built} {k o′ p′ : ℕ} {stack′ stack″ store′ : List ℕ} → j < n → (built r leaving (store′, stack′)) ≡ one o p stack store → r ≡ Term k o′
+    pub building-on : (j : ℕ) {r : Built} {k o′ p′ : ℕ} {stack′ stack″ store′ : List ℕ} → j < n → (built r leaving (store′, stack′)) ≡ one o p stack store
+        → r ≡ Term k o′
         → p′ ≡ sum32 p 1
         → stack″ ≡ set stack′ p k
         → argumentsBuilt nodes limit places one (n - j) from o p stack store ≡ argumentsBuilt nodes limit places one (n - (j + 1)) from o′ p′ stack″ store′
@@ -70,7 +71,8 @@ module _ (nodes limit places : ℕ) where
     unfolding argumentsBuilt
     building-refused j l h = let e : n - j ≡ suc (n - (j + 1)) = omega arith in rw (e, h)
 
-    pub building-end : (j : ℕ) → n ≤ j → argumentsBuilt nodes limit places one (n - j) from o p stack store ≡ before stack (nodeMade nodes limit places from p o stack store)
+    pub building-end : (j : ℕ) → n ≤ j
+        → argumentsBuilt nodes limit places one (n - j) from o p stack store ≡ before stack (nodeMade nodes limit places from p o stack store)
     unfolding argumentsBuilt
     building-end j l = let e : n - j ≡ 0 = omega arith in rw e
 
@@ -80,7 +82,8 @@ module _ (nodes places : ℕ) (store table stack : List ℕ) (steps n : ℕ) (o 
 
   pub premises-on : (k : ℕ) {o′ : ℕ} {heap′ : List ℕ} → k < n → getD stack k 0 < steps
       → matched nodes places store 16384 o (stepJudgment table (getD stack k 0)) heap ≡ (some o′ keeping heap′)
-      → premisesMatched nodes places store table stack steps (n - k) k o heap ≡ premisesMatched nodes places store table stack steps (n - (k + 1)) (k + 1) o′ heap′
+      → premisesMatched nodes places store table stack steps (n - k) k o heap ≡ premisesMatched nodes places store table stack steps (n - (k + 1))
+      (k + 1) o′ heap′
   unfolding premisesMatched
   premises-on k l b h = let e : n - k ≡ suc (n - (k + 1)) = omega arith in rw (e, lt-ltb _ _ b, h)
 

@@ -24,6 +24,10 @@ use Rattle.matching.specs.declared.Premises.the-variants as premises
 use Rattle.matching.specs.declared.Concluded.{Concluded}
 use Rattle.matching.specs.declared.Concluded.the-variants as conclusions
 
+-- The levels that a pattern may have: the words of the theory's area.
+abbrev pub levels : ℕ
+levels = 16384
+
 -- What a match answers, with the bindings that it leaves: nothing is refused yet, since 01's number for a mismatch, 23 or 25, is its caller's.
 pub data Tried (A : Type 0) : Type 0 where
   _keeping_ : Option A → List ℕ → Tried A
@@ -127,7 +131,7 @@ unfoldable pub premisesMatched : ℕ → ℕ → List ℕ → List ℕ → List 
 premisesMatched nodes places store table stack steps zero k o heap = ok o leaving heap
 premisesMatched nodes places store table stack steps (suc n) k o heap =
     leaving._>>=_ (need (ltb (getD stack k 0) steps) 24 leaving heap) λ _.
-    leaving._>>=_ (orRefused (matched nodes places store 16384 o (stepJudgment table (getD stack k 0)) heap) 25) λ r.
+    leaving._>>=_ (orRefused (matched nodes places store levels o (stepJudgment table (getD stack k 0)) heap) 25) λ r.
     premisesMatched nodes places store table stack steps n (k + 1) (r .0) (r .1)
 
 -- The first n bindings taken back.
@@ -138,7 +142,7 @@ unbound (suc n) heap = unbound n (set heap (bindingAt n) 0)
 -- "The stated conclusion (23); for each premise in order, no earlier step 24, mismatch 25".
 unfoldable pub statedConcluded : ℕ → ℕ → List ℕ → List ℕ → List ℕ → ℕ → ℕ → ℕ → List ℕ → Did (List ℕ) ℕ
 statedConcluded nodes places store table stack steps rule t heap =
-    leaving._>>=_ (orRefused (matched nodes places store 16384 (conclusionPlace heap rule) t heap) 23) λ r.
+    leaving._>>=_ (orRefused (matched nodes places store levels (conclusionPlace heap rule) t heap) 23) λ r.
     leaving._>>=_ (premisesMatched nodes places store table stack steps (premiseCount heap rule) 0 (premisesPlace rule) (r .1)) λ q.
     ok t leaving q .1
 
@@ -146,7 +150,7 @@ statedConcluded nodes places store table stack steps rule t heap =
 unfoldable pub builtConcluded : ℕ → ℕ → ℕ → List ℕ → ℕ → ℕ → List ℕ → List ℕ → List ℕ → Did (Areas × List ℕ) ℕ
 builtConcluded nodes limit places table steps rule stack store heap =
     leaving._>>=_ (beside (store, stack) (premisesMatched nodes places store table stack steps (premiseCount heap rule) 0 (premisesPlace rule) heap)) λ r.
-    leaving._>>=_ (before (r .1 .1) (termBuilt nodes limit places (r .1 .1) 16384 (r .0) (premiseCount heap rule) (r .1 .0 .1) (r .1 .0 .0))) λ b.
+    leaving._>>=_ (before (r .1 .1) (termBuilt nodes limit places (r .1 .1) levels (r .0) (premiseCount heap rule) (r .1 .0 .1) (r .1 .0 .0))) λ b.
     ok (b .0 .0) leaving b .1
 
 unfoldable pub stepConcluded : ℕ → ℕ → ℕ → List ℕ → ℕ → ℕ → ℕ → List ℕ → List ℕ → List ℕ → Did (Areas × List ℕ) ℕ

@@ -10,6 +10,9 @@ ghost use Rattle.matching.specs.Matching as models;
 use arena::Answer;
 use items::places;
 
+// The levels that a pattern may have: the words of the theory's area.
+const LEVELS: u32 = 16384;
+
 // Where a pattern that matched ends.
 pub enum Matched {
     To(u32),
@@ -28,6 +31,7 @@ pub enum Premises {
     Refused(u32),
 }
 
+// The number of its refusal, 0 where there is none.
 pub fn built_refusal(r: Built) -> u32
     ensures { λ n. ⌜ n ≡ refusal (models.built r) ⌝ }
 {
@@ -153,7 +157,8 @@ pub fn build(
     p: u32,
     left: u32,
 ) -> Built
-    ensures { λ r. ⌜ (models.built r leaving (now (store .exit), now (stack .exit))) ≡ models.termBuilt nodes limit places (now (heap .entry)) left o p (now (stack .entry)) (now (store .entry)) ⌝ }
+    ensures { λ r. ⌜ (models.built r leaving (now (store .exit), now (stack .exit)))
+        ≡ models.termBuilt nodes limit places (now (heap .entry)) left o p (now (stack .entry)) (now (store .entry)) ⌝ }
 {
     if left == 0 {
         return Built::Refused(26);
@@ -207,7 +212,8 @@ pub fn match_premises(
     premises: u32,
     o: u32,
 ) -> Premises
-    ensures { λ r. ⌜ (models.ended r leaving now (heap .exit)) ≡ models.premisesMatched nodes places (now (store .entry)) (now (table .entry)) (now (stack .entry)) steps premises 0 o (now (heap .entry)) ⌝ }
+    ensures { λ r. ⌜ (models.ended r leaving now (heap .exit))
+        ≡ models.premisesMatched nodes places (now (store .entry)) (now (table .entry)) (now (stack .entry)) steps premises 0 o (now (heap .entry)) ⌝ }
 {
     let mut place = o;
     let mut k: u32 = 0;
@@ -217,7 +223,7 @@ pub fn match_premises(
             return Premises::Refused(24);
         }
         let t = step_judgment(table, reference);
-        let m = matches(store, heap, nodes, places, place, t, 16384);
+        let m = matches(store, heap, nodes, places, place, t, LEVELS);
         let Matched::To(next) = m else {
             return Premises::Refused(25);
         };
@@ -244,6 +250,7 @@ pub enum Concluded {
     Refused(u32),
 }
 
+// The number of its refusal, 0 where there is none.
 pub fn premises_refusal(r: Premises) -> u32
     ensures { λ n. ⌜ n ≡ refusal (models.ended r) ⌝ }
 {
@@ -265,12 +272,13 @@ pub fn conclude_stated(
     rule: u32,
     t: u32,
 ) -> Concluded
-    ensures { λ r. ⌜ (models.concluded r leaving now (heap .exit)) ≡ models.statedConcluded nodes places (now (store .entry)) (now (table .entry)) (now (stack .entry)) steps rule t (now (heap .entry)) ⌝ }
+    ensures { λ r. ⌜ (models.concluded r leaving now (heap .exit))
+        ≡ models.statedConcluded nodes places (now (store .entry)) (now (table .entry)) (now (stack .entry)) steps rule t (now (heap .entry)) ⌝ }
 {
     let premises = theory_reading::premise_count(heap, rule);
     let first = theory_reading::premises(rule);
     let c = theory_reading::conclusion(heap, rule);
-    let m = matches(store, heap, nodes, places, c, t, 16384);
+    let m = matches(store, heap, nodes, places, c, t, LEVELS);
     let Matched::To(_) = m else {
         return Concluded::Refused(23);
     };
@@ -303,7 +311,8 @@ pub fn conclude_built(
     steps: u32,
     rule: u32,
 ) -> Concluded
-    ensures { λ r. ⌜ (models.concluded r leaving ((now (store .exit), now (stack .exit)), now (heap .exit))) ≡ models.builtConcluded nodes limit places (now (table .entry)) steps rule (now (stack .entry)) (now (store .entry)) (now (heap .entry)) ⌝ }
+    ensures { λ r. ⌜ (models.concluded r leaving ((now (store .exit), now (stack .exit)), now (heap .exit)))
+        ≡ models.builtConcluded nodes limit places (now (table .entry)) steps rule (now (stack .entry)) (now (store .entry)) (now (heap .entry)) ⌝ }
 {
     let premises = theory_reading::premise_count(heap, rule);
     let first = theory_reading::premises(rule);
@@ -321,7 +330,17 @@ pub fn conclude_built(
     let Premises::To(o) = p else {
         return Concluded::Refused(premises_refusal(p));
     };
-    let b = build(store, stack, heap, nodes, limit, places, o, premises, 16384);
+    let b = build(
+        store,
+        stack,
+        heap,
+        nodes,
+        limit,
+        places,
+        o,
+        premises,
+        LEVELS,
+    );
     let Built::Term(k, _) = b else {
         return Concluded::Refused(built_refusal(b));
     };
@@ -341,7 +360,8 @@ pub fn conclude(
     rule: u32,
     stated: u32,
 ) -> Concluded
-    ensures { λ r. ⌜ (models.concluded r leaving ((now (store .exit), now (stack .exit)), now (heap .exit))) ≡ models.stepConcluded nodes limit places (now (table .entry)) steps rule stated (now (stack .entry)) (now (store .entry)) (now (heap .entry)) ⌝ }
+    ensures { λ r. ⌜ (models.concluded r leaving ((now (store .exit), now (stack .exit)), now (heap .exit)))
+        ≡ models.stepConcluded nodes limit places (now (table .entry)) steps rule stated (now (stack .entry)) (now (store .entry)) (now (heap .entry)) ⌝ }
 {
     if stated == 0 {
         return conclude_built(store, table, stack, heap, nodes, limit, places, steps, rule);

@@ -56,7 +56,8 @@ module _ {es : Entries} {th : Theory} where
     unfolding bindingOf
     binds-more v k name t n free long l = record { each = each }
       where
-        each : (w : ℕ) (other : Name) → Nth vs w other → Bound es th ts (bindingOf (set now (bindingAt v) (k + 1)) w) (lookup other (binds ++ (bind name t ∷ [])))
+        each : (w : ℕ) (other : Name) → Nth vs w other
+            → Bound es th ts (bindingOf (set now (bindingAt v) (k + 1)) w) (lookup other (binds ++ (bind name t ∷ [])))
         each w other m =
             by-number w v
             (λ q.

@@ -43,7 +43,8 @@ pub record ConcludedTo (es : Entries) (th : Theory) (heap : List ℕ) (limits : 
   pub long : length (areas .0 .1) ≡ 16384
 
 -- Each pattern has a word.
-list-width : {heap : List ℕ} {es : Entries} {bound low high : ℕ} {vs : List Variable} {o o′ : ℕ} {ps : List Pattern} → FlatList heap es bound low high vs o ps o′
+list-width : {heap : List ℕ} {es : Entries} {bound low high : ℕ} {vs : List Variable} {o o′ : ℕ} {ps : List Pattern}
+    → FlatList heap es bound low high vs o ps o′
     → o + length ps ≤ o′
 list-width no-premises = omega arith
 list-width (one-premise p ps) = let x = flat-rises p in let y = list-width ps in omega arith
@@ -54,12 +55,14 @@ unfolding checker._>>=_ lift results._>>=_
 lift-then (ok a) f ts = refl
 lift-then (refused r) f ts = refl
 
-built-defined : (limits : Setting) (th : Theory) (steps : List Step) (name : Name) (vs : List Variable) (ps : List Pattern) (c : Pattern) (refs : List ℕ) (binds : List Bind) (ts : Store)
+built-defined : (limits : Setting) (th : Theory) (steps : List Step) (name : Name) (vs : List Variable) (ps : List Pattern) (c : Pattern) (refs : List ℕ)
+    (binds : List Bind) (ts : Store)
     → conclude limits th steps (rule name vs ps c) refs (given binds none) ts ≡ results._>>=_ (matchPremises steps ps refs binds) λ more. build limits more c ts
 unfolding conclude premisesOf conclusionOf
 built-defined limits th steps name vs ps c refs binds ts = lift-then (matchPremises steps ps refs binds) (λ more. build limits more c) ts
 
-stated-defined : (limits : Setting) (th : Theory) (steps : List Step) (name : Name) (vs : List Variable) (ps : List Pattern) (c : Pattern) (refs : List ℕ) (binds : List Bind) (j : Term) (ts : Store)
+stated-defined : (limits : Setting) (th : Theory) (steps : List Step) (name : Name) (vs : List Variable) (ps : List Pattern) (c : Pattern) (refs : List ℕ)
+    (binds : List Bind) (j : Term) (ts : Store)
     → conclude limits th steps (rule name vs ps c) refs (given binds (some j)) ts
     ≡ results._>>=_ (found (match c j binds) badConclusion) λ more. checker._>>=_ (lift (matchPremises steps ps refs more)) (λ _. give j) ts
 unfolding conclude premisesOf conclusionOf
@@ -72,11 +75,13 @@ module _ {text heap : List ℕ} {es : Entries} {top : ℕ} {th : Theory} (h : Ho
     {table stack : List ℕ} (long : length stack ≡ 16384) {steps : List Step} (sa : StepsAt es th ts table steps)
     {refs : List ℕ} (at-refs : ReferencesAt stack 0 refs)
     {now : List ℕ} (keep : Keeps 12288 heap now) {binds : List Bind} where
-  rule-concluded : {e : ℕ} {name : Name} {vs : List Variable} {ps : List Pattern} {c : Pattern} → RuleWords text heap es top e name vs ps c → RuleReady (rule name vs ps c)
+  rule-concluded : {e : ℕ} {name : Name} {vs : List Variable} {ps : List Pattern} {c : Pattern} → RuleWords text heap es top e name vs ps c
+      → RuleReady (rule name vs ps c)
       → length refs ≡ length ps
       → Binds es th ts vs now binds
       → {word : ℕ} {stated : Option Term} → Bound es th ts word stated
-      → Simulates (ConcludedTo es th heap limits places ts) (stepConcluded (limits .nodes) (limits .nodeWords) places table (length steps) e word stack store now)
+      → Simulates (ConcludedTo es th heap limits places ts)
+      (stepConcluded (limits .nodes) (limits .nodeWords) places table (length steps) e word stack store now)
       (conclude limits th steps (rule name vs ps c) refs (given binds stated) ts)
   unfolding stepConcluded builtConcluded statedConcluded premiseCount premisesPlace conclusionPlace premisesOf conclusionOf variablesOf number give
   rule-concluded {e} {name} {vs} {ps} {c} w ready count bs {word} (not-bound z) =
@@ -119,7 +124,8 @@ module _ {text heap : List ℕ} {es : Entries} {top : ℕ} {th : Theory} (h : Ho
   pub step-concluded : {e : ℕ} {r : Rule} → RuleAt text heap es top e r → RuleReady r → length refs ≡ length (premisesOf r)
       → Binds es th ts (variablesOf r) now binds
       → {word : ℕ} {stated : Option Term} → Bound es th ts word stated
-      → Simulates (ConcludedTo es th heap limits places ts) (stepConcluded (limits .nodes) (limits .nodeWords) places table (length steps) e word stack store now)
+      → Simulates (ConcludedTo es th heap limits places ts)
+      (stepConcluded (limits .nodes) (limits .nodeWords) places table (length steps) e word stack store now)
       (conclude limits th steps r refs (given binds stated) ts)
   unfolding premisesOf variablesOf
   step-concluded (rule-at w) ready count bs b = rule-concluded w ready count bs b

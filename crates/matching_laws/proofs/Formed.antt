@@ -16,7 +16,8 @@ mutual
   sorted-full (a-variable m) = full-variable
   sorted-full (a-term m ps) = let (w, f) = all-full ps in full-symbol w f
 
-  pub all-full : {symbols : List Symbol} {vs : List Variable} {ss : List Name} {ps : Patterns} → AllSorted symbols vs ss ps → (widthOf ps ≡ length ss) × Fulls ps
+  pub all-full : {symbols : List Symbol} {vs : List Variable} {ss : List Name} {ps : Patterns} → AllSorted symbols vs ss ps
+      → (widthOf ps ≡ length ss) × Fulls ps
   all-full no-pattern = (refl, full-none)
   all-full (pattern-then p ps) = let (w, f) = all-full ps in (ap suc w, full-next (sorted-full p) f)
 

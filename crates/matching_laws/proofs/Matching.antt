@@ -38,7 +38,8 @@ use Rattle.matching_laws.proofs.Bindings.{binds-more}
 -- rulebook was read.
 pub data Matching (es : Entries) (th : Theory) (heap : List ℕ) (ts : List Term) (vs : List Variable) (end : ℕ) : Tried ℕ → Option (List Bind) → Type 0 where
   both-differ : {now : List ℕ} → Keeps 12288 heap now → Matching es th heap ts vs end (none keeping now) none
-  both-match : {now : List ℕ} {binds : List Bind} → Keeps 12288 heap now → Binds es th ts vs now binds → Matching es th heap ts vs end (some end keeping now) (some binds)
+  both-match : {now : List ℕ} {binds : List Bind} → Keeps 12288 heap now → Binds es th ts vs now binds
+      → Matching es th heap ts vs end (some end keeping now) (some binds)
 
 -- One after the other.
 pub match-next : {es : Entries} {th : Theory} {heap : List ℕ} {ts : List Term} {vs : List Variable} {middle end : ℕ} {x : Tried ℕ} {y : Option (List Bind)}
@@ -116,7 +117,8 @@ module _ {text heap : List ℕ} {es : Entries} {top : ℕ} {th : Theory} (h : Ho
       pattern-matches {o} (flat-variable {v} {name} l u e n q) full-variable (suc left) t le b {now} {binds} k bs =
           let w : getD now o 0 ≡ 16384 + v = k .words o (omega arith) ∙ e in
           let m : 16384 + v - 16384 ≡ v = omega arith in
-          rw (q, w, le-leb 16384 (16384 + v) (omega arith), m, match-variable name (treeOf (symbolAt es th) ts t) binds) (variable-matches k bs v t o name n b (omega arith) refl (bs .each v name n))
+          rw (q, w, le-leb 16384 (16384 + v) (omega arith), m, match-variable name (treeOf (symbolAt es th) ts t) binds)
+          (variable-matches k bs v t o name n b (omega arith) refl (bs .each v name n))
       pattern-matches (flat-symbol l u a r) (full-symbol w f) zero t le b k bs = absurd (omega arith)
       pattern-matches {o} (flat-symbol {c} {ps} l u a r) (full-symbol wide f) (suc left) t le b {now} {binds} k bs =
           let (below, above) = symbol-below h a in
@@ -138,7 +140,8 @@ module _ {text heap : List ℕ} {es : Entries} {top : ℕ} {th : Theory} (h : Ho
           → ((i : ℕ) → i < length ms → argumentOf store (limits .nodes) places t (j + i) ≡ getD ms i 0)
           → Below (length ts) ms
           → {now : List ℕ} {binds : List Bind} → Keeps 12288 heap now → Binds es th ts vs now binds
-          → Matching es th heap ts vs o′ (argumentsMatched (limits .nodes) places store (matched (limits .nodes) places store left) (widthOf ps) t j o now) (matches ps (lookups (symbolAt es th) ts ms) binds)
+          → Matching es th heap ts vs o′ (argumentsMatched (limits .nodes) places store (matched (limits .nodes) places store left) (widthOf ps) t j o now)
+          (matches ps (lookups (symbolAt es th) ts ms) binds)
       patterns-match no-flats full-none left t j [] e le read below {binds = binds} k bs = rw (matches-none binds) (both-match k bs)
       patterns-match no-flats full-none left t j (m ∷ ms) e le read below k bs = absurd (omega arith)
       patterns-match (one-flat p ps) (full-next x xs) left t j [] e le read below k bs = absurd (omega arith)

@@ -21,7 +21,7 @@ use Rattle.outcomes.specs.Simulation.{Simulates, refuse, leave}
 use Rattle.theory_laws.proofs.Frames.{Keeps}
 use Rattle.horn.proofs.SoundnessWords.{Apart}
 use Rattle.theory_reading.proofs.Stored.{Stored}
-use Rattle.tables.proofs.Areas.{beyond}
+use Rattle.facts.proofs.Lists.{beyond}
 use Rattle.matching.specs.Matching.{Tried, orRefused, stepJudgment, premisesMatched}
 use Rattle.matching_laws.proofs.Relations.{Full, Binds, StepsAt, Saturates, as-it-is, at-most, ReferencesAt, no-references, one-reference}
 use Rattle.matching_laws.proofs.Matching.{Matching, both-differ, both-match, pattern-matches}
@@ -49,7 +49,8 @@ neither : {S A C D : Type 0} {R : C → S → D → Type 0} {b : Bool} {y : Opti
 unfolding found _>>=_
 neither s n r f f′ e b y = rw (b, y) (refuse e)
 
-each-one : {S A C D : Type 0} {R : C → S → D → Type 0} {b : Bool} {y : Option A} {a : A} (s : S) (n : ℕ) (r : Refusal) (f : Unit {0} × S → Did S C) (f′ : A → Result D)
+each-one : {S A C D : Type 0} {R : C → S → D → Type 0} {b : Bool} {y : Option A} {a : A} (s : S) (n : ℕ) (r : Refusal) (f : Unit {0} × S → Did S C)
+    (f′ : A → Result D)
     → b ≡ true → y ≡ some a → Simulates R (f (tt, s)) (f′ a) → Simulates R (leaving._>>=_ (outcomes.need b n leaving s) f) (found y r >>= f′)
 unfolding found _>>=_
 each-one s n r f f′ b y k = rw (b, y) k
@@ -85,7 +86,8 @@ module _ {text heap : List ℕ} {es : Entries} {top : ℕ} {th : Theory} (h : Ho
       → length ns ≡ length ps
       → ReferencesAt stack k ns
       → {now : List ℕ} {binds : List Bind} → Keeps 12288 heap now → Binds es th ts vs now binds
-      → Simulates (MatchedTo es th heap ts vs o′) (premisesMatched (limits .nodes) places store table stack (length steps) (length ps) k o now) (matchPremises steps ps ns binds)
+      → Simulates (MatchedTo es th heap ts vs o′) (premisesMatched (limits .nodes) places store table stack (length steps) (length ps) k o now)
+      (matchPremises steps ps ns binds)
   unfolding premisesMatched matchPremises number
   premises-match no-premises full e no-references k b = leave record { ends = refl; keeps = k; bound = b }
   premises-match no-premises full e (one-reference r rs) k b = absurd (omega arith)

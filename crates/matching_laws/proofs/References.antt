@@ -21,7 +21,8 @@ saturates n =
     (λ t. rw (t, saturated) (at-most refl (ltb-false n 4294967295 t)))
 
 -- Whatever keeps the words keeps the references.
-pub references-kept : {stack stack′ : List ℕ} {k p : ℕ} {ns : List ℕ} → Keeps p stack stack′ → k + length ns ≤ p → ReferencesAt stack k ns → ReferencesAt stack′ k ns
+pub references-kept : {stack stack′ : List ℕ} {k p : ℕ} {ns : List ℕ} → Keeps p stack stack′ → k + length ns ≤ p → ReferencesAt stack k ns
+    → ReferencesAt stack′ k ns
 references-kept s l no-references = no-references
 references-kept {stack} {stack′} {k} s l (one-reference {n} r rs) =
     let e : getD stack′ k 0 ≡ getD stack k 0 = s .words k (omega arith) in
@@ -29,7 +30,8 @@ references-kept {stack} {stack′} {k} s l (one-reference {n} r rs) =
     one-reference z (references-kept s (omega arith) rs)
 
 -- One more, behind them.
-last : {stack : List ℕ} {k : ℕ} (ns : List ℕ) {n : ℕ} (p : ℕ) → p ≡ k + length ns → ReferencesAt stack k ns → Saturates (getD stack p 0) n → ReferencesAt stack k (ns ++ (n ∷ []))
+last : {stack : List ℕ} {k : ℕ} (ns : List ℕ) {n : ℕ} (p : ℕ) → p ≡ k + length ns → ReferencesAt stack k ns → Saturates (getD stack p 0) n
+    → ReferencesAt stack k (ns ++ (n ∷ []))
 last {stack} {k} [] p e no-references s = let z : p ≡ k = omega arith in one-reference (rw z at s) no-references
 last {stack} {k} (m ∷ ns) p e (one-reference r rs) s = one-reference r (last ns p (omega arith) rs s)
 

@@ -1,27 +1,18 @@
 -- A table of names answers as its list of entries does, whatever else stands in the area. Assumes nothing.
 use mathlib.Core.Path.{_≡_, refl, ap, sym, _∙_}
-use mathlib.Core.Bool.{Bool, true, false}
-use mathlib.Core.List.{List, [], _∷_, List·Memᴰ, List·Memᴰ·head, List·Memᴰ·tail}
-use mathlib.Core.Option.{Option, none, some}
-use Prim.Native.Nat.{ℕ, zero, suc, _+_, _≤_, _<_}
+use mathlib.Core.List.{List, _∷_}
+use mathlib.Core.Option.{some}
+use Prim.Native.Nat.{ℕ, _+_, _≤_, _<_}
 use native.Mathlib.Omega.{arith}
 use borrow.Author.Tests.{eqb-true, eqb-false, eq-eqb, ne-eqb}
 use lib.Dec.{eqb}
-use lib.ListN.{length, getD}
-use Rattle.words.specs.Parts.{sameBytes}
-use Rattle.horn.specs.Names.{Name, named, sameList}
+use lib.ListN.{getD}
+use Rattle.horn.specs.Names.{Name, named}
 use Rattle.horn.proofs.Equality.{case, named-decides, apart, differ}
-use Rattle.names.specs.Chains.{bucketOf, nameAt, before, chased, found}
+use Rattle.facts.proofs.Comparing.{same-named}
+use Rattle.names.specs.Chains.{bucketOf, nameAt, chased, found}
 use Rattle.names.specs.Tables.{Entry, entry, lookup, top, newest, Chained, no-entry, one-more, Table}
 use Rattle.names.proofs.Turns.{bucket-below, before-link, chased-here, chased-on, chased-none}
-
--- The comparison of the code is the definition's.
-same-named : (a b : List ℕ) → sameBytes a b ≡ named a b
-unfolding sameBytes named sameList
-same-named [] [] = refl
-same-named [] (y ∷ b) = refl
-same-named (x ∷ a) [] = refl
-same-named (x ∷ a) (y ∷ b) = case (eqb x y) (λ t. rw (t, sameBytes, sameList) (same-named a b)) (λ t. rw (t, sameBytes, sameList))
 
 -- Names are equal or not, and so are numbers.
 pub by-name {ℓ} : {C : Type ℓ} (a b : Name) → (a ≡ b → C) → ((a ≡ b → ⊥) → C) → C

@@ -1,12 +1,12 @@
 -- What keeps a table of names, and what adds to it. Assumes nothing.
-use mathlib.Core.Path.{_≡_, refl, ap, sym, _∙_}
+use mathlib.Core.Path.{_≡_, refl, sym, _∙_}
 use mathlib.Core.List.{List, [], _∷_, List·Memᴰ, List·Memᴰ·head, List·Memᴰ·tail}
-use Prim.Native.Nat.{ℕ, zero, suc, _+_, _%_, _≤_, _<_}
+use Prim.Native.Nat.{ℕ, _+_, _%_, _≤_, _<_}
 use native.Mathlib.Nat.{mod-eq-of-lt}
 use native.Mathlib.Omega.{arith}
 use lib.ListN.{length, getD, set, length-set}
 use lib.Seq.{getD-set-same, getD-set-other}
-use Rattle.words.specs.Parts.{part, cleared}
+use Rattle.words.specs.Parts.{part}
 use Rattle.horn.specs.Names.{Name}
 use Rattle.names.specs.Chains.{bucketOf, nameAt, linked, added}
 use Rattle.names.specs.Tables.{Entry, entry, top, newest, Chained, no-entry, one-more, Table, Owns, bucket-word, entry-word}
@@ -28,14 +28,6 @@ empty-table {buckets} text p q r z = record {
   heads = λ b h. z (buckets + b) (omega arith) (omega arith);
   chain = no-entry;
 }
-
--- The words of the first n places after they are cleared.
-pub cleared-zero : (n : ℕ) (s : List ℕ) (i : ℕ) → i < n → getD (cleared n s) i 0 ≡ 0
-unfolding cleared
-cleared-zero zero s i h = absurd (omega arith)
-cleared-zero (suc n) [] i h = refl
-cleared-zero (suc n) (w ∷ s) zero h = refl
-cleared-zero (suc n) (w ∷ s) (suc i) h = cleared-zero n s i (omega arith)
 
 module _ {area : List ℕ} {count base : ℕ} {text : List ℕ} where
   -- Each entry stands from `base` on, and below what is free.

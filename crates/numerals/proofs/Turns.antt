@@ -3,7 +3,7 @@ use mathlib.Core.Path.{_≡_, refl, sym, _∙_}
 use mathlib.Core.Bool.{true, false}
 use mathlib.Core.List.{List, [], _∷_}
 use mathlib.Core.Option.{none, some}
-use Prim.Native.Nat.{ℕ, zero, suc, _+_, _*_, _-_, _^_, _/_, _≤_, _<_}
+use Prim.Native.Nat.{ℕ, suc, _+_, _*_, _-_, _^_, _/_, _≤_, _<_}
 use native.Mathlib.Numerals.{add-one}
 use native.Mathlib.Omega.{arith}
 use borrow.Author.Tests.{lt-ltb, le-ltb, lt-leb, le-leb, ltb-true, ltb-false, eq-eqb, ne-eqb}
@@ -13,6 +13,7 @@ use lib.Seq.{drop-cons}
 use Rattle.horn.specs.Utf8.{range, within}
 use Rattle.horn.specs.Checker.{decimal, digits, numeral}
 use Rattle.horn.proofs.Equality.{case}
+use Rattle.facts.proofs.Lists.{beyond}
 use Rattle.numerals.specs.Numbers.{digitsFrom, saturated}
 
 -- A byte that is a digit, and one that is none.
@@ -90,11 +91,6 @@ kept-small n h = rw (lt-ltb _ _ h, saturated)
 pub kept-large : (n : ℕ) → 4294967295 ≤ n → 4294967295 ≡ saturated n
 unfolding saturated
 kept-large n h = rw (le-ltb _ _ h, saturated)
-
-beyond : {A : Type 0} (xs : List A) (n : ℕ) → length xs ≤ n → getElem? xs n ≡ none
-beyond [] n h = refl
-beyond (x ∷ xs) zero h = absurd (omega arith)
-beyond (x ∷ xs) (suc n) h = beyond xs n (omega arith)
 
 -- A reference is never cut: among fewer than 2 to the 32 steps, the saturated number has the same step, or none.
 pub never-cut : {A : Type 0} (xs : List A) (n : ℕ) → length xs ≤ 4294967295 → getElem? xs (saturated n) ≡ getElem? xs n

@@ -1,5 +1,6 @@
 -- What a function of the walk answers: a value, or a refusal by document 01's number.
 use Prim.Native.Nat.{ℕ}
+pub use Rattle.words.specs.Choice.{pick}
 use mathlib.Core.Bool.{Bool, true, false}
 use mathlib.Core.Option.{Option, none, some}
 
@@ -26,8 +27,3 @@ orElse (some a) n = ok a
 abbrev pub refusal : {A : Type 0} → Outcome A → ℕ
 refusal (ok a) = 0
 refusal (refused n) = n
-
--- One of two, by a test.
-abbrev pub pick : {A : Type 0} → Bool → (Unit {0} → A) → (Unit {0} → A) → A
-pick true x y = x tt
-pick false x y = y tt

@@ -106,7 +106,8 @@ unfolding _>>=_
 bind-aside p f f′ (refuse e) k = refuse e
 bind-aside p f f′ (leave q) k = k _ _ _ q
 
-pub checked-aside : {P S A C D E : Type 0} {Q : A → S → C → Type 0} {R : E → P × S → D → Type 0} {m : Did S A} (p : P) (m′ : Result C) (g : C → Bool) (r : Refusal)
+pub checked-aside : {P S A C D E : Type 0} {Q : A → S → C → Type 0} {R : E → P × S → D → Type 0} {m : Did S A} (p : P) (m′ : Result C) (g : C → Bool)
+    (r : Refusal)
     (f : A × (P × S) → Did (P × S) E) (f′ : C → Result D)
     → Simulates Q m (m′ >>= λ c. need (g c) r >>= λ _. ok c)
     → ((a : A) (s : S) (c : C) → Q a s c → Simulates R (f (a, (p, s))) (f′ c))
@@ -118,7 +119,8 @@ checked-aside {Q} {R} {m} p (ok c) g r f f′ h k = by (g c) h where
   by false h = bind-aside p f (λ x. f′ x) h k
 checked-aside p (refused r′) g r f f′ h k = bind-aside p f f′ h k
 
-pub tested-aside : {P S A C D E : Type 0} {Q : A → S → C → Type 0} {R : E → P × S → D → Type 0} {m : Did S A} (p : P) (b : Bool) (r₀ : Refusal) (m′ : Result C) (g : C → Bool) (r : Refusal)
+pub tested-aside : {P S A C D E : Type 0} {Q : A → S → C → Type 0} {R : E → P × S → D → Type 0} {m : Did S A} (p : P) (b : Bool) (r₀ : Refusal) (m′ : Result C)
+    (g : C → Bool) (r : Refusal)
     (f : A × (P × S) → Did (P × S) E) (f′ : C → Result D)
     → Simulates Q m (need b r₀ >>= λ _. m′ >>= λ c. need (g c) r >>= λ _. ok c)
     → ((a : A) (s : S) (c : C) → Q a s c → Simulates R (f (a, (p, s))) (f′ c))

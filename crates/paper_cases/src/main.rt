@@ -3,6 +3,9 @@
 // from the other.
 use lent_calls::Answer;
 use lent_calls::Lengths;
+use lent_calls::number;
+use lent_calls::same;
+use lent_calls::show;
 
 // The case at hand: the lengths of its three texts and of its four areas; and what was counted so far.
 struct State {
@@ -13,35 +16,6 @@ struct State {
     cases: u32,
     runs: u32,
     differences: u32,
-}
-
-fn number(n: u32) {
-    io::write_all(1, b" ");
-    io::print_decimal(1, n as u64);
-}
-
-fn show(x: Answer) {
-    number(x.number);
-    number(x.first);
-    number(x.second);
-    number(x.third);
-    number(x.fourth);
-}
-
-fn same(x: Answer, y: Answer) -> bool {
-    if x.number != y.number {
-        return false;
-    }
-    if x.first != y.first {
-        return false;
-    }
-    if x.second != y.second {
-        return false;
-    }
-    if x.third != y.third {
-        return false;
-    }
-    x.fourth == y.fourth
 }
 
 fn show_difference(alone: bool, s: State, stated: Answer, x: Answer) {
@@ -61,6 +35,7 @@ fn show_difference(alone: bool, s: State, stated: Answer, x: Answer) {
 // One call of a case against the answer that is stated.
 fn compare(alone: bool, s: State, stated: Answer, r: &[u8], g: &[u8], c: &[u8]) -> State {
     let x = lent_calls::answered(
+        lent_calls::garbage(),
         alone,
         s.areas,
         words::bytes_part(r, 0, s.rulebook as usize),

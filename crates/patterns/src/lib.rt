@@ -67,6 +67,7 @@ pub fn arguments(
     items::close(text, v)
 }
 
+// A judgment: "a list (else 7), not empty (8), its head an atom (7) and a predicate (12), its length right (15), then its terms".
 pub fn judgment(text: &[u8], counts: &[u32], vars: &mut [u32], heap: &mut [u32], w: Walk) -> Walked
     ensures { λ r. ⌜ (walked r leaving (now (vars .exit), now (heap .exit))) ≡ judgment (now (text .entry)) (now (counts .entry)) w (now (vars .entry)) (now (heap .entry)) ⌝ }
 {

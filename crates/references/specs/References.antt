@@ -12,7 +12,7 @@ use Rattle.outcomes.specs.Outcomes.{Outcome, ok, refused, need, orElse}
 use Rattle.outcomes.specs.Outcomes as outcomes
 use Rattle.outcomes.specs.Leaving.{Did, _leaving_, _>>=_}
 use Rattle.theory_reading.specs.Reading.{ruleFound, premiseCount}
-use Rattle.asking.specs.Asking.{Ahead, closing, member, atomDue, listDue, closingNext}
+use Rattle.asking.specs.Asking.{inForm, Ahead, closing, member, atomDue, listDue, closingNext}
 use Rattle.references.specs.declared.Indexed.{Indexed}
 use Rattle.references.specs.declared.Indexed.the-variants as numbers
 
@@ -48,11 +48,11 @@ references text r stack = referencesFrom (length text + 1) text 0 r stack
 -- "I (18), not the number of steps so far 19; R 12; list": the rule's address, and the reader after the list's opening.
 unfoldable pub ruleDue : List ℕ → List ℕ → List ℕ → ℕ → Reader → Outcome (ℕ × Reader)
 ruleDue text rules heap steps r =
-    outcomes._>>=_ (numberDue text 256 r) (λ p.
+    outcomes._>>=_ (numberDue text inForm r) (λ p.
     outcomes._>>=_ (need (eqb (p .0) steps) 19) (λ _.
-    outcomes._>>=_ (atomDue text 256 (p .1)) (λ q.
+    outcomes._>>=_ (atomDue text inForm (p .1)) (λ q.
     outcomes._>>=_ (orElse (ruleFound heap rules (part (q .0) (q .1) text)) 12) (λ e.
-    outcomes._>>=_ (listDue text 256 (q .2)) (λ r. ok (e, r))))))
+    outcomes._>>=_ (listDue text inForm (q .2)) (λ r. ok (e, r))))))
 
 -- "List of references, each 18; their count 20".
 unfoldable pub countedReferences : List ℕ → List ℕ → ℕ → Reader → List ℕ → Did (List ℕ) (ℕ × Reader)

@@ -18,6 +18,7 @@ pub enum Indexed {
     Refused(u32),
 }
 
+// The number of its refusal, 0 where there is none.
 pub fn indexed_refusal(r: Indexed) -> u32
     ensures { λ n. ⌜ n ≡ refusal (models.indexed r) ⌝ }
 {
@@ -72,14 +73,14 @@ pub fn references(text: &[u8], stack: &mut [u32], reader: Reader) -> Numbered
 pub fn rule_due(text: &[u8], rules: &[u8], heap: &[u32], steps: u32, reader: Reader) -> Numbered
     ensures { λ r. ⌜ numbered r ≡ models.ruleDue (now (text .entry)) (now (rules .entry)) (now (heap .entry)) steps reader ⌝ }
 {
-    let n = number_due(text, 256, reader);
+    let n = number_due(text, asking::IN_FORM, reader);
     let Indexed::Got(i, q) = n else {
         return Numbered::Refused(indexed_refusal(n));
     };
     if i != steps as u64 {
         return Numbered::Refused(19);
     }
-    let a = asking::atom_due(text, 256, q);
+    let a = asking::atom_due(text, asking::IN_FORM, q);
     let Named::Atom(s, t, p) = a else {
         return Numbered::Refused(asking::named_refusal(a));
     };
@@ -87,7 +88,7 @@ pub fn rule_due(text: &[u8], rules: &[u8], heap: &[u32], steps: u32, reader: Rea
     let Found::At(e) = found else {
         return Numbered::Refused(12);
     };
-    let l = asking::list_due(text, 256, p);
+    let l = asking::list_due(text, asking::IN_FORM, p);
     let Passed::To(o) = l else {
         return Numbered::Refused(asking::passed_refusal(l));
     };
@@ -102,7 +103,8 @@ pub fn counted_references(
     rule: u32,
     reader: Reader,
 ) -> Numbered
-    ensures { λ r. ⌜ (numbered r leaving now (stack .exit)) ≡ models.countedReferences (now (text .entry)) (now (heap .entry)) rule reader (now (stack .entry)) ⌝ }
+    ensures { λ r. ⌜ (numbered r leaving now (stack .exit))
+        ≡ models.countedReferences (now (text .entry)) (now (heap .entry)) rule reader (now (stack .entry)) ⌝ }
 {
     let a = references(text, stack, reader);
     let Numbered::Got(n, q) = a else {

@@ -17,10 +17,10 @@ use Rattle.horn.proofs.Complete.{laid-out-accepted}
 use Rattle.checker.specs.Checker as walk
 use Rattle.checker_laws.proofs.Whole.{judged}
 use Rattle.reports.proofs.ReleaseReported.{release-reported}
-use Rattle.reports.specs.Lengths.{longEnough}
+use Rattle.clearing.specs.Lengths.{longEnough}
 use Rattle.reports.specs.Release.{releasedBy, told}
 use Rattle.reports.specs.declared.Report.{Report}
-use Rattle.reports.proofs.Areas.{areas-long, Long, untouched-short, untouched-long, all-cleared}
+use Rattle.clearing.proofs.Areas.{areas-long, Long, untouched-short, untouched-long, all-cleared}
 
 -- What the call ensures: it is the definition's call, report and areas; and demand 3.
 abbrev Ensured : calls.Report → List ℕ → List ℕ → List ℕ → List ℕ → List ℕ → List ℕ → List ℕ → List ℕ → List ℕ → List ℕ → List ℕ → Type 0

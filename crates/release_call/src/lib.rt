@@ -1,4 +1,4 @@
-// The call with three texts: the lengths, then what crate `reports` answers of the first 16,384 words of each area.
+// The call with three texts: the lengths, then what crate `clearing` answers of the first 16,384 words of each area.
 ghost use mathlib.Core.Path.{_≡_};
 ghost use lib.ListN.{length};
 ghost use Rattle.horn.specs.Setting.{document01};
@@ -17,11 +17,14 @@ pub fn release(
     c: &mut [u32],
     d: &mut [u32],
 ) -> Report
-    ensures whole { λ r. ⌜ called (told r) (now (a .exit)) (now (b .exit)) (now (c .exit)) (now (d .exit)) ≡ releaseLeft document01 (now (a .entry)) (now (b .entry)) (now (c .entry)) (now (d .entry)) (now (rulebook .entry)) (now (goals .entry)) (now (certificate .entry)) ⌝ }
+    ensures whole { λ r. ⌜ called (told r) (now (a .exit)) (now (b .exit)) (now (c .exit)) (now (d .exit))
+        ≡ releaseLeft document01 (now (a .entry)) (now (b .entry)) (now (c .entry)) (now (d .entry)) (now (rulebook .entry)) (now (goals .entry))
+        (now (certificate .entry)) ⌝ }
     ensures sound { λ r. ⌜ Sound document01 (now (rulebook .entry)) (now (goals .entry)) (told r) ⌝ }
-    ensures complete { λ r. ⌜ Complete document01 (length (now (a .entry))) (length (now (b .entry))) (length (now (c .entry))) (length (now (d .entry))) (now (rulebook .entry)) (now (goals .entry)) (now (certificate .entry)) (told r) ⌝ }
+    ensures complete { λ r. ⌜ Complete document01 (length (now (a .entry))) (length (now (b .entry))) (length (now (c .entry))) (length (now (d .entry)))
+        (now (rulebook .entry)) (now (goals .entry)) (now (certificate .entry)) (told r) ⌝ }
 {
-    if !reports::long_enough(a.len(), b.len(), c.len(), d.len()) {
+    if !clearing::long_enough(a.len(), b.len(), c.len(), d.len()) {
         return reports::unreleased(1);
     }
     if 8192 < rulebook.len() {
@@ -33,14 +36,14 @@ pub fn release(
     if 32768 < certificate.len() {
         return reports::unreleased(2);
     }
-    reports::check(
+    clearing::check(
         rulebook,
         goals,
         certificate,
         certificate.len() as u32,
-        &mut a[..16384],
-        &mut b[..16384],
-        &mut c[..16384],
-        &mut d[..16384],
+        &mut a[..clearing::AREA_WORDS],
+        &mut b[..clearing::AREA_WORDS],
+        &mut c[..clearing::AREA_WORDS],
+        &mut d[..clearing::AREA_WORDS],
     )
 }

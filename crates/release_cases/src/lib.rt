@@ -20,30 +20,35 @@ pub struct Head {
     pub fourth: u32,
 }
 
+// A byte as a number.
 fn wide(b: u8) -> u32
     ensures { λ r. ⌜ r ≡ b ⌝ }
 {
     b as u32
 }
 
+// A number of two bytes, the high one first.
 fn pair(high: u8, low: u8) -> u32
     ensures { λ r. ⌜ r ≡ high * 256 + low ⌝ }
 {
     wide(high) * 256 + wide(low)
 }
 
+// The number of one byte at a place.
 fn one_at(b: &[u8], i: usize) -> u32
     ensures { λ r. ⌜ r ≡ getD (now (b .entry)) i 0 ⌝ }
 {
     wide(words::byte(b, i))
 }
 
+// The number of two bytes at two places.
 fn two_at(b: &[u8], i: usize, j: usize) -> u32
     ensures { λ r. ⌜ r ≡ pairAt (now (b .entry)) i j ⌝ }
 {
     pair(words::byte(b, i), words::byte(b, j))
 }
 
+// What the first bytes of a case say of it.
 pub fn head_of(b: &[u8]) -> Head
     ensures { λ r. ⌜ r ≡ record {
       label = getD (now (b .entry)) 0 0;

@@ -54,7 +54,8 @@ module _ (n s g t b : ℕ) {i j k l : ℕ} (long₁ : i ≡ length (field n 0x09
   unfolding line
   line-long e = long-behind (field n 0x09 ++ field s 0x09 ++ field g 0x09 ++ field t 0x09) (field b 0x0A) four e
 
-  pub line-text : (o : List ℕ) {o₁ o₂ o₃ o₄ o₅ : List ℕ} → o₁ ≡ written (field n 0x09) 0 o → o₂ ≡ written (field s 0x09) i o₁ → o₃ ≡ written (field g 0x09) (i + j) o₂
+  pub line-text : (o : List ℕ) {o₁ o₂ o₃ o₄ o₅ : List ℕ} → o₁ ≡ written (field n 0x09) 0 o → o₂ ≡ written (field s 0x09) i o₁
+      → o₃ ≡ written (field g 0x09) (i + j) o₂
       → o₄ ≡ written (field t 0x09) (i + j + k) o₃
       → o₅ ≡ written (field b 0x0A) (i + j + k + l) o₄
       → o₅ ≡ written (line (report n s g t b)) 0 o

@@ -11,7 +11,8 @@ pub written-start : (t : List ℕ) (p : ℕ) (s : List ℕ) → written t p s �
 written-start t p s = ap (λ q. written t q s) {x = p} {y = p + 0} (omega arith)
 
 -- One byte more of a text.
-pub written-more : (t : List ℕ) (p i : ℕ) (s : List ℕ) → i < length t → written (drop i t) (p + i) s ≡ written (drop (i + 1) t) (p + (i + 1)) (set s (p + i) (getD t i 0))
+pub written-more : (t : List ℕ) (p i : ℕ) (s : List ℕ) → i < length t
+    → written (drop i t) (p + i) s ≡ written (drop (i + 1) t) (p + (i + 1)) (set s (p + i) (getD t i 0))
 unfolding written
 written-more t p i s h =
     rw (drop-cons t i 0 h, written)

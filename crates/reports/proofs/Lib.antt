@@ -1,5 +1,3 @@
-pub mod Clearing
-pub mod Areas
 pub mod Reported
 pub mod RulebookReported
 pub mod ReleaseReported

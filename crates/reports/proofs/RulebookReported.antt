@@ -31,7 +31,8 @@ in-its-words (outcomes.ok c leaving areas) = refl
 in-its-words (outcomes.refused n leaving areas) = refl
 
 pub rulebook-reported : (text vars counts heap : List ℕ) → length text ≤ 8192 → length vars ≡ 16384 → length counts ≡ 16384 → length heap ≡ 16384
-    → Reported (reportedBy (walks.theory text vars counts heap) .number) (rulebookAnswer (theory text)) (answered (reportedBy (walks.theory text vars counts heap)))
+    → Reported (reportedBy (walks.theory text vars counts heap) .number) (rulebookAnswer (theory text))
+    (answered (reportedBy (walks.theory text vars counts heap)))
 rulebook-reported text vars counts heap short long-vars long-counts long-heap =
     let same : rulebookAnswer (theory text) ≡ answered (reportedBy (walks.theory text vars counts heap)) =
     sym (whole.report-law text vars counts heap short long-vars long-counts long-heap) ∙ sym (in-its-words (walks.theory text vars counts heap)) in

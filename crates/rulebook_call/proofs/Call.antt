@@ -14,10 +14,10 @@ use Rattle.horn.specs.Calls as calls
 use Rattle.horn.specs.Calls.{rulebookReport, rulebookJudged, rulebookAnswer, rulebookCall, called, rulebookLeft}
 use Rattle.theory.specs.Walks as walks
 use Rattle.reports.proofs.RulebookReported.{rulebook-reported}
-use Rattle.reports.specs.Lengths.{longEnough}
+use Rattle.clearing.specs.Lengths.{longEnough}
 use Rattle.reports.specs.Rulebook.{reportedBy, answered}
 use Rattle.reports.specs.declared.RulebookReport.{RulebookReport}
-use Rattle.reports.proofs.Areas.{areas-long, Long, untouched-short, untouched-long, all-cleared}
+use Rattle.clearing.proofs.Areas.{areas-long, Long, untouched-short, untouched-long, all-cleared}
 
 module _ (text a b c d : List ℕ) where
   -- A call by its report and its areas.
@@ -32,7 +32,8 @@ module _ (text a b c d : List ℕ) where
       → r ≡ record { number = 1; sorts = 0; constructors = 0; predicates = 0; rules = 0 }
       → called (answered r) a b c d ≡ rulebookLeft document01 a b c d text
   unfolding rulebookCall rulebookJudged need _>>=_ rulebookAnswer number
-  area-short r e is = rw is (is-called (rulebookReport 1 0 0 0 0) a b c d (rw (areas-long (length a) (length b) (length c) (length d), e)) (untouched-short _ a b c d))
+  area-short r e is =
+      rw is (is-called (rulebookReport 1 0 0 0 0) a b c d (rw (areas-long (length a) (length b) (length c) (length d), e)) (untouched-short _ a b c d))
 
   module _ (long : longEnough (length a) (length b) (length c) (length d) ≡ true) where
     -- 2, by the text.

@@ -1,4 +1,4 @@
-// The call with the rulebook alone: the lengths, then what crate `reports` answers of the first 16,384 words of each area.
+// The call with the rulebook alone: the lengths, then what crate `clearing` answers of the first 16,384 words of each area.
 ghost use mathlib.Core.Path.{_≡_};
 ghost use Rattle.horn.specs.Setting.{document01};
 ghost use Rattle.horn.specs.Calls.{called, rulebookLeft};
@@ -13,19 +13,20 @@ pub fn rulebook(
     c: &mut [u32],
     d: &mut [u32],
 ) -> RulebookReport
-    ensures { λ r. ⌜ called (answered r) (now (a .exit)) (now (b .exit)) (now (c .exit)) (now (d .exit)) ≡ rulebookLeft document01 (now (a .entry)) (now (b .entry)) (now (c .entry)) (now (d .entry)) (now (rulebook .entry)) ⌝ }
+    ensures { λ r. ⌜ called (answered r) (now (a .exit)) (now (b .exit)) (now (c .exit)) (now (d .exit))
+        ≡ rulebookLeft document01 (now (a .entry)) (now (b .entry)) (now (c .entry)) (now (d .entry)) (now (rulebook .entry)) ⌝ }
 {
-    if !reports::long_enough(a.len(), b.len(), c.len(), d.len()) {
+    if !clearing::long_enough(a.len(), b.len(), c.len(), d.len()) {
         return reports::refused(1);
     }
     if 8192 < rulebook.len() {
         return reports::refused(2);
     }
-    reports::judge(
+    clearing::judge(
         rulebook,
-        &mut a[..16384],
-        &mut b[..16384],
-        &mut c[..16384],
-        &mut d[..16384],
+        &mut a[..clearing::AREA_WORDS],
+        &mut b[..clearing::AREA_WORDS],
+        &mut c[..clearing::AREA_WORDS],
+        &mut d[..clearing::AREA_WORDS],
     )
 }

@@ -1,120 +1,50 @@
 // Runs the call with the rulebook alone on document 01's examples, over areas that held other words, and writes for
 // each its number, its four counts, and what it did to the areas.
 
-// What the areas hold before a call: words of no sense, or ones.
-struct Before {
-    first: u32,
-    step: u32,
-}
+use lent_calls::Before;
+use lent_calls::Lengths;
 
-fn garbage() -> Before {
-    Before {
-        first: 3735928559,
-        step: 2654435761,
-    }
-}
-
-fn ones() -> Before {
-    Before { first: 1, step: 0 }
-}
-
-fn show_areas(p: Before, a: &[u32], b: &[u32], c: &[u32], d: &[u32]) {
-    if areas::all_hold(0, p.first, p.step, a, b, c, d) {
-        io::write_all(1, b" untouched\n");
-        return;
-    }
-    if areas::all_hold(16384, p.first, p.step, a, b, c, d) {
-        io::write_all(1, b" cleared\n");
-        return;
-    }
-    io::write_all(1, b" AREAS WRONG\n");
-}
-
-fn number(n: u32) {
-    io::write_all(1, b" ");
-    io::print_decimal(1, n as u64);
-}
-
-fn show(label: &[u8], r: reports::RulebookReport) {
-    io::write_all(1, label);
-    io::write_all(1, b":");
-    number(r.number);
-    number(r.sorts);
-    number(r.constructors);
-    number(r.predicates);
-    number(r.rules);
-}
-
-fn over(
-    p: Before,
-    label: &[u8],
-    text: &[u8],
-    a: &mut [u32],
-    b: &mut [u32],
-    c: &mut [u32],
-    d: &mut [u32],
-) {
-    areas::fill_all(p.first, p.step, a, b, c, d);
-    let r = kernel::rulebook(text, a, b, c, d);
-    show(label, r);
-    show_areas(p, a, b, c, d);
+// One example, over as many words of each area.
+fn over(p: Before, label: &[u8], text: &[u8], first: u32, second: u32, third: u32, fourth: u32) {
+    let lengths = Lengths {
+        first,
+        second,
+        third,
+        fourth,
+    };
+    let x = lent_calls::answered(p, true, lengths, text, b"", b"");
+    lent_calls::show_example(label, x);
 }
 
 // Areas as long as they must be, one word longer, and much longer.
 fn run(label: &[u8], text: &[u8]) {
-    let mut a = [0u32; 20000];
-    let mut b = [0u32; 16385];
-    let mut c = [0u32; 16384];
-    let mut d = [0u32; 18000];
-    over(garbage(), label, text, &mut a, &mut b, &mut c, &mut d);
+    over(
+        lent_calls::garbage(),
+        label,
+        text,
+        20000,
+        16385,
+        16384,
+        18000,
+    );
 }
 
+// Areas that held ones.
 fn run_on_ones(label: &[u8], text: &[u8]) {
-    let mut a = [0u32; 16384];
-    let mut b = [0u32; 16384];
-    let mut c = [0u32; 20000];
-    let mut d = [0u32; 16384];
-    over(ones(), label, text, &mut a, &mut b, &mut c, &mut d);
+    over(lent_calls::ones(), label, text, 16384, 16384, 20000, 16384);
 }
 
-fn run_short_first(label: &[u8], text: &[u8]) {
-    let mut a = [0u32; 16383];
-    let mut b = [0u32; 16384];
-    let mut c = [0u32; 16384];
-    let mut d = [0u32; 16384];
-    over(garbage(), label, text, &mut a, &mut b, &mut c, &mut d);
-}
-
-fn run_short_second(label: &[u8], text: &[u8]) {
-    let mut a = [0u32; 16384];
-    let mut b = [0u32; 16383];
-    let mut c = [0u32; 16384];
-    let mut d = [0u32; 16384];
-    over(garbage(), label, text, &mut a, &mut b, &mut c, &mut d);
-}
-
-fn run_short_third(label: &[u8], text: &[u8]) {
-    let mut a = [0u32; 16384];
-    let mut b = [0u32; 16384];
-    let mut c = [0u32; 16383];
-    let mut d = [0u32; 16384];
-    over(garbage(), label, text, &mut a, &mut b, &mut c, &mut d);
-}
-
-fn run_short_fourth(label: &[u8], text: &[u8]) {
-    let mut a = [0u32; 16384];
-    let mut b = [0u32; 16384];
-    let mut c = [0u32; 16384];
-    let mut d = [0u32; 16383];
-    over(garbage(), label, text, &mut a, &mut b, &mut c, &mut d);
-}
-
-fn run_empty_fourth(label: &[u8], text: &[u8]) {
-    let mut a = [0u32; 16384];
-    let mut b = [0u32; 16384];
-    let mut c = [0u32; 16384];
-    let mut d = [0u32; 0];
-    over(garbage(), label, text, &mut a, &mut b, &mut c, &mut d);
+// Areas of which one may be short.
+fn run_short(label: &[u8], text: &[u8], first: u32, second: u32, third: u32, fourth: u32) {
+    over(
+        lent_calls::garbage(),
+        label,
+        text,
+        first,
+        second,
+        third,
+        fourth,
+    );
 }
 
 // 01's rows 3 to 9.
@@ -282,13 +212,20 @@ fn short_areas() {
     let bench =
         b"(sort t)(ctor z () t)(ctor s (t) t)(pred hold (t))(rule base () (hold z))(rule more ((hold ?x)) (hold (s ?x)))";
     run(b"the bench rulebook", bench);
-    run_short_first(b"row 1, first area", bench);
-    run_short_second(b"row 1, second area", bench);
-    run_short_third(b"row 1, third area", bench);
-    run_short_fourth(b"row 1, fourth area", bench);
-    run_empty_fourth(b"a fourth area of 0 words", b"");
+    run_short(b"row 1, first area", bench, 16383, 16384, 16384, 16384);
+    run_short(b"row 1, second area", bench, 16384, 16383, 16384, 16384);
+    run_short(b"row 1, third area", bench, 16384, 16384, 16383, 16384);
+    run_short(b"row 1, fourth area", bench, 16384, 16384, 16384, 16383);
+    run_short(b"a fourth area of 0 words", b"", 16384, 16384, 16384, 0);
     let spaces = [b' '; 8193];
-    run_short_second(b"a short area, a long text", &spaces);
+    run_short(
+        b"a short area, a long text",
+        &spaces,
+        16384,
+        16383,
+        16384,
+        16384,
+    );
 }
 
 // The longest text, one longer, and nesting.
@@ -303,6 +240,7 @@ fn long_texts() {
     run(b"256 (", &fewer);
 }
 
+// Areas that held ones.
 fn on_ones() {
     run_on_ones(b"ones, accepted", b"(pred p ())(rule r () (p))");
     run_on_ones(b"ones, refused when read", b"(pred p ())(rule r () (p)");

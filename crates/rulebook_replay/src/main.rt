@@ -3,20 +3,12 @@
 // In the file `rulebooks` (compare/replay-data writes it) a case is eleven bytes, then the text: the text's length, the
 // number, the counts of sorts, constructors, predicates and rules. The number is one byte, all else two, high byte first.
 ghost use mathlib.Core.Path.{_≡_};
+use lent_calls::Answer;
+use lent_calls::Case;
+use lent_calls::Lengths;
+use lent_calls::Tally;
 
-const FIRST: u32 = 3735928559;
-
-const STEP: u32 = 2654435761;
-
-// What was kept, or what the call answered.
-struct Answer {
-    number: u32,
-    sorts: u32,
-    constructors: u32,
-    predicates: u32,
-    rules: u32,
-}
-
+// A byte as a number.
 fn wide(b: u8) -> u32
     ensures { λ r. ⌜ r ≡ b ⌝ }
 {
@@ -28,96 +20,32 @@ fn pair(high: u8, low: u8) -> u32 {
     wide(high) * 256 + wide(low)
 }
 
+// The answer that is kept of a case.
 fn kept(head: &[u8]) -> Answer {
     let number = wide(words::byte(head, 2));
-    let sorts = pair(words::byte(head, 3), words::byte(head, 4));
-    let constructors = pair(words::byte(head, 5), words::byte(head, 6));
-    let predicates = pair(words::byte(head, 7), words::byte(head, 8));
-    let rules = pair(words::byte(head, 9), words::byte(head, 10));
+    let first = pair(words::byte(head, 3), words::byte(head, 4));
+    let second = pair(words::byte(head, 5), words::byte(head, 6));
+    let third = pair(words::byte(head, 7), words::byte(head, 8));
+    let fourth = pair(words::byte(head, 9), words::byte(head, 10));
     Answer {
         number,
-        sorts,
-        constructors,
-        predicates,
-        rules,
+        first,
+        second,
+        third,
+        fourth,
     }
 }
 
-fn same(x: Answer, r: reports::RulebookReport) -> bool {
-    if x.number != r.number {
-        return false;
-    }
-    if x.sorts != r.sorts {
-        return false;
-    }
-    if x.constructors != r.constructors {
-        return false;
-    }
-    if x.predicates != r.predicates {
-        return false;
-    }
-    x.rules == r.rules
-}
-
-fn number(n: u32) {
-    io::write_all(1, b" ");
-    io::print_decimal(1, n as u64);
-}
-
-fn show_kept(x: Answer) {
-    io::write_all(1, b"kept");
-    number(x.number);
-    number(x.sorts);
-    number(x.constructors);
-    number(x.predicates);
-    number(x.rules);
-}
-
-fn show_report(r: reports::RulebookReport) {
-    io::write_all(1, b", answered");
-    number(r.number);
-    number(r.sorts);
-    number(r.constructors);
-    number(r.predicates);
-    number(r.rules);
-    io::write_all(1, b"\n");
-}
-
-// One text against what was kept of it: whether they agree. Where they do not, it says so.
-fn agrees_over(
-    x: Answer,
-    text: &[u8],
-    a: &mut [u32],
-    b: &mut [u32],
-    c: &mut [u32],
-    d: &mut [u32],
-) -> bool {
-    areas::fill_all(FIRST, STEP, a, b, c, d);
-    let r = kernel::rulebook(text, a, b, c, d);
-    if !same(x, r) {
-        show_kept(x);
-        show_report(r);
-        return false;
-    }
-    if !areas::all_hold(16384, FIRST, STEP, a, b, c, d) {
-        io::write_all(1, b"areas wrong\n");
-        return false;
-    }
-    true
-}
-
-fn agrees(x: Answer, text: &[u8]) -> bool {
-    let mut a = [0u32; 16384];
-    let mut b = [0u32; 20000];
-    let mut c = [0u32; 16385];
-    let mut d = [0u32; 16384];
-    agrees_over(x, text, &mut a, &mut b, &mut c, &mut d)
-}
-
-enum Case {
-    End,
-    Agrees,
-    Differs,
+// One text beside what was kept of it.
+fn compare(x: Answer, text: &[u8]) -> Case {
+    let lengths = Lengths {
+        first: 16384,
+        second: 20000,
+        third: 16385,
+        fourth: 16384,
+    };
+    let r = lent_calls::answered(lent_calls::garbage(), true, lengths, text, b"", b"");
+    lent_calls::compare(text, x, r)
 }
 
 // The text of a case, which is in the file behind its head.
@@ -126,12 +54,10 @@ fn judge(fd: i32, x: Answer, text: &mut [u8]) -> Case {
         io::write_all(1, b"a text cut short\n");
         return Case::Differs;
     }
-    if agrees(x, text) {
-        return Case::Agrees;
-    }
-    Case::Differs
+    compare(x, text)
 }
 
+// As much of the buffer as the text is long.
 fn judge_first(fd: i32, x: Answer, buf: &mut [u8], length: usize) -> Case {
     if buf.len() < length {
         io::write_all(1, b"a text too long\n");
@@ -151,50 +77,25 @@ fn next(fd: i32) -> Case {
     judge_first(fd, kept(&head), &mut buf, length as usize)
 }
 
-struct Tally {
-    cases: u32,
-    agreements: u32,
-}
-
-fn finish(t: Tally) {
-    io::write_all(1, b"cases");
-    number(t.cases);
-    io::write_all(1, b"\nagreements");
-    number(t.agreements);
-    io::write_all(1, b"\n");
-}
-
-impl Tally {
-    fn and(self, agreed: u32) -> Tally {
-        Tally {
-            cases: std::num::wrapping_add_u32(self.cases, 1),
-            agreements: std::num::wrapping_add_u32(self.agreements, agreed),
-        }
-    }
-}
-
 // A proved loop has to end, and nothing says that a file does: so many turns at most.
 fn replay(fd: i32) {
-    let mut t = Tally {
-        cases: 0,
-        agreements: 0,
-    };
+    let mut t = Tally::new();
     let mut turns: u32 = 1000000;
     while 0 < turns {
         turns -= 1;
         match next(fd) {
             Case::Agrees => {
-                t = t.and(1);
+                t = t.and(0);
             }
             Case::Differs => {
-                t = t.and(0);
+                t = t.and(1);
             }
             Case::End => {
                 turns = 0;
             }
         }
     }
-    finish(t);
+    lent_calls::finish(t);
 }
 
 fn main() {

@@ -1,9 +1,9 @@
 -- Declarations of rules: what each function answers, and what it leaves of the variables and of the theory.
 use Prim.Native.Nat.{ℕ, zero, suc, _+_, _*_, _-_, _%_}
-use mathlib.Core.Bool.{Bool, true, false, not}
+use mathlib.Core.Bool.{not}
 use mathlib.Core.List.{List}
 use lib.Dec.{ltb}
-use lib.ListN.{length, getD, set}
+use lib.ListN.{length, set}
 use Rattle.lex.specs.Answers as lex
 use Rattle.lex.specs.Answers.{Answer, taken}
 use Rattle.lex.specs.declared.Token.the-variants as tokens
@@ -11,6 +11,7 @@ use Rattle.items.specs.Places as places
 use Rattle.outcomes.specs.Outcomes.{Outcome, ok, refused, need, pick}
 use Rattle.outcomes.specs.Outcomes as outcomes
 use Rattle.outcomes.specs.Leaving.{Did, _leaving_, _>>=_, beside}
+use Rattle.words.specs.Parts.{copied}
 use Rattle.words.specs.Sums.{sum32}
 use Rattle.items.specs.Items.{Met, atom, list, readOn, openedOne, withTop, itemDue, listDue, closingDue, question}
 use Rattle.leaves.specs.Leaves.{Areas}
@@ -81,17 +82,13 @@ bodyRead text counts w vars heap = do
 -- The four words behind a rule's name: how many premises and variables it has, and where its conclusion and its variables stand.
 unfoldable pub ruleDescribed : ℕ → ℕ → ℕ → ℕ → ℕ → List ℕ → List ℕ
 ruleDescribed e premises variables conclusion place heap =
-    set (set (set (set heap (e + places.premise-count) premises) (e + places.variable-count) variables) (e + places.conclusion) conclusion) (e + places.variables) place
-
--- The words of the variables from the i-th on, behind the patterns.
-unfoldable pub copied : ℕ → ℕ → List ℕ → ℕ → List ℕ → List ℕ
-copied zero i vars top heap = heap
-copied (suc left) i vars top heap = copied left (i + 1) vars top (set heap (top + i) (getD vars i 0))
+    set (set (set (set heap (e + places.premise-count) premises) (e + places.variable-count) variables) (e + places.conclusion) conclusion)
+    (e + places.variables) place
 
 -- The rule's variables stored behind its patterns.
 unfoldable pub variablesStored : Walk → List ℕ → List ℕ → Did (List ℕ) Walk
 variablesStored w vars heap =
-    ok (withTop w ((w .top + 3 * w .variables) % 4294967296)) leaving copied (3 * w .variables) 0 vars (w .top) heap
+    ok (withTop w ((w .top + 3 * w .variables) % 4294967296)) leaving copied heap (w .top) vars 0 (3 * w .variables)
 
 -- A rule's entry, then the closing of its declaration.
 unfoldable pub ruleEntered : List ℕ → ℕ → ℕ → ℕ → ℕ → ℕ → Walk → List ℕ → List ℕ → Did (List ℕ) Walk

@@ -30,6 +30,7 @@ pub enum Body {
     Refused(u32),
 }
 
+// The number of its refusal, 0 where there is none.
 pub fn kept_refusal(r: Kept) -> u32
     ensures { λ n. ⌜ n ≡ refusal (kept r) ⌝ }
 {
@@ -39,6 +40,7 @@ pub fn kept_refusal(r: Kept) -> u32
     }
 }
 
+// The number of its refusal, 0 where there is none.
 pub fn body_refusal(r: Body) -> u32
     ensures { λ n. ⌜ n ≡ refusal (body r) ⌝ }
 {
@@ -112,6 +114,7 @@ pub fn skip(text: &[u8], w: Walk) -> Walked
     Walked::To(v)
 }
 
+// What stands in the place of a rule's name, unjudged.
 pub fn keep_name(text: &[u8], counts: &[u32], w: Walk) -> Kept
     ensures { λ r. ⌜ kept r ≡ nameKept (now (text .entry)) (now (counts .entry)) w ⌝ }
 {
@@ -129,6 +132,7 @@ pub fn keep_name(text: &[u8], counts: &[u32], w: Walk) -> Kept
     }
 }
 
+// A walk before a rule's patterns: they stand behind the words of its entry, and no variable is met yet.
 pub fn begin(w: Walk) -> Walk
     ensures { λ r. ⌜ r ≡ begun w ⌝ }
 {
@@ -143,7 +147,8 @@ pub fn begin(w: Walk) -> Walk
 
 // A rule's premises and its conclusion.
 pub fn read_body(text: &[u8], counts: &[u32], vars: &mut [u32], heap: &mut [u32], w: Walk) -> Body
-    ensures { λ r. ⌜ (body r leaving (now (vars .exit), now (heap .exit))) ≡ bodyRead (now (text .entry)) (now (counts .entry)) w (now (vars .entry)) (now (heap .entry)) ⌝ }
+    ensures { λ r. ⌜ (body r leaving (now (vars .exit), now (heap .exit)))
+        ≡ bodyRead (now (text .entry)) (now (counts .entry)) w (now (vars .entry)) (now (heap .entry)) ⌝ }
 {
     let l = items::next_list(text, counts, w);
     let Numbered::Got(n, q) = l else {
@@ -184,12 +189,7 @@ pub fn store_variables(vars: &[u32], heap: &mut [u32], w: Walk) -> Walk
 {
     let top = w.top;
     let end = 3 * w.variables as usize;
-    let mut i: usize = 0;
-    while i < end {
-        let word = words::at(vars, i);
-        words::put(heap, top as usize + i, word);
-        i += 1;
-    }
+    words::copy(heap, top as usize, vars, end);
     let reader = w.reader;
     Walk {
         reader,
@@ -199,6 +199,7 @@ pub fn store_variables(vars: &[u32], heap: &mut [u32], w: Walk) -> Walk
     }
 }
 
+// A rule's entry with its variables, then the closing of its declaration.
 pub fn enter_rule(
     text: &[u8],
     vars: &[u32],
@@ -221,6 +222,7 @@ pub fn enter_rule(
     items::close(text, p)
 }
 
+// "`(rule N (J...) J)`: premises left to right, conclusion, N, duplicate."
 pub fn declare_rule(
     text: &[u8],
     counts: &[u32],
@@ -228,7 +230,8 @@ pub fn declare_rule(
     heap: &mut [u32],
     w: Walk,
 ) -> Walked
-    ensures { λ r. ⌜ (walked r leaving (now (vars .exit), now (heap .exit))) ≡ ruleDeclared (now (text .entry)) (now (counts .entry)) w (now (vars .entry)) (now (heap .entry)) ⌝ }
+    ensures { λ r. ⌜ (walked r leaving (now (vars .exit), now (heap .exit)))
+        ≡ ruleDeclared (now (text .entry)) (now (counts .entry)) w (now (vars .entry)) (now (heap .entry)) ⌝ }
 {
     let e = w.top;
     let k = keep_name(text, counts, w);

@@ -146,7 +146,8 @@ counting-is end [] cs b = ap ok (sym (append-nil cs))
 counting-is end (i ∷ is) cs b = ended-through (askedAt (suc (length is))) textEnds (final (i ∷ is) cs)
 counting-is bad is cs b = refl
 counting-is (closing ▹ ts) [] cs b = refl
-counting-is (closing ▹ ts) (i ∷ is) cs b = counting-is ts is cs (b .1) ∙ on-through (read (length is) ts) _ (final (i ∷ is) cs) (final is cs) (final-closing i is cs)
+counting-is (closing ▹ ts) (i ∷ is) cs b =
+    counting-is ts is cs (b .1) ∙ on-through (read (length is) ts) _ (final (i ∷ is) cs) (final is cs) (final-closing i is cs)
 counting-is (atom bytes ▹ ts) is cs b =
     ap (λ (m : Result (List ℕ)). askedAt (length is) >>= λ _. m) (counting-is ts is (memberOf is cs) (below-member is cs b))
     ∙ asked-through (askedAt (length is)) (read (length is) ts) (put (leaf bytes)) (final is cs) _ (final-atom is cs bytes)

@@ -155,7 +155,8 @@ opened-innermost area n d v e h =
 
 -- A list that is opened has no member yet, and is the innermost.
 pub opened-held : (is cs : List ℕ) (left : ℕ) (p : Place) (area : List ℕ) → p .depth ≤ 256 → Held is cs (suc left) p area
-    → Held (length cs ∷ is) (memberOf is cs ++ (0 ∷ [])) left (place ((p .openings + 1) % 4_294_967_296) (p .depth + 1)) (listOpened (p .openings) (p .depth) area)
+    → Held (length cs ∷ is) (memberOf is cs ++ (0 ∷ [])) left (place ((p .openings + 1) % 4_294_967_296) (p .depth + 1))
+    (listOpened (p .openings) (p .depth) area)
 unfolding listOpened Stacked Below
 opened-held is cs left p area deep h =
     let g = member-held is cs left p area h in

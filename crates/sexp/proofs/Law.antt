@@ -11,13 +11,12 @@ use Rattle.horn.specs.Tokens.{tokens}
 use Rattle.horn.specs.NestedLists.{items, sexps, Sexps}
 use Rattle.horn.proofs.Counts.{streamLength, few-tokens}
 use Rattle.lex.specs.Answers as lexed
-use Rattle.lex.proofs.Standing.{Stands, start-stands}
+use Rattle.lex.proofs.Standing.{start-stands}
 use Rattle.sexp.specs.Flattening.{flattened, counts}
 use Rattle.sexp.specs.Walk.{whole, refused, place, Left, walked}
 use Rattle.sexp.proofs.Counting.{counting-sexps}
 use Rattle.sexp.proofs.Held.{start-held}
 use Rattle.sexp.proofs.Simulation.{Agrees, agrees-refused, agrees-whole, simulates}
-use Rattle.sexp.proofs.Reading.{reads}
 use Rattle.sexp.proofs.Whole.{whole-tokens}
 
 -- What a walk leaves where the definition reads so.
@@ -40,7 +39,7 @@ walk-meets text area short long =
     (subst
     (λ (m : Result (List ℕ)). Agrees (walked text area) m)
     (counting-sexps (tokens text))
-    (simulates text (Stands text) (reads text) _ (tokens text) lexed.start (place 0 0) area [] [] (start-stands text) (omega arith)
+    (simulates text _ (tokens text) lexed.start (start-stands text) (omega arith) (place 0 0) area [] []
     (start-held (streamLength (tokens text)) area (omega arith) long)))
 
 -- The two cases of a walk, each with what the definition says.

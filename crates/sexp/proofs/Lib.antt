@@ -4,7 +4,6 @@ pub mod Paths
 pub mod Turns
 pub mod Held
 pub mod Simulation
-pub mod Reading
 pub mod Whole
 pub mod Ahead
 pub mod Law

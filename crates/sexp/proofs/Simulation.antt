@@ -16,6 +16,8 @@ use Rattle.lex.specs.Answers as lexed
 use Rattle.lex.specs.declared.Token as read
 use Rattle.lex.specs.declared.Token.the-variants.{Opening, Closing, Atom}
 use Rattle.lex.specs.declared.Reader.{Reader}
+use Rattle.lex.proofs.Standing.{Stands}
+use Rattle.lex.proofs.Readers.{Takes, take-end, take-bad, take-opening, take-closing, take-atom, takes}
 use Rattle.sexp.specs.declared.Place.{Place}
 use Rattle.sexp.specs.declared.Step.the-variants.{On, Refused}
 use Rattle.sexp.specs.Walk.{whole, refused, Left, left, stepped, areaStepped, endedAt, goesOn, turn, walk}
@@ -23,26 +25,6 @@ use Rattle.sexp.proofs.Counting.{counting, memberOf}
 use Rattle.sexp.proofs.Held.{Held, member-held, opened-held, closed-held}
 use Rattle.sexp.proofs.Paths.{end-top, end-deep, end-open, closing-top, closing-on, opening-deep, opening-on, atom-deep, atom-on}
 use Rattle.sexp.proofs.Paths.{area-closing, area-opening, area-atom}
-
--- A reader's token and the definition's.
-pub data Same : read.Token → Token → Type 0 where
-  same-opening : Same Opening opening
-  same-closing : Same Closing closing
-  same-atom : {s e : ℕ} {bytes : List ℕ} → Same (Atom s e) (atom bytes)
-
-module _ (text : List ℕ) (Stands : Reader → Stream Token → Type 0) where
-  pub record Takes (r : Reader) (t : Token) (ts : Stream Token) : Type 0 where
-    pub got : read.Token
-    pub next : Reader
-    pub taken : lexed.taken text r ≡ lexed.token got next
-    pub same : Same got t
-    pub stands : Stands next ts
-
-  -- What is asked of "this reader stands before these tokens".
-  pub record Reads : Type 0 where
-    pub at-end : (r : Reader) → Stands r end → lexed.taken text r ≡ lexed.ended
-    pub at-bad : (r : Reader) → Stands r bad → lexed.taken text r ≡ lexed.refused 3
-    pub at-token : (r : Reader) (t : Token) (ts : Stream Token) → Stands r (t ▹ ts) → Takes r t ts
 
 -- The walk's answer and words, and the counting's result.
 pub data Agrees : Left → Result (List ℕ) → Type 0 where
@@ -120,22 +102,24 @@ module _ (on : Reader → Place → List ℕ → Left) (ts : Stream Token) (r : 
       (ih _ _ (length cs ∷ is) (memberOf is cs ++ (0 ∷ [])) (opened-held is cs (streamLength ts) p area z h)))
       (λ k. agrees-by refl (too-deep (length is) _ k) (agrees-refused nesting (stops p area Opening 4 (opening-deep p (omega (arith, d, k))))))
 
-  token-agrees : (got : read.Token) (t : Token) → Same got t → (p : Place) (area is cs : List ℕ) → Held is cs (suc (streamLength ts)) p area
-      → Agrees (goesOn on r (areaStepped got p area) (stepped got p)) (counting is cs (t ▹ ts))
-  token-agrees Opening opening same-opening = opening-agrees
-  token-agrees Closing closing same-closing = closing-agrees
-  token-agrees (Atom a e) (atom bytes) same-atom = atom-agrees a e bytes
+-- One turn, by what the reader answers. The walk goes on as the counting does wherever fewer tokens come.
+module _ (text : List ℕ) (on : Reader → Place → List ℕ → Left) (few : ℕ)
+    (ih : (ts : Stream Token) (r : Reader) → Stands text r ts → streamLength ts < few
+    → (p : Place) (area is cs : List ℕ) → Held is cs (streamLength ts) p area → Agrees (on r p area) (counting is cs ts)) where
+  turn-agrees : (ts : Stream Token) (a : lexed.Answer) → Takes text ts a → streamLength ts ≤ few
+      → (p : Place) (area is cs : List ℕ) → Held is cs (streamLength ts) p area → Agrees (turn on p area a) (counting is cs ts)
+  unfolding turn counting streamLength number
+  turn-agrees end a take-end f p area is cs h = ended-agrees p area is cs h
+  turn-agrees bad a take-bad f p area is cs h = agrees-refused notUtf8 refl
+  turn-agrees (opening ▹ ts) a (take-opening {r} st) f p area is cs h = opening-agrees on ts r (ih ts r st (omega (arith, f))) p area is cs h
+  turn-agrees (closing ▹ ts) a (take-closing {r} st) f p area is cs h = closing-agrees on ts r (ih ts r st (omega (arith, f))) p area is cs h
+  turn-agrees (atom bytes ▹ ts) a (take-atom {a = s} {b = e} {r = r} st x y z) f p area is cs h =
+      atom-agrees on ts r (ih ts r st (omega (arith, f))) s e bytes p area is cs h
 
-module _ (text : List ℕ) (Stands : Reader → Stream Token → Type 0) (reads : Reads text Stands) where
-  pub simulates : (fuel : ℕ) (ts : Stream Token) (r : Reader) (p : Place) (area is cs : List ℕ) → Stands r ts → streamLength ts < fuel
-      → Held is cs (streamLength ts) p area
-      → Agrees (walk fuel text r p area) (counting is cs ts)
-  unfolding walk turn counting streamLength number
-  simulates zero ts r p area is cs s f h = absurd (omega (arith, f))
-  simulates (suc fuel) end r p area is cs s f h = rw (reads .at-end r s) (ended-agrees p area is cs h)
-  simulates (suc fuel) bad r p area is cs s f h = rw (reads .at-bad r s) (agrees-refused notUtf8 refl)
-  simulates (suc fuel) (t ▹ ts) r p area is cs s f h =
-      let k = reads .at-token r t ts s in
-      rw (k .taken)
-      (token-agrees (walk fuel text) ts (k .next) (λ p′ area′ is′ cs′ h′. simulates fuel ts (k .next) p′ area′ is′ cs′ (k .stands) (omega (arith, f)) h′)
-      (k .got) t (k .same) p area is cs h)
+pub simulates : (text : List ℕ) (fuel : ℕ) (ts : Stream Token) (r : Reader) → Stands text r ts → streamLength ts < fuel
+    → (p : Place) (area is cs : List ℕ) → Held is cs (streamLength ts) p area
+    → Agrees (walk fuel text r p area) (counting is cs ts)
+unfolding walk
+simulates text zero ts r s f p area is cs h = absurd (omega (arith, f))
+simulates text (suc fuel) ts r s f p area is cs h =
+    turn-agrees text (walk fuel text) fuel (simulates text fuel) ts (lexed.taken text r) (takes text r ts s) (omega (arith, f)) p area is cs h

@@ -4,26 +4,19 @@ use mathlib.Core.Path.{_≡_, ap, _∙_}
 use mathlib.Core.List.{List, [], _∷_}
 use native.Mathlib.Omega.{arith}
 use lib.ListN.{length}
-use Rattle.horn.specs.Refusals.{Result, ok, refused}
+use Rattle.horn.specs.Refusals.{ok}
 use Rattle.horn.specs.Tokens.{Stream, end, _▹_, Token, closing, tokens}
 use Rattle.horn.specs.NestedLists.{items, sexps, Sexp, leaf, list, Sexps, []ₛ, _∷ₛ_}
 use Rattle.horn.proofs.Counts.{streamLength, few-tokens}
-use Rattle.horn.proofs.Inversion.{onᵣ, ok-equal, not-ok}
-use Rattle.horn.proofs.Post.{Post, post-ok}
+use Rattle.horn.proofs.Inversion.{onᵣ}
+use Rattle.horn.proofs.Post.{post-at}
 use Rattle.sexp.specs.Flattening.{flatOne, flat, flattened, countsOne, countsAll, counts}
 use Rattle.sexp.proofs.Levels.{top, written, read-written, read-sexps}
-
-holds-of : {A : Type 0} {Q : A → Type 0} {m : Result A} {a : A} → m ≡ ok a → Post Q m → Q a
-holds-of {A} {Q} {m} {a} e p = at m e p
-  where
-    at : (n : Result A) → n ≡ ok a → Post Q n → Q a
-    at (ok b) f (post-ok q) = rw (← (ok-equal f)) q
-    at (refused r) f q = not-ok f
 
 -- The tokens of a text that is read whole.
 pub whole-tokens : (ts : Stream Token) (xs : Sexps) → sexps (items ts) ≡ ok xs → ts ≡ flattened xs
 unfolding flattened written
-whole-tokens ts xs e = holds-of (read-sexps ts ∙ onᵣ (λ ys. ok (top ys)) e) (read-written ts zero)
+whole-tokens ts xs e = post-at (read-sexps ts ∙ onᵣ (λ ys. ok (top ys)) e) (read-written ts zero)
 
 -- Every list has an opening among the tokens.
 mutual

@@ -27,6 +27,10 @@ walkAnswer (walks.Refused n) = refused n
 abbrev pub place : ℕ → ℕ → Place
 place n d = record { openings = n; depth = d }
 
+-- The depth of the deepest items.
+abbrev pub deepest : ℕ
+deepest = 256
+
 -- One member more of a list, in 32 bits.
 unfoldable pub counted : List ℕ → ℕ → List ℕ
 counted area i = set area i ((getD area i 0 + 1) % 4_294_967_296)
@@ -42,24 +46,24 @@ listOpened n d area = set (set (memberAdded d area) n 0) (8_192 + d) n
 -- What a token does at a place, and to the words.
 unfoldable pub stepped : Token → Place → Step
 stepped Closing p = elim (eqb (p .depth) 0) [ true ↦ Refused (number strayClosing) | false ↦ On (place (p .openings) (p .depth - 1)) ]
-stepped (Atom s e) p = elim (ltb 256 (p .depth)) [ true ↦ Refused (number nesting) | false ↦ On p ]
+stepped (Atom s e) p = elim (ltb deepest (p .depth)) [ true ↦ Refused (number nesting) | false ↦ On p ]
 stepped Opening p =
-    elim (ltb 256 (p .depth)) [
+    elim (ltb deepest (p .depth)) [
       | true ↦ Refused (number nesting)
       | false ↦ On (place ((p .openings + 1) % 4_294_967_296) (p .depth + 1))
     ]
 
 unfoldable pub areaStepped : Token → Place → List ℕ → List ℕ
 areaStepped Closing p area = area
-areaStepped (Atom s e) p area = elim (ltb 256 (p .depth)) [ true ↦ area | false ↦ memberAdded (p .depth) area ]
-areaStepped Opening p area = elim (ltb 256 (p .depth)) [ true ↦ area | false ↦ listOpened (p .openings) (p .depth) area ]
+areaStepped (Atom s e) p area = elim (ltb deepest (p .depth)) [ true ↦ area | false ↦ memberAdded (p .depth) area ]
+areaStepped Opening p area = elim (ltb deepest (p .depth)) [ true ↦ area | false ↦ listOpened (p .openings) (p .depth) area ]
 
 -- The end of the text at a place.
 unfoldable pub endedAt : Place → Walked
 endedAt p =
     elim (eqb (p .depth) 0) [
       | true ↦ whole (p .openings)
-      | false ↦ elim (ltb 256 (p .depth)) [ true ↦ refused (number nesting) | false ↦ refused (number textEnds) ]
+      | false ↦ elim (ltb deepest (p .depth)) [ true ↦ refused (number nesting) | false ↦ refused (number textEnds) ]
     ]
 
 -- The answer and the words afterwards.

@@ -5,6 +5,12 @@ use lex::Read;
 use lex::Reader;
 use lex::Token;
 
+// The depth of the deepest items.
+const DEEPEST: u32 = 256;
+
+// Where the places of the lists that are open stand.
+const OPEN: usize = 8192;
+
 // How many lists were opened so far, and how many of them are open.
 pub struct Place {
     pub openings: u32,
@@ -41,7 +47,7 @@ pub fn open_list(area: &mut [u32], openings: u32, depth: u32)
 {
     add_member(area, depth);
     words::put(area, openings as usize, 0);
-    words::put(area, 8192 + depth as usize, openings);
+    words::put(area, OPEN + depth as usize, openings);
 }
 
 // "Asking for an item at depth 257 is refusal 4, before its token is taken." In a list a closing is looked for first.
@@ -62,7 +68,7 @@ pub fn take(token: Token, area: &mut [u32], place: Place) -> Step
             });
         }
         Token::Opening => {
-            if 256 < depth {
+            if DEEPEST < depth {
                 return Step::Refused(4);
             }
             open_list(area, openings, depth);
@@ -72,7 +78,7 @@ pub fn take(token: Token, area: &mut [u32], place: Place) -> Step
             });
         }
         Token::Atom(_, _) => {
-            if 256 < depth {
+            if DEEPEST < depth {
                 return Step::Refused(4);
             }
             add_member(area, depth);
@@ -88,7 +94,7 @@ pub fn at_end(place: Place) -> Walk
     if place.depth == 0 {
         return Walk::Whole(place.openings);
     }
-    if 256 < place.depth {
+    if DEEPEST < place.depth {
         return Walk::Refused(4);
     }
     Walk::Refused(5)

@@ -11,7 +11,7 @@ use Rattle.outcomes.specs.Leaving.{Did, _leaving_, _>>=_}
 use Rattle.items.specs.Items.{question}
 use Rattle.theory_reading.specs.Reading.{variableFound, sortOfVariable}
 use Rattle.theory_reading.specs.Storing.{Areas, before}
-use Rattle.asking.specs.Asking.{Ahead, closing, member, atomDue, listDue, closingDue, closingNext}
+use Rattle.asking.specs.Asking.{inForm, Ahead, closing, member, atomDue, listDue, closingDue, closingNext}
 use Rattle.terms.specs.Terms.{term, headedJudgment, sortOf}
 use Rattle.matching.specs.Matching.{bindingOf, bindingAt}
 
@@ -46,12 +46,13 @@ headedItem text rules table rule top word s t r store stack heap =
 -- "An item is a list with an atom head; after 4, 5 and 6, an answer that is no atom there is refused 7."
 unfoldable pub item : List ℕ → List ℕ → List ℕ → ℕ → ℕ → ℕ → Reader → List ℕ → List ℕ → List ℕ → Did Worked (ℕ × Reader)
 item text rules table rule top word r store stack heap = do
-  (r, _) ← listDue text 256 r leaving ((store, stack), heap)
+  (r, _) ← listDue text inForm r leaving ((store, stack), heap)
   ((s, t, r), _) ← atomDue text 255 r leaving ((store, stack), heap)
   headedItem text rules table rule top word s t r store stack heap
 
 -- One item more, and those behind it.
-abbrev pub oneItem : (ℕ → Reader → List ℕ → List ℕ → List ℕ → Did Worked (ℕ × Reader)) → List ℕ → List ℕ → List ℕ → ℕ → ℕ → ℕ → Ahead → List ℕ → List ℕ → List ℕ → Did Worked (ℕ × Reader)
+abbrev pub oneItem : (ℕ → Reader → List ℕ → List ℕ → List ℕ → Did Worked (ℕ × Reader)) → List ℕ → List ℕ → List ℕ → ℕ → ℕ → ℕ → Ahead → List ℕ → List ℕ → List ℕ
+    → Did Worked (ℕ × Reader)
 oneItem on text rules table rule top word (closing r) store stack heap = ok (word, r) leaving ((store, stack), heap)
 oneItem on text rules table rule top word (member r) store stack heap = do
   ((word, r), ((store, stack), heap)) ← item text rules table rule top word r store stack heap

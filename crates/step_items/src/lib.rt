@@ -27,7 +27,9 @@ pub fn binding(
     t: usize,
     reader: Reader,
 ) -> Passed
-    ensures { λ r. ⌜ (passed r leaving ((now (store .exit), now (stack .exit)), now (heap .exit))) ≡ models.binding (now (text .entry)) (now (rules .entry)) (now (table .entry)) rule top s t reader (now (store .entry)) (now (stack .entry)) (now (heap .entry)) ⌝ }
+    ensures { λ r. ⌜ (passed r leaving ((now (store .exit), now (stack .exit)), now (heap .exit)))
+        ≡ models.binding (now (text .entry)) (now (rules .entry)) (now (table .entry)) rule top s t reader (now (store .entry)) (now (stack .entry))
+        (now (heap .entry)) ⌝ }
 {
     let found = theory_reading::find_variable(heap, rule, rules, text, s, t);
     let Found::At(v) = found else {
@@ -65,7 +67,9 @@ pub fn stated(
     t: usize,
     reader: Reader,
 ) -> Numbered
-    ensures { λ r. ⌜ (numbered r leaving ((now (store .exit), now (stack .exit)), now (heap .entry))) ≡ models.stated (now (text .entry)) (now (rules .entry)) (now (table .entry)) top word s t reader (now (store .entry)) (now (stack .entry)) (now (heap .entry)) ⌝ }
+    ensures { λ r. ⌜ (numbered r leaving ((now (store .exit), now (stack .exit)), now (heap .entry)))
+        ≡ models.stated (now (text .entry)) (now (rules .entry)) (now (table .entry)) top word s t reader (now (store .entry)) (now (stack .entry))
+        (now (heap .entry)) ⌝ }
 {
     let j = terms::headed_judgment(
         text,
@@ -104,7 +108,9 @@ pub fn headed_item(
     t: usize,
     r: Reader,
 ) -> Numbered
-    ensures { λ a. ⌜ (numbered a leaving ((now (store .exit), now (stack .exit)), now (heap .exit))) ≡ models.headedItem (now (text .entry)) (now (rules .entry)) (now (table .entry)) rule top word s t r (now (store .entry)) (now (stack .entry)) (now (heap .entry)) ⌝ }
+    ensures { λ a. ⌜ (numbered a leaving ((now (store .exit), now (stack .exit)), now (heap .exit)))
+        ≡ models.headedItem (now (text .entry)) (now (rules .entry)) (now (table .entry)) rule top word s t r (now (store .entry)) (now (stack .entry))
+        (now (heap .entry)) ⌝ }
 {
     if items::is_question(text, s) {
         let b = binding(text, rules, table, store, stack, heap, rule, top, s, t, r);
@@ -129,9 +135,11 @@ pub fn item(
     word: u32,
     reader: Reader,
 ) -> Numbered
-    ensures { λ r. ⌜ (numbered r leaving ((now (store .exit), now (stack .exit)), now (heap .exit))) ≡ models.item (now (text .entry)) (now (rules .entry)) (now (table .entry)) rule top word reader (now (store .entry)) (now (stack .entry)) (now (heap .entry)) ⌝ }
+    ensures { λ r. ⌜ (numbered r leaving ((now (store .exit), now (stack .exit)), now (heap .exit)))
+        ≡ models.item (now (text .entry)) (now (rules .entry)) (now (table .entry)) rule top word reader (now (store .entry)) (now (stack .entry))
+        (now (heap .entry)) ⌝ }
 {
-    let l = asking::list_due(text, 256, reader);
+    let l = asking::list_due(text, asking::IN_FORM, reader);
     let Passed::To(q) = l else {
         return Numbered::Refused(asking::passed_refusal(l));
     };
@@ -167,7 +175,9 @@ pub fn items(
     top: u32,
     reader: Reader,
 ) -> Numbered
-    ensures { λ r. ⌜ (numbered r leaving ((now (store .exit), now (stack .exit)), now (heap .exit))) ≡ models.items (now (text .entry)) (now (rules .entry)) (now (table .entry)) rule top reader (now (store .entry)) (now (stack .entry)) (now (heap .entry)) ⌝ }
+    ensures { λ r. ⌜ (numbered r leaving ((now (store .exit), now (stack .exit)), now (heap .exit)))
+        ≡ models.items (now (text .entry)) (now (rules .entry)) (now (table .entry)) rule top reader (now (store .entry)) (now (stack .entry))
+        (now (heap .entry)) ⌝ }
 {
     let mut r = reader;
     let mut word: u32 = 0;

@@ -26,7 +26,9 @@ pub fn items_judged(
     n: u32,
     reader: Reader,
 ) -> Numbered
-    ensures { λ r. ⌜ (numbered r leaving ((now (store .exit), now (stack .exit)), now (heap .exit))) ≡ models.itemsJudged (now (text .entry)) (now (rules .entry)) (now (table .entry)) steps rule n reader (now (store .entry)) (now (stack .entry)) (now (heap .entry)) ⌝ }
+    ensures { λ r. ⌜ (numbered r leaving ((now (store .exit), now (stack .exit)), now (heap .exit)))
+        ≡ models.itemsJudged (now (text .entry)) (now (rules .entry)) (now (table .entry)) steps rule n reader (now (store .entry)) (now (stack .entry))
+        (now (heap .entry)) ⌝ }
 {
     let variables = theory_reading::variable_count(heap, rule);
     matching::unbind(heap, variables);
@@ -63,7 +65,9 @@ pub fn step(
     steps: u32,
     reader: Reader,
 ) -> Stepped
-    ensures { λ r. ⌜ (models.judged r leaving ((now (store .exit), now (stack .exit)), now (heap .exit))) ≡ models.step (now (text .entry)) (now (rules .entry)) (now (table .entry)) steps reader (now (store .entry)) (now (stack .entry)) (now (heap .entry)) ⌝ }
+    ensures { λ r. ⌜ (models.judged r leaving ((now (store .exit), now (stack .exit)), now (heap .exit)))
+        ≡ models.step (now (text .entry)) (now (rules .entry)) (now (table .entry)) steps reader (now (store .entry)) (now (stack .entry))
+        (now (heap .entry)) ⌝ }
 {
     let h = references::rule_due(text, rules, heap, steps, reader);
     let Numbered::Got(e, r) = h else {

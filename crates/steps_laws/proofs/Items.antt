@@ -75,7 +75,8 @@ pub data ItemRead (es : Entries) (th : Theory) (heap : List ℕ) (vs : List Vari
       → ItemRead es th heap vs ts₀ top held P (word, q) ((store, stack), live) (given binds stated, ts)
 
 pub read-less : {es : Entries} {th : Theory} {heap : List ℕ} {vs : List Variable} {ts₀ : List Term} {top : ℕ} {held : List ℕ} {P Q : Reader → Type 0}
-    {x : ℕ × Reader} {areas : Worked} {y : Given × List Term} → ((q : Reader) → P q → Q q) → ItemRead es th heap vs ts₀ top held P x areas y → ItemRead es th heap vs ts₀ top held Q x areas y
+    {x : ℕ × Reader} {areas : Worked} {y : Given × List Term} → ((q : Reader) → P q → Q q) → ItemRead es th heap vs ts₀ top held P x areas y
+    → ItemRead es th heap vs ts₀ top held Q x areas y
 read-less f (item-read p g) = item-read (f _ p) g
 
 -- What is looked for and unknown is 12.
@@ -126,8 +127,10 @@ unfolding rulebook.sortOf
 variable-sort (variable-is e n l a) = (n, a)
 
 module _ {rules heap : List ℕ} {es : Entries} {bound : ℕ} {th : Theory} (h : Holds rules heap es bound th) (high : bound ≤ 11948)
-    (text : List ℕ) (short : length text ≤ 32768) (table : List ℕ) (defs : List Def) (ts₀ : List Term) {base : ℕ} (abbreviations : Defs text table 128 base (Means es th ts₀) defs)
-    {e : ℕ} {rule : Rule} (by-rule : RuleAt rules heap es bound e rule) (distinct : Apart (variablesOf rule)) (top : ℕ) (held : List ℕ) (long : length held ≡ 16384) where
+    (text : List ℕ) (short : length text ≤ 32768) (table : List ℕ) (defs : List Def) (ts₀ : List Term) {base : ℕ}
+    (abbreviations : Defs text table 128 base (Means es th ts₀) defs)
+    {e : ℕ} {rule : Rule} (by-rule : RuleAt rules heap es bound e rule) (distinct : Apart (variablesOf rule)) (top : ℕ) (held : List ℕ)
+    (long : length held ≡ 16384) where
   abbrev So : ℕ → List ℕ → List ℕ → List ℕ → List Term → List Bind → Option Term → Type 0
   So word store stack live ts binds stated = Gathered es th heap (variablesOf rule) ts₀ top held word store stack live ts binds stated
 
@@ -135,7 +138,8 @@ module _ {rules heap : List ℕ} {es : Entries} {bound : ℕ} {th : Theory} (h :
   Read P x areas y = ItemRead es th heap (variablesOf rule) ts₀ top held P x areas y
 
   module _ (word : ℕ) (store stack live : List ℕ) (ts : List Term) (binds : List Bind) (stated : Option Term) (g : So word store stack live ts binds stated) where
-    ready : {K : Stream Token → Type 0} (place spent : ℕ) (r : Reader) → 2 * place ≤ spent → At text K spent r → Ready es th text ts₀ K place spent ts r store stack
+    ready : {K : Stream Token → Type 0} (place spent : ℕ) (r : Reader) → 2 * place ≤ spent → At text K spent r
+        → Ready es th text ts₀ K place spent ts r store stack
     ready place spent r l a = record { reader = a; room = l; stored = g .stored; grown = g .grown; long = g .kept .same-length ∙ long }
 
     -- The rule's words are where they were.
@@ -174,7 +178,8 @@ module _ {rules heap : List ℕ} {es : Entries} {bound : ℕ} {th : Theory} (h :
         (number-sort (holds-now h high (g .keep)) 2048 8192 4096 (st .trees) k (m .below) so ∙ ap (hasSort s) (m .tree))
 
     -- "`(?v T)`: unknown v 12, T, closing 10, bound already or wrong sort 21."
-    pub binding-law : (s t spent : ℕ) {name : Name} (K : Stream Token → Type 0) (is : Items) (r : Reader) → part s t text ≡ name → 2 * top ≤ spent → At text (Left is K) spent r
+    pub binding-law : (s t spent : ℕ) {name : Name} (K : Stream Token → Type 0) (is : Items) (r : Reader) → part s t text ≡ name → 2 * top ≤ spent
+        → At text (Left is K) spent r
         → Simulates (λ q areas y. Read (At text K (spent + 2)) (word, q) areas y) (walk.binding text rules table e top s t r store stack live)
         (certificates.bindingItem document01 th defs rule name is (given binds stated) ts)
     unfolding walk.binding certificates.bindingItem definition._>>=_ definition.lift definition.give AskedRead number
@@ -188,7 +193,8 @@ module _ {rules heap : List ℕ} {es : Entries} {bound : ℕ} {th : Theory} (h :
         (λ y left u k.
         lifted (u .1) _ _ (closing-law text K (spent + 2) (u .0 .1) (k .reader))
         (λ q _ a. through _ (u .1) _ (judged v (y .0) (rulebook.sortOf x) (u .0 .0) left (u .1) q nth so (k .stored) (k .means) (k .grown) (k .keeps) a))))) where
-          judged : (v k : ℕ) (sort : Name) (u : Term) (after : Areas) (us : List Term) (q : Reader) → Nth (variablesOf rule) v name → SortAt es (sortOfVariable live e v) sort
+          judged : (v k : ℕ) (sort : Name) (u : Term) (after : Areas) (us : List Term) (q : Reader) → Nth (variablesOf rule) v name
+              → SortAt es (sortOfVariable live e v) sort
               → Stored es th document01 4096 (after .0) us → Means es th us k u → Longer ts us → Keeps top stack (after .1) → At text K (spent + 2) q
               → Simulates (λ q areas y. Read (At text K (spent + 2)) (word, q) areas y)
               (leaving._>>=_ (outcomes.need (eqb (bindingOf live v) 0) 21 leaving (after, live))
@@ -196,13 +202,15 @@ module _ {rules heap : List ℕ} {es : Entries} {bound : ℕ} {th : Theory} (h :
               (λ _. outcomes.ok q leaving (after, set live (bindingAt v) (sum32 k 1)))))
               (refusals._>>=_ (refusals.need (not (isBound name binds) && hasSort sort u) badBinding) (λ _. refusals.ok (given (binds ++ (bind name u ∷ [])) stated, us)))
           judged v k sort u after us q nth so st m more keeps a =
-              tests (eqb (bindingOf live v) 0) (eqb (sortOf live (after .0) k) (sortOfVariable live e v)) 21 badBinding _ _ (both-tests v k name sort u after us nth so st m) refl
+              tests (eqb (bindingOf live v) 0) (eqb (sortOf live (after .0) k) (sortOfVariable live e v)) 21 badBinding _ _
+              (both-tests v k name sort u after us nth so st m) refl
               (λ yes.
               let free = both (not (isBound name binds)) (hasSort sort u) yes .0 in
               leave (item-read a (bound-now v k name u after us nth (not-stated _ (sym (bound-is name binds) ∙ not-true _ free)) st m more keeps)))
 
     -- A conclusion that was read is stated.
-    stated-now : (k : ℕ) (j : Term) (after : Areas) (us : List Term) → Stored es th document01 4096 (after .0) us → Means es th us k j → Longer ts us → Keeps top stack (after .1)
+    stated-now : (k : ℕ) (j : Term) (after : Areas) (us : List Term) → Stored es th document01 4096 (after .0) us → Means es th us k j → Longer ts us
+        → Keeps top stack (after .1)
         → So (sum32 k 1) (after .0) (after .1) live us binds (some j)
     unfolding document01
     stated-now k j after us st m more keeps =
@@ -218,7 +226,8 @@ module _ {rules heap : List ℕ} {es : Entries} {bound : ℕ} {th : Theory} (h :
         }
 
     -- "Otherwise a judgment; a second, once read, is 22."
-    pub stated-law : (s t spent : ℕ) {name : Name} (K : Stream Token → Type 0) (is : Items) (r : Reader) → part s t text ≡ name → 2 * top ≤ spent → At text (Left is K) (spent + 2) r
+    pub stated-law : (s t spent : ℕ) {name : Name} (K : Stream Token → Type 0) (is : Items) (r : Reader) → part s t text ≡ name → 2 * top ≤ spent
+        → At text (Left is K) (spent + 2) r
         → Simulates (Read (At text K (spent + 2))) (walk.stated text rules table top word s t r store stack live)
         (certificates.conclusionItem document01 th defs name is (given binds stated) ts)
     unfolding walk.stated certificates.conclusionItem definition._>>=_ definition.lift definition.give number
@@ -232,7 +241,8 @@ module _ {rules heap : List ℕ} {es : Entries} {bound : ℕ} {th : Theory} (h :
         (λ _. leave (item-read (k .reader) (stated-now (y .0) (u .0) left (u .1) (k .stored) (k .means) (k .grown) (k .keeps))))))
 
     -- "An item is a list with an atom head; after 4, 5 and 6, an answer that is no atom there is refused 7."
-    pub item-law : (spent : ℕ) (K : Stream Token → Type 0) (item : Item) (rest : Items) (r : Reader) → 2 * top ≤ spent → At text (Left (item then rest) K) spent r
+    pub item-law : (spent : ℕ) (K : Stream Token → Type 0) (item : Item) (rest : Items) (r : Reader) → 2 * top ≤ spent
+        → At text (Left (item then rest) K) spent r
         → Simulates (Read (At text (Left rest K) (spent + 2))) (walk.item text rules table e top word r store stack live)
         (certificates.stepItem document01 th defs rule item (given binds stated) ts)
     unfolding walk.item walk.headedItem certificates.stepItem definition._>>=_ definition.lift
@@ -254,7 +264,9 @@ module _ {rules heap : List ℕ} {es : Entries} {bound : ℕ} {th : Theory} (h :
   module _ (K : Stream Token → Type 0) where
     -- Two bytes at least were read for each turn of the loop.
     abbrev Law : ℕ → Items → Type 0
-    Law fuel is = (word spent : ℕ) (r : Reader) (store stack live : List ℕ) (ts : List Term) (binds : List Bind) (stated : Option Term) → 2 * top ≤ spent → length text + 2 ≤ fuel + spent
+    Law fuel is =
+        (word spent : ℕ) (r : Reader) (store stack live : List ℕ) (ts : List Term) (binds : List Bind)
+        (stated : Option Term) → 2 * top ≤ spent → length text + 2 ≤ fuel + spent
         → So word store stack live ts binds stated → At text (Left is K) spent r
         → Simulates (Read (At text K 0)) (walk.itemsFrom fuel text rules table e top word r store stack live)
         (certificates.stepItems document01 th defs rule is (given binds stated) ts)
@@ -276,7 +288,8 @@ module _ {rules heap : List ℕ} {es : Entries} {bound : ℕ} {th : Theory} (h :
       turn closed (look-closed there) = leave (item-read (at-less 0 (omega arith) there) g)
       turn badLine look-bad = refuse refl
       turn ended (look-ended there) = rw (asked-yes 255 1 refl) (by _ _ (list-ended text K spent there)) where
-        by : (m : Reader × Worked → Did Worked (ℕ × Reader)) (k : (ℕ × Reader) × Worked → Did Worked (ℕ × Reader)) {o : Outcome Reader} → Answers (GroupMet text K spent) o (refusals.refused textEnds)
+        by : (m : Reader × Worked → Did Worked (ℕ × Reader)) (k : (ℕ × Reader) × Worked → Did Worked (ℕ × Reader)) {o : Outcome Reader}
+            → Answers (GroupMet text K spent) o (refusals.refused textEnds)
             → Simulates (Read (At text K 0)) (leaving._>>=_ (leaving._>>=_ (o leaving ((store, stack), live)) m) k) (refusals.refused textEnds)
         by m k (both-refuse z) = refuse z
       turn (item then rest) (look-item {q} there) =

@@ -33,7 +33,8 @@ module _ (text : List ℕ) (K : Stream Token → Type 0) (n : ℕ) where
   unfolding walk.numberDue atomDue definition.askNumber definition.numberDue definition.wordDue refusals._>>=_ refusals.found number
   number-law is left depth e a = by (item-law text K n is left depth e a) where
     numbered : {r : Reader} (rest : Items) (o : Option ℕ) → At text (Left rest K) (n + 2) r
-        → Answers NumberMet (outcomes._>>=_ (outcomes.orElse o 18) (λ i. outcomes.ok (i, r))) (refusals._>>=_ (refusals.found o notNumber) (λ i. refusals.ok (i, rest)))
+        → Answers NumberMet (outcomes._>>=_ (outcomes.orElse o 18) (λ i. outcomes.ok (i, r)))
+        (refusals._>>=_ (refusals.found o notNumber) (λ i. refusals.ok (i, rest)))
     numbered rest none there = both-refuse refl
     numbered rest (some i) there = both-ok record { same = refl; reader = there }
 

@@ -57,7 +57,8 @@ module _ (text : List ℕ) (short : length text ≤ 32768) (K : Stream Token →
         (on rest (n + 1) (spent + 2) (ns ++ (i ∷ [])) q (set stack n (saturated i)) (omega arith) (omega arith) (omega arith) (omega arith)
         (references-more n (saturated i) i e (omega arith) (saturates i) refs) there)
         (λ x left ms k. longer x left ms k)) where
-          longer : (x : ℕ × Reader) (left ms : List ℕ) → ReferencesRead text K (spent + 2) (ns ++ (i ∷ [])) x left ms → ReferencesRead text K spent ns x left (i ∷ ms)
+          longer : (x : ℕ × Reader) (left ms : List ℕ) → ReferencesRead text K (spent + 2) (ns ++ (i ∷ [])) x left ms
+              → ReferencesRead text K spent ns x left (i ∷ ms)
           longer x left ms k =
               record {
                 count = rw append-assoc at (k .count);
@@ -71,7 +72,8 @@ module _ (text : List ℕ) (short : length text ≤ 32768) (K : Stream Token →
         record { count = rw append-nil e; reader = at-less (spent + 0) (omega arith) there; refs = rw append-nil refs; long = long }
 
     turn : (is : Items) {o : Outcome Ahead} → Looked text K spent is o
-        → Simulates (ReferencesRead text K spent ns) (leaving._>>=_ (o leaving stack) (λ p. walk.oneReference (walk.referencesFrom fuel text) text n (p .0) (p .1)))
+        → Simulates (ReferencesRead text K spent ns)
+        (leaving._>>=_ (o leaving stack) (λ p. walk.oneReference (walk.referencesFrom fuel text) text n (p .0) (p .1)))
         (certificates.references is)
     unfolding certificates.references absent refusals._>>=_ number
     turn closed (look-closed {q} there) = leave (none-more q there)
@@ -87,4 +89,5 @@ module _ (text : List ℕ) (short : length text ≤ 32768) (K : Stream Token →
   pub references-from : (fuel : ℕ) (is : Items) → Law fuel is
   unfolding walk.referencesFrom
   references-from zero is n spent ns r stack e l f long refs a = absurd (let b = at-within a in omega arith)
-  references-from (suc fuel) is n spent ns r stack e l f long refs a = turn fuel (references-from fuel) n spent ns stack e l f long refs is (look-law text K spent is a)
+  references-from (suc fuel) is n spent ns r stack e l f long refs a =
+      turn fuel (references-from fuel) n spent ns stack e l f long refs is (look-law text K spent is a)

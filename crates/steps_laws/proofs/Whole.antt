@@ -84,7 +84,8 @@ module _ {text : List ℕ} {K : Stream Token → Type 0} {n : ℕ} where
   group-at (group-met a) = a
 
 -- What is read and tested without the other areas, and what follows.
-counted : {S P U A C D E : Type 0} {Q : A → S → C → Type 0} {R : E → (P × S) × U → D → Type 0} {m : Did S A} (p : P) (u : U) (m′ : Result C) (c : C → Bool) (r : Refusal) (ts : List Term)
+counted : {S P U A C D E : Type 0} {Q : A → S → C → Type 0} {R : E → (P × S) × U → D → Type 0} {m : Did S A} (p : P) (u : U) (m′ : Result C) (c : C → Bool)
+    (r : Refusal) (ts : List Term)
     (f : A × ((P × S) × U) → Did ((P × S) × U) E) (g : C → List Term → Result D)
     → Simulates Q m (refusals._>>=_ m′ (λ a. refusals._>>=_ (refusals.need (c a) r) (λ _. refusals.ok a)))
     → ((x : A) (s : S) (y : C) → Q x s y → Simulates R (f (x, ((p, s), u))) (g y ts))
@@ -107,9 +108,11 @@ module _ {rules heap : List ℕ} {es : Entries} {bound : ℕ} {th : Theory} (h :
     (t : Tables goalsText certificate table 128 (Means es th ts) Recorded tally goals (now .openGoals) (now .defs) (now .steps))
     (K : Stream Token → Type 0) where
   -- "List of references, each 18; their count 20".
-  counted-law : {live : List ℕ} → Holds rules live es bound th → {e : ℕ} {c : Rule} → RuleAt rules live es bound e c → (L : Stream Token → Type 0) (is : Items) (spent : ℕ) (r : Reader) (stack : List ℕ)
+  counted-law : {live : List ℕ} → Holds rules live es bound th → {e : ℕ} {c : Rule} → RuleAt rules live es bound e c
+      → (L : Stream Token → Type 0) (is : Items) (spent : ℕ) (r : Reader) (stack : List ℕ)
       → length stack ≡ 16384 → 1 ≤ spent → At certificate (Left is L) spent r
-      → Simulates (λ x left y. ReferencesRead certificate L spent [] x left y × (length y ≡ length (premisesOf c))) (referring.countedReferences certificate live e r stack)
+      → Simulates (λ x left y. ReferencesRead certificate L spent [] x left y × (length y ≡ length (premisesOf c)))
+      (referring.countedReferences certificate live e r stack)
       (refusals._>>=_ (certificates.references is) (λ refs. refusals._>>=_ (refusals.need (eqb (length refs) (length (premisesOf c))) referenceCount) (λ _. refusals.ok refs)))
   unfolding referring.countedReferences referring.references number
   counted-law {live} hn {e} {c} a L is spent r stack long some there =
@@ -123,7 +126,8 @@ module _ {rules heap : List ℕ} {es : Entries} {bound : ℕ} {th : Theory} (h :
 
   -- "Items; matching": the rule and the references are known.
   module _ {e : ℕ} {rule : Rule} (by-rule : RuleAt rules heap es bound e rule) (ready : RuleReady rule) {refs held : List ℕ} (at-refs : ReferencesAt held 0 refs)
-      (count : length refs ≡ length (premisesOf rule)) (long : length held ≡ 16384) (n place : ℕ) (all-held : length refs ≤ n) (small : place < 4294967296) where
+      (count : length refs ≡ length (premisesOf rule)) (long : length held ≡ 16384) (n place : ℕ) (all-held : length refs ≤ n)
+      (small : place < 4294967296) where
     concluded : (x : ℕ × Reader) (areas : Worked) (y : Given × List Term) → ItemRead es th heap (variablesOf rule) ts n held (At certificate K 0) x areas y
         → Simulates (λ (p : ℕ × Reader) after z. Read (p .0, e, place, p .1) after z)
         (leaving._>>=_ (stepConcluded 2048 8192 4096 table (tally .steps) e (x .0) (areas .0 .1) (areas .0 .0) (areas .1)) (λ p. outcomes.ok (p .0, x .1) leaving (p .1)))
@@ -148,9 +152,11 @@ module _ {rules heap : List ℕ} {es : Entries} {bound : ℕ} {th : Theory} (h :
           keeps = k .keeps;
         })
 
-    judged-law : (is : Items) (spent : ℕ) (r : Reader) (store live : List ℕ) → 2 * n ≤ spent → 1 ≤ spent → Stored es th document01 4096 store ts → Keeps 12288 heap live
+    judged-law : (is : Items) (spent : ℕ) (r : Reader) (store live : List ℕ) → 2 * n ≤ spent → 1 ≤ spent → Stored es th document01 4096 store ts
+        → Keeps 12288 heap live
         → RuleAt rules live es bound e rule → At certificate (Left is K) spent r
-        → Simulates (λ (p : ℕ × Reader) after z. Read (p .0, e, place, p .1) after z) (walk.itemsJudged certificate rules table (tally .steps) e n r store held live)
+        → Simulates (λ (p : ℕ × Reader) after z. Read (p .0, e, place, p .1) after z)
+        (walk.itemsJudged certificate rules table (tally .steps) e n r store held live)
         (refusals._>>=_ {A = Given × List Term} (certificates.stepItems document01 th (now .defs) rule is (given [] none) ts)
         (λ g. refusals._>>=_ {A = Term × List Term} (certificates.conclude document01 th (now .steps) rule refs (g .0) (g .1))
         (λ p. refusals.ok (record { defs = now .defs; openGoals = now .openGoals; steps = now .steps ++ (step (p .0) rule ∷ []) }, p .1))))

@@ -9,12 +9,14 @@ use Rattle.items.specs.Items.{pushed, closingDue}
 use Rattle.items.specs.declared.Walk.{Walk}
 use Rattle.symbols.specs.Symbols.{sortNamed, inputs}
 
-pub inputs-on : (text counts : List ℕ) (left : ℕ) (w : Walk) (heap : List ℕ) {a : ℕ} {q v : Walk} {heap′ : List ℕ} → 0 < left → sortNamed text counts heap w ≡ ok (a, q) → pushed a q heap ≡ (ok v leaving heap′) → inputs left text counts w heap ≡ inputs (left - 1) text counts v heap′
+pub inputs-on : (text counts : List ℕ) (left : ℕ) (w : Walk) (heap : List ℕ) {a : ℕ} {q v : Walk} {heap′ : List ℕ} → 0 < left
+    → sortNamed text counts heap w ≡ ok (a, q) → pushed a q heap ≡ (ok v leaving heap′) → inputs left text counts w heap ≡ inputs (left - 1) text counts v heap′
 unfolding inputs
 inputs-on text counts zero w heap l h g = absurd (omega arith)
 inputs-on text counts (suc left) w heap l h g = let e : suc left - 1 ≡ left = omega arith in rw (e, h, g)
 
-pub input-refused : (text counts : List ℕ) (left : ℕ) (w : Walk) (heap : List ℕ) {m : ℕ} → 0 < left → sortNamed text counts heap w ≡ refused m → inputs left text counts w heap ≡ (refused m leaving heap)
+pub input-refused : (text counts : List ℕ) (left : ℕ) (w : Walk) (heap : List ℕ) {m : ℕ} → 0 < left → sortNamed text counts heap w ≡ refused m
+    → inputs left text counts w heap ≡ (refused m leaving heap)
 unfolding inputs
 input-refused text counts zero w heap l h = absurd (omega arith)
 input-refused text counts (suc left) w heap l h = rw h

@@ -18,6 +18,7 @@ pub enum Signature {
     Refused(u32),
 }
 
+// The number of its refusal, 0 where there is none.
 pub fn signature_refusal(r: Signature) -> u32
     ensures { λ n. ⌜ n ≡ refusal (signed r) ⌝ }
 {
@@ -40,6 +41,7 @@ pub fn reserve(w: Walk, n: u32) -> Walk
     }
 }
 
+// The address of the sort that is named next.
 pub fn sort_named(text: &[u8], counts: &[u32], heap: &[u32], w: Walk) -> Numbered
     ensures { λ r. ⌜ numbered r ≡ sortNamed (now (text .entry)) (now (counts .entry)) (now (heap .entry)) w ⌝ }
 {
@@ -84,6 +86,7 @@ pub fn describe(heap: &mut [u32], e: u32, a: u32, b: u32)
     words::put(heap, e as usize + places::ARITY, b);
 }
 
+// "`(sort N)`: N, then duplicate."
 pub fn declare_sort(text: &[u8], counts: &[u32], heap: &mut [u32], w: Walk) -> Walked
     ensures { λ r. ⌜ (walked r leaving now (heap .exit)) ≡ sortDeclared (now (text .entry)) (now (counts .entry)) w (now (heap .entry)) ⌝ }
 {
@@ -116,6 +119,7 @@ pub fn read_inputs(text: &[u8], counts: &[u32], heap: &mut [u32], n: u32, w: Wal
     items::close(text, v)
 }
 
+// A symbol's name and its inputs.
 pub fn read_signature(text: &[u8], counts: &[u32], heap: &mut [u32], w: Walk) -> Signature
     ensures { λ r. ⌜ (signed r leaving now (heap .exit)) ≡ signature (now (text .entry)) (now (counts .entry)) w (now (heap .entry)) ⌝ }
 {
@@ -134,6 +138,7 @@ pub fn read_signature(text: &[u8], counts: &[u32], heap: &mut [u32], w: Walk) ->
     Signature::Got(s, t, n, o)
 }
 
+// A symbol's entry, then the closing of its declaration.
 pub fn enter_symbol(
     text: &[u8],
     heap: &mut [u32],
@@ -155,6 +160,7 @@ pub fn enter_symbol(
     items::close(text, q)
 }
 
+// "`(ctor N (S...) S)`: N, inputs left to right, output, duplicate."
 pub fn declare_constructor(text: &[u8], counts: &[u32], heap: &mut [u32], w: Walk) -> Walked
     ensures { λ r. ⌜ (walked r leaving now (heap .exit)) ≡ constructorDeclared (now (text .entry)) (now (counts .entry)) w (now (heap .entry)) ⌝ }
 {
@@ -170,6 +176,7 @@ pub fn declare_constructor(text: &[u8], counts: &[u32], heap: &mut [u32], w: Wal
     enter_symbol(text, heap, places::CONSTRUCTORS, e, s, t, output, n, p)
 }
 
+// "`(pred N (S...))`: N, inputs left to right, duplicate." Its output is 0, which is no sort's address.
 pub fn declare_predicate(text: &[u8], counts: &[u32], heap: &mut [u32], w: Walk) -> Walked
     ensures { λ r. ⌜ (walked r leaving now (heap .exit)) ≡ predicateDeclared (now (text .entry)) (now (counts .entry)) w (now (heap .entry)) ⌝ }
 {

@@ -1,10 +1,9 @@
 -- What an entry with its value leaves of the area. Assumes nothing.
-use mathlib.Core.Path.{_≡_, refl, _∙_}
-use mathlib.Core.List.{List, [], _∷_, _++_}
-use mathlib.Core.Option.{none, some}
-use Prim.Native.Nat.{ℕ, zero, suc, _+_, _≤_, _<_}
+use mathlib.Core.Path.{_≡_, _∙_}
+use mathlib.Core.List.{List}
+use Prim.Native.Nat.{ℕ, _+_, _≤_, _<_}
 use native.Mathlib.Omega.{arith}
-use lib.ListN.{length, getD, set, getElem?, length-set, length-append}
+use lib.ListN.{length, getD, set, length-set}
 use lib.Seq.{getD-set-same, getD-set-other}
 use Rattle.names.specs.Chains.{added}
 use Rattle.names.proofs.Kept.{length-added, added-other}
@@ -13,9 +12,6 @@ use Rattle.tables.specs.Words.{entered}
 -- The words of two areas are the same from one place up to another.
 pub record Same (table table′ : List ℕ) (low high : ℕ) : Type 0 where
   pub words : (i : ℕ) → low ≤ i → i < high → getD table′ i 0 ≡ getD table i 0
-
-pub one-more : {A : Type 0} (xs : List A) (x : A) → length (xs ++ (x ∷ [])) ≡ length xs + 1
-one-more xs x = length-append xs (x ∷ [])
 
 module _ (table : List ℕ) (buckets count e : ℕ) (text : List ℕ) (s t value : ℕ) where
   pub length-entered : length (entered buckets count e text s t value table) ≡ length table
@@ -56,18 +52,3 @@ pub same-then : {one two three : List ℕ} {low high : ℕ} → Same one two low
 same-then a b = record { words = λ i l r. b .words i l r ∙ a .words i l r }
 
 -- A list with one element more.
-pub last-is : {A : Type 0} (xs : List A) (x : A) (n : ℕ) → n ≡ length xs → getElem? (xs ++ (x ∷ [])) n ≡ some x
-last-is [] x zero h = refl
-last-is [] x (suc n) h = absurd (omega arith)
-last-is (y ∷ xs) x zero h = absurd (omega arith)
-last-is (y ∷ xs) x (suc n) h = last-is xs x n (omega arith)
-
-pub before-last : {A : Type 0} (xs : List A) (x : A) (n : ℕ) → n < length xs → getElem? (xs ++ (x ∷ [])) n ≡ getElem? xs n
-before-last [] x n h = absurd (omega arith)
-before-last (y ∷ xs) x zero h = refl
-before-last (y ∷ xs) x (suc n) h = before-last xs x n (omega arith)
-
-pub beyond : {A : Type 0} (xs : List A) (n : ℕ) → length xs ≤ n → getElem? xs n ≡ none
-beyond [] n h = refl
-beyond (x ∷ xs) zero h = absurd (omega arith)
-beyond (x ∷ xs) (suc n) h = beyond xs n (omega arith)

@@ -14,7 +14,8 @@ use Rattle.names.proofs.Kept.{kept-within, kept-put, add-law}
 use Rattle.names.proofs.Declared.{stands-kept, find-agrees, find-present}
 use Rattle.tables.specs.Words.{entered, defFound, defMeaning}
 use Rattle.tables.specs.Representation.{DefAt, Defs}
-use Rattle.tables.proofs.Areas.{Same, one-more, entered-value, entered-same}
+use Rattle.facts.proofs.Lists.{one-more}
+use Rattle.tables.proofs.Areas.{Same, entered-value, entered-same}
 use Rattle.tables.proofs.Goals.{agreed}
 
 module _ {text table : List ℕ} {buckets base : ℕ} {Means : ℕ → Term → Type 0} {defs : List Def} where

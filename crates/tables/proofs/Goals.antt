@@ -19,8 +19,10 @@ use Rattle.names.specs.Tables.{Entry, entry, top, Stands, other-kind, declared,
 use Rattle.names.proofs.Kept.{kept-within, kept-put, kept-set, add-law}
 use Rattle.names.proofs.Declared.{stands-kept, find-agrees, find-present}
 use Rattle.tables.specs.Words.{entered, goalFound, openAt, goalOpen}
-use Rattle.tables.specs.Representation.{Sits, here, there, GoalsAt, no-goal, still-open, is-closed, Goals, OpenAt, OpenAgree, none-open as nothing-open, one-open}
-use Rattle.tables.proofs.Areas.{Same, one-more, length-entered, entered-value, entered-same}
+use Rattle.tables.specs.Representation.{Sits, here, there, GoalsAt, no-goal, still-open, is-closed, Goals, OpenAt, OpenAgree}
+use Rattle.tables.specs.Representation.{none-open as nothing-open, one-open}
+use Rattle.facts.proofs.Lists.{one-more}
+use Rattle.tables.proofs.Areas.{Same, length-entered, entered-value, entered-same}
 
 -- Addresses: bounds, and a list with one thing more.
 pub sits-bounds : {A : Type 0} {b e : ℕ} {things : List A} {a : A} → Sits b things e a → (b ≤ e) × (e + 4 ≤ b + 4 * length things)

@@ -1,8 +1,8 @@
 -- The laws of the whole area: each function against the definition, under one relation. Assumes nothing.
-use mathlib.Core.Path.{_≡_, refl, ap, sym}
+use mathlib.Core.Path.{_≡_, refl, sym}
 use mathlib.Core.Bool.{false}
 use mathlib.Core.List.{List, [], _∷_, _++_}
-use Prim.Native.Nat.{ℕ, zero, suc, _+_, _*_, _-_, _≤_, _<_}
+use Prim.Native.Nat.{ℕ, suc, _+_, _*_, _-_, _≤_, _<_}
 use native.Mathlib.Omega.{arith}
 use borrow.Author.Tests.{ne-eqb}
 use lib.Dec.{eqb}
@@ -15,24 +15,20 @@ use Rattle.horn.specs.Matching.{Step}
 use Rattle.horn.specs.Certificate.{without}
 use Rattle.horn.proofs.Inversion.{none-some}
 use Rattle.names.specs.Tables.{top, none-yet, Agree, present}
-use Rattle.names.proofs.Kept.{empty-table, cleared-zero}
+use Rattle.names.proofs.Kept.{empty-table}
+use Rattle.words.proofs.Writing.{length-cleared, getD-cleared}
 use Rattle.names.proofs.Declared.{stands-kept}
 use Rattle.words.specs.Sums.{sum32}
-use Rattle.tables.specs.Words.{noneYet, entered, goalFound, goalOpen, goalAdded, goalCounted, goalClosed, goalDone, defFound, defMeaning, defAdded, defCounted, stepAdded, stepCounted, stepWord}
+use Rattle.tables.specs.Words.{noneYet, entered, goalFound, goalOpen, goalAdded, goalCounted, goalClosed, goalDone, defFound}
+use Rattle.tables.specs.Words.{defMeaning, defAdded, defCounted, stepAdded, stepCounted, stepWord}
 use Rattle.tables.specs.declared.Tally.{Tally}
 use Rattle.tables.specs.Representation.{GoalsAt, no-goal, still-open, is-closed, DefAt, StepAt, Tables, OpenAt, OpenAgree, StepAgree}
 use Rattle.words.proofs.Sums.{sum-small}
-use Rattle.tables.proofs.Areas.{one-more, length-entered, entered-same, entered-above, entered-below, set-same}
+use Rattle.facts.proofs.Lists.{one-more}
+use Rattle.tables.proofs.Areas.{length-entered, entered-same, entered-above, entered-below, set-same}
 use Rattle.tables.proofs.Goals.{sits-bounds, goals-kept, goals-add, goal-known, open-agrees, goals-close}
 use Rattle.tables.proofs.Defs.{defs-kept, defs-add, defs-raised, def-known, meaning-agrees}
 use Rattle.tables.proofs.Steps.{steps-kept, steps-add, step-agrees, step-added-length, step-added-below}
-
--- Clearing keeps the length.
-pub length-cleared : (n : ℕ) (s : List ℕ) → length (cleared n s) ≡ length s
-unfolding cleared
-length-cleared zero s = refl
-length-cleared (suc n) [] = refl
-length-cleared (suc n) (w ∷ s) = ap suc (length-cleared n s)
 
 empty-counts : (gs : List Goal) → isEmptyList gs ≡ eqb (length gs) 0
 unfolding isEmptyList
@@ -40,7 +36,8 @@ empty-counts [] = refl
 empty-counts (g ∷ gs) = sym (ne-eqb (suc (length gs)) 0 (λ (z : suc (length gs) ≡ 0). omega arith))
 
 -- No more goals are open than there are.
-open-few : {table : List ℕ} {Means : ℕ → Term → Type 0} {b : ℕ} {goals openGoals : List Goal} → GoalsAt table Means b goals openGoals → length openGoals ≤ length goals
+open-few : {table : List ℕ} {Means : ℕ → Term → Type 0} {b : ℕ} {goals openGoals : List Goal} → GoalsAt table Means b goals openGoals
+    → length openGoals ≤ length goals
 open-few no-goal = omega arith
 open-few (still-open v m n g) = omega (arith, open-few g)
 open-few (is-closed v n g) = omega (arith, open-few g)
@@ -59,7 +56,7 @@ begin-holds goalsText certificate table buckets Means Recorded p f small =
       goal-part =
           record {
             entries = [];
-            names = empty-table goalsText (omega arith) (omega arith) (omega arith) (λ i x y. cleared-zero (128 + buckets) table i (omega arith));
+            names = empty-table goalsText (omega arith) (omega arith) (omega arith) (λ i x y. getD-cleared (128 + buckets) table i (omega arith));
             below = omega arith;
             inside = omega arith;
             stands = none-yet;
@@ -68,7 +65,7 @@ begin-holds goalsText certificate table buckets Means Recorded p f small =
       def-part =
           record {
             entries = [];
-            names = empty-table certificate p (omega arith) (omega arith) (λ i x y. cleared-zero (128 + buckets) table i y);
+            names = empty-table certificate p (omega arith) (omega arith) (λ i x y. getD-cleared (128 + buckets) table i y);
             below = omega arith;
             stands = none-yet;
           };

@@ -24,9 +24,11 @@ use Rattle.words.specs.Sums.{sum32}
 use Rattle.tables.specs.Words.{noneYet, goalAdded, goalCounted, goalClosed, goalDone, defAdded, defCounted, stepAdded, stepCounted}
 use Rattle.tables.specs.Representation.{OpenAt}
 use Rattle.tables.specs.Phases.{Gathering, Between}
-use Rattle.tables.proofs.Areas.{one-more, length-entered}
+use Rattle.facts.proofs.Lists.{one-more}
+use Rattle.tables.proofs.Areas.{length-entered}
 use Rattle.tables.proofs.Steps.{step-added-length}
-use Rattle.tables.proofs.Laws.{length-cleared, begin-holds, add-goal, add-def, add-step, close-goal, means-more}
+use Rattle.words.proofs.Writing.{length-cleared}
+use Rattle.tables.proofs.Laws.{begin-holds, add-goal, add-def, add-step, close-goal, means-more}
 use Rattle.tables.proofs.Rooms.{goal-room, def-room, step-room}
 
 -- The same room in an area of the same length.

@@ -16,7 +16,8 @@ use Rattle.names.proofs.Holds.{by-number}
 use Rattle.tables.specs.Words.{stepAt, stepAdded, stepWord}
 use Rattle.tables.specs.declared.Tally.{Tally}
 use Rattle.tables.specs.Representation.{StepAt, Steps, StepAgree, no-step, one-step}
-use Rattle.tables.proofs.Areas.{Same, one-more, last-is, before-last, beyond}
+use Rattle.facts.proofs.Lists.{one-more, last-is, before-last, beyond}
+use Rattle.tables.proofs.Areas.{Same}
 
 below-count : {A : Type 0} (xs : List A) (n : ℕ) {a : A} → getElem? xs n ≡ some a → n < length xs
 below-count xs n h = case (ltb n (length xs)) (λ p. ltb-true _ _ p) (λ p. none-some (sym (beyond xs n (ltb-false _ _ p)) ∙ h))
@@ -72,7 +73,8 @@ module _ (table : List ℕ) (j r place : ℕ) (tally : Tally) where
   step-added-below low high h =
       record { words = λ i l k. three-other table (length table - 3 * (tally .steps + 1)) j r (place % 4294967296) i (λ x y. omega arith) }
 
-  step-added-above : (low high : ℕ) → 3 * (tally .steps + 1) ≤ length table → length table ≤ low + 3 * tally .steps → Same table (stepAdded j r place tally table) low high
+  step-added-above : (low high : ℕ) → 3 * (tally .steps + 1) ≤ length table → length table ≤ low + 3 * tally .steps
+      → Same table (stepAdded j r place tally table) low high
   unfolding stepAdded stepAt
   step-added-above low high f h =
       record { words = λ i l k. three-other table (length table - 3 * (tally .steps + 1)) j r (place % 4294967296) i (λ x y. omega arith) }

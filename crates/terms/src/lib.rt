@@ -22,6 +22,7 @@ pub enum Numbered {
     Refused(u32),
 }
 
+// The number of its refusal, 0 where there is none.
 pub fn numbered_refusal(r: Numbered) -> u32
     ensures { λ n. ⌜ n ≡ refusal (numbered r) ⌝ }
 {

@@ -17,27 +17,34 @@ use Rattle.theory.specs.declared.Form.{Form}
 use Rattle.theory.specs.declared.Counts.{Counts}
 
 module _ (text counts : List ℕ) where
-  pub declarations-short : (fuel : ℕ) (c : Counts) (w : Walk) (vars heap : List ℕ) → fuel ≤ 0 → declarationsFrom fuel text counts c w vars heap ≡ (refused 4 leaving (vars, heap))
+  pub declarations-short : (fuel : ℕ) (c : Counts) (w : Walk) (vars heap : List ℕ) → fuel ≤ 0
+      → declarationsFrom fuel text counts c w vars heap ≡ (refused 4 leaving (vars, heap))
   unfolding declarationsFrom
   declarations-short zero c w vars heap l = refl
   declarations-short (suc fuel) c w vars heap l = absurd (omega arith)
 
-  pub look-refused : (fuel : ℕ) (c : Counts) (w : Walk) (vars heap : List ℕ) {m : ℕ} → 0 < fuel → moreDue text w ≡ refused m → declarationsFrom fuel text counts c w vars heap ≡ (refused m leaving (vars, heap))
+  pub look-refused : (fuel : ℕ) (c : Counts) (w : Walk) (vars heap : List ℕ) {m : ℕ} → 0 < fuel → moreDue text w ≡ refused m
+      → declarationsFrom fuel text counts c w vars heap ≡ (refused m leaving (vars, heap))
   unfolding declarationsFrom
   look-refused zero c w vars heap l h = absurd (omega arith)
   look-refused (suc fuel) c w vars heap l h = rw h
 
-  pub declarations-end : (fuel : ℕ) (c : Counts) (w : Walk) (vars heap : List ℕ) → 0 < fuel → moreDue text w ≡ ok nothing → declarationsFrom fuel text counts c w vars heap ≡ (ok c leaving (vars, heap))
+  pub declarations-end : (fuel : ℕ) (c : Counts) (w : Walk) (vars heap : List ℕ) → 0 < fuel → moreDue text w ≡ ok nothing
+      → declarationsFrom fuel text counts c w vars heap ≡ (ok c leaving (vars, heap))
   unfolding declarationsFrom
   declarations-end zero c w vars heap l h = absurd (omega arith)
   declarations-end (suc fuel) c w vars heap l h = rw h
 
-  pub declaration-refused : (fuel : ℕ) (c : Counts) (w : Walk) (vars heap : List ℕ) {v : Walk} {m : ℕ} {after : Areas} → 0 < fuel → moreDue text w ≡ ok (another v) → declaration text counts v vars heap ≡ (refused m leaving after) → declarationsFrom fuel text counts c w vars heap ≡ (refused m leaving after)
+  pub declaration-refused : (fuel : ℕ) (c : Counts) (w : Walk) (vars heap : List ℕ) {v : Walk} {m : ℕ} {after : Areas} → 0 < fuel
+      → moreDue text w ≡ ok (another v) → declaration text counts v vars heap ≡ (refused m leaving after)
+      → declarationsFrom fuel text counts c w vars heap ≡ (refused m leaving after)
   unfolding declarationsFrom
   declaration-refused zero c w vars heap l h g = absurd (omega arith)
   declaration-refused (suc fuel) c w vars heap l h g = rw (h, g)
 
-  pub declarations-on : (fuel : ℕ) (c : Counts) (w : Walk) (vars heap : List ℕ) {v q : Walk} {form : Form} {vars′ heap′ : List ℕ} → 0 < fuel → moreDue text w ≡ ok (another v) → declaration text counts v vars heap ≡ (ok (form, q) leaving (vars′, heap′)) → declarationsFrom fuel text counts c w vars heap ≡ declarationsFrom (fuel - 1) text counts (counted c form) q vars′ heap′
+  pub declarations-on : (fuel : ℕ) (c : Counts) (w : Walk) (vars heap : List ℕ) {v q : Walk} {form : Form} {vars′ heap′ : List ℕ} → 0 < fuel
+      → moreDue text w ≡ ok (another v) → declaration text counts v vars heap ≡ (ok (form, q) leaving (vars′, heap′))
+      → declarationsFrom fuel text counts c w vars heap ≡ declarationsFrom (fuel - 1) text counts (counted c form) q vars′ heap′
   unfolding declarationsFrom
   declarations-on zero c w vars heap l h g = absurd (omega arith)
   declarations-on (suc fuel) c w vars heap l h g = let e : suc fuel - 1 ≡ fuel = omega arith in rw (e, h, g)

@@ -46,6 +46,7 @@ pub enum Judged {
     Refused(u32),
 }
 
+// The number of its refusal, 0 where there is none.
 fn declared_refusal(r: Declared) -> u32
     ensures { λ n. ⌜ n ≡ refusal (declaredAs r) ⌝ }
 {
@@ -85,6 +86,7 @@ fn form_of(text: &[u8], s: usize, t: usize, members: u32) -> Form
     Form::Other
 }
 
+// A declaration behind its head, by its form.
 fn declare(
     form: Form,
     text: &[u8],
@@ -93,7 +95,8 @@ fn declare(
     heap: &mut [u32],
     w: Walk,
 ) -> Walked
-    ensures { λ r. ⌜ (walked r leaving (now (vars .exit), now (heap .exit))) ≡ declaredBy form (now (text .entry)) (now (counts .entry)) w (now (vars .entry)) (now (heap .entry)) ⌝ }
+    ensures { λ r. ⌜ (walked r leaving (now (vars .exit), now (heap .exit)))
+        ≡ declaredBy form (now (text .entry)) (now (counts .entry)) w (now (vars .entry)) (now (heap .entry)) ⌝ }
 {
     match form {
         Form::Sort => symbols::declare_sort(text, counts, heap, w),
@@ -104,8 +107,10 @@ fn declare(
     }
 }
 
+// One declaration.
 fn judge(text: &[u8], counts: &[u32], vars: &mut [u32], heap: &mut [u32], w: Walk) -> Declared
-    ensures { λ r. ⌜ (declaredAs r leaving (now (vars .exit), now (heap .exit))) ≡ declaration (now (text .entry)) (now (counts .entry)) w (now (vars .entry)) (now (heap .entry)) ⌝ }
+    ensures { λ r. ⌜ (declaredAs r leaving (now (vars .exit), now (heap .exit)))
+        ≡ declaration (now (text .entry)) (now (counts .entry)) w (now (vars .entry)) (now (heap .entry)) ⌝ }
 {
     let l = items::next_list(text, counts, w);
     let Numbered::Got(members, q) = l else {
@@ -123,6 +128,7 @@ fn judge(text: &[u8], counts: &[u32], vars: &mut [u32], heap: &mut [u32], w: Wal
     Declared::As(form, o)
 }
 
+// One declaration more of a form.
 fn count(c: Counts, form: Form) -> Counts
     ensures { λ r. ⌜ r ≡ counted c form ⌝ }
 {
@@ -173,6 +179,7 @@ fn look(text: &[u8], w: Walk) -> More
     }
 }
 
+// A walk before the first declaration.
 fn begin_walk() -> Walk
     ensures { λ r. ⌜ r ≡ startWalk ⌝ }
 {
@@ -185,6 +192,7 @@ fn begin_walk() -> Walk
     }
 }
 
+// Nothing declared.
 fn no_counts() -> Counts
     ensures { λ r. ⌜ r ≡ noCounts ⌝ }
 {
@@ -198,7 +206,8 @@ fn no_counts() -> Counts
 
 // The second walk, over a text that the first walk read whole and whose member counts stand in `counts`.
 pub fn declarations(text: &[u8], vars: &mut [u32], counts: &[u32], heap: &mut [u32]) -> Judged
-    ensures { λ r. ⌜ (judged r leaving (now (vars .exit), now (heap .exit))) ≡ declarations (now (text .entry)) (now (counts .entry)) (now (vars .entry)) (now (heap .entry)) ⌝ }
+    ensures { λ r. ⌜ (judged r leaving (now (vars .exit), now (heap .exit)))
+        ≡ declarations (now (text .entry)) (now (counts .entry)) (now (vars .entry)) (now (heap .entry)) ⌝ }
 {
     let mut w = begin_walk();
     let mut c = no_counts();
@@ -224,7 +233,8 @@ pub fn declarations(text: &[u8], vars: &mut [u32], counts: &[u32], heap: &mut [u
 
 // Both walks over a rulebook: the member counts are left in `counts`, the theory in `heap`, whose buckets are cleared first.
 pub fn theory(text: &[u8], vars: &mut [u32], counts: &mut [u32], heap: &mut [u32]) -> Judged
-    ensures { λ r. ⌜ (judged r leaving (now (vars .exit), now (counts .exit), now (heap .exit))) ≡ theory (now (text .entry)) (now (vars .entry)) (now (counts .entry)) (now (heap .entry)) ⌝ }
+    ensures { λ r. ⌜ (judged r leaving (now (vars .exit), now (counts .exit), now (heap .exit)))
+        ≡ theory (now (text .entry)) (now (vars .entry)) (now (counts .entry)) (now (heap .entry)) ⌝ }
 {
     let first = sexp::count_members(text, counts);
     match first {

@@ -18,7 +18,7 @@ use Rattle.theory.specs.Declarations as walk
 use Rattle.theory.specs.Declarations.{sized, formNamed}
 use Rattle.theory.specs.declared.Form.{Form}
 use Rattle.theory.specs.declared.Form.the-variants.{Sort, Constructor, Predicate, Rule, Other}
-use Rattle.theory_laws.proofs.Lookups.{same-named}
+use Rattle.facts.proofs.Comparing.{same-named}
 
 -- What a form and a keyword say of what follows the head.
 pub data Formed (name : Name) : Sexps → Form → Keyword → Type 0 where

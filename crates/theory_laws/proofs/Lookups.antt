@@ -1,5 +1,5 @@
 -- Looking up: variables of the rule by their bytes, sorts by their addresses, symbols by their names. Assumes nothing.
-use mathlib.Core.Path.{_≡_, refl, ap, sym, _∙_}
+use mathlib.Core.Path.{_≡_, ap, sym, _∙_}
 use mathlib.Core.Bool.{true, true≢false}
 use mathlib.Core.List.{List, [], _∷_}
 use mathlib.Core.Option.{Option, none, some}
@@ -14,6 +14,7 @@ use Rattle.horn.specs.Rulebook.{Output, sameOutput, Variable, variable, isVaria
 use Rattle.horn.proofs.Equality.{case, named-decides, apart}
 use Rattle.horn.proofs.Inversion.{some-equal}
 use Rattle.words.specs.Parts.{part, sameBytes}
+use Rattle.facts.proofs.Comparing.{same-named}
 use Rattle.names.specs.Chains.{nameAt}
 use Rattle.names.specs.Tables.{lookup}
 use Rattle.names.proofs.Holds.{by-name}
@@ -22,14 +23,6 @@ use Rattle.names.proofs.Declared.{lookup-member, stands-distinct}
 use Rattle.items.specs.Items.{question}
 use Rattle.leaves.specs.Leaves.{variableName, positionFrom}
 use Rattle.theory_laws.specs.Representation.{Entries, SortAt, sort-at, OutputAt, sort-output, judgment-output, Nth, here, there, VariablesAt, no-variables, one-variable, Holds}
-
--- The comparison of the code is the definition's.
-pub same-named : (a b : List ℕ) → sameBytes a b ≡ named a b
-unfolding sameBytes named sameList
-same-named [] [] = refl
-same-named [] (y ∷ b) = refl
-same-named (x ∷ a) [] = refl
-same-named (x ∷ a) (y ∷ b) = case (eqb x y) (λ t. rw (t, sameBytes, sameList) (same-named a b)) (λ t. rw (t, sameBytes, sameList))
 
 pub named-turned : (a b : Name) → named a b ≡ named b a
 named-turned a b =

@@ -1,87 +1,37 @@
--- Reading a held theory: what is found by its bytes is what the definition finds, and the words of an entry say what it
--- is. Assumes nothing.
+-- Symbols of a held theory: the words of an entry say what it is, and symbols are equal where their addresses are. Assumes nothing.
 use mathlib.Core.Path.{_≡_, refl, ap₂, sym, _∙_}
 use mathlib.Core.List.{List, [], _∷_, List·Memᴰ}
-use mathlib.Core.Option.{Option}
-use Prim.Native.Nat.{ℕ, zero, suc, _+_, _*_, _≤_, _<_}
+use Prim.Native.Nat.{ℕ, zero, suc, _+_, _≤_, _<_}
 use native.Mathlib.Omega.{arith}
 use borrow.Author.Tests.{eq-eqb, ne-eqb}
 use lib.Dec.{eqb}
 use lib.ListN.{length, getD}
-use Rattle.horn.specs.Refusals as refusals
-use Rattle.horn.specs.Refusals.{number, unknown}
-use Rattle.horn.specs.Names.{Name, named, first}
-use Rattle.horn.specs.Rulebook.{Output, sort, judgment, Symbol, sameSymbol, inputs, output, Variable, variable, var, app, Patterns, Rule, Theory}
-use Rattle.horn.specs.Rulebook.{isConstructor, isPredicate, isRule, variablesOf, premisesOf, constructor, predicate, ruleNamed}
+use Rattle.horn.specs.Names.{Name}
+use Rattle.horn.specs.Rulebook.{Output, sort, judgment, Symbol, sameSymbol, inputs, output, Variable, variable, Theory}
+use Rattle.horn.specs.Rulebook.{isConstructor, isPredicate}
 use Rattle.horn.proofs.Equality.{named-decides, sameOutput-decides, sameSymbol-decides, apart}
 use Rattle.horn.proofs.Inversion.{some-equal}
-use Rattle.words.specs.Parts.{part}
-use Rattle.names.specs.Chains.{found}
-use Rattle.names.specs.Tables.{entry, Agree, both-none, both-some}
+use Rattle.names.specs.Tables.{entry}
 use Rattle.names.proofs.Holds.{by-number}
 use Rattle.names.proofs.Kept.{member-named}
-use Rattle.names.proofs.Declared.{find-agrees, lookup-member, stands-distinct}
-use Rattle.outcomes.specs.Outcomes as outcomes
-use Rattle.outcomes.specs.Simulation.{Answers, both-refuse, both-ok}
-use Rattle.theory_laws.specs.Representation.{Entries, tableOf, SortAt, OutputAt, SortsAt, no-sorts, one-sort, SymbolAt, symbol-at, Nth, here, there}
-use Rattle.theory_laws.specs.Representation.{Flat, flat-variable, flat-symbol, Flats, VariablesAt, one-variable, RuleAt, rule-at, Holds}
+use Rattle.names.proofs.Declared.{lookup-member, stands-distinct}
+use Rattle.theory_laws.specs.Representation.{Entries, tableOf, SortAt, OutputAt, SortsAt, no-sorts, one-sort, SymbolAt, symbol-at}
+use Rattle.theory_laws.specs.Representation.{Holds}
 use Rattle.theory_laws.proofs.Lookups.{same-sort, same-output}
 
 -- The i-th of some sorts.
-pub sort-there : {heap : List ℕ} {es : Entries} {o : ℕ} {ss : List Name} → SortsAt heap es o ss → (i : ℕ) → i < length ss → SortAt es (getD heap (o + i) 0) (getD ss i [])
+pub sort-there : {heap : List ℕ} {es : Entries} {o : ℕ} {ss : List Name} → SortsAt heap es o ss → (i : ℕ) → i < length ss
+    → SortAt es (getD heap (o + i) 0) (getD ss i [])
 sort-there no-sorts i h = absurd (omega arith)
 sort-there {heap} {es} {o} (one-sort {s} {ss} a r) zero h = let q : o + 0 ≡ o = omega arith in rw q a
 sort-there {heap} {es} {o} (one-sort {s} {ss} a r) (suc i) h = let q : o + suc i ≡ o + 1 + i = omega arith in rw q (sort-there r i (omega arith))
 
--- The v-th of some variables.
-pub variable-there : {text area : List ℕ} {es : Entries} {o : ℕ} {vs : List Variable} → VariablesAt text area es o vs → {v : ℕ} {name : Name} → Nth vs v name
-    → part (getD area (o + 3 * v) 0) (getD area (o + 3 * v + 1) 0) text ≡ name
-variable-there {o} (one-variable n a r) here = let q : o + 3 * 0 ≡ o = omega arith in rw q n
-variable-there {o} (one-variable n a r) (there {v} m) = let q : o + 3 * suc v ≡ o + 3 + 3 * v = omega arith in rw q (variable-there r m)
-
--- Its sort.
+-- The sort of the v-th of some variables.
 pub data Sorted : List Variable → ℕ → Name → Type 0 where
   sorted-here : {name s : Name} {vs : List Variable} → Sorted (variable name s ∷ vs) 0 s
   sorted-there : {x : Variable} {vs : List Variable} {v : ℕ} {s : Name} → Sorted vs v s → Sorted (x ∷ vs) (suc v) s
 
-pub variable-sort : {text area : List ℕ} {es : Entries} {o : ℕ} {vs : List Variable} → VariablesAt text area es o vs → {v : ℕ} {s : Name} → Sorted vs v s
-    → SortAt es (getD area (o + 3 * v + 2) 0) s
-variable-sort {o} (one-variable n a r) sorted-here = let q : o + 3 * 0 ≡ o = omega arith in rw q a
-variable-sort {o} (one-variable n a r) (sorted-there {v} m) = let q : o + 3 * suc v ≡ o + 3 + 3 * v = omega arith in rw q (variable-sort r m)
-
--- What is found or unknown, 12.
-known : {A : Type 0} {Means : ℕ → A → Type 0} {o : Option ℕ} {o′ : Option A} → Agree Means o o′ → Answers Means (outcomes.orElse o 12) (refusals.found o′ unknown)
-unfolding refusals.found number
-known both-none = both-refuse refl
-known (both-some m) = both-ok m
-
 module _ {text heap : List ℕ} {es : Entries} {top : ℕ} {th : Theory} (h : Holds text heap es top th) where
-  -- By its bytes.
-  pub find-sort : (name : Name) → Agree (SortAt es) (found heap 0 256 text name) (first (named name) (th .sorts))
-  find-sort name = find-agrees named (SortAt es) name (h .sorts .table) (h .sorts .stands)
-
-  pub find-constructor : (name : Name) → Agree (SymbolAt heap es top) (found heap 256 256 text name) (first (isConstructor name) (th .symbols))
-  find-constructor name = find-agrees isConstructor (SymbolAt heap es top) name (h .constructors .table) (h .constructors .stands)
-
-  pub find-predicate : (name : Name) → Agree (SymbolAt heap es top) (found heap 512 256 text name) (first (isPredicate name) (th .symbols))
-  find-predicate name = find-agrees isPredicate (SymbolAt heap es top) name (h .predicates .table) (h .predicates .stands)
-
-  pub find-rule : (name : Name) → Agree (RuleAt text heap es top) (found heap 768 256 text name) (first (isRule name) (th .rules))
-  find-rule name = find-agrees isRule (RuleAt text heap es top) name (h .rules .table) (h .rules .stands)
-
-  -- The same as the definition asks for it.
-  pub constructor-known : (name : Name) → Answers (SymbolAt heap es top) (outcomes.orElse (found heap 256 256 text name) 12) (constructor th name)
-  unfolding constructor
-  constructor-known name = known (find-constructor name)
-
-  pub predicate-known : (name : Name) → Answers (SymbolAt heap es top) (outcomes.orElse (found heap 512 256 text name) 12) (predicate th name)
-  unfolding predicate
-  predicate-known name = known (find-predicate name)
-
-  pub rule-known : (name : Name) → Answers (RuleAt text heap es top) (outcomes.orElse (found heap 768 256 text name) 12) (ruleNamed th name)
-  unfolding ruleNamed
-  rule-known name = known (find-rule name)
-
   -- A symbol's words.
   module _ {a : ℕ} {c : Symbol} (x : SymbolAt heap es top a c) where
     pub symbol-output : OutputAt es (getD heap (a + 3) 0) (output c)
@@ -142,24 +92,3 @@ module _ {text heap : List ℕ} {es : Entries} {top : ℕ} {th : Theory} (h : Ho
       by-number a b
       (λ e. eq-eqb a b e ∙ sym (rw (symbols-equal (rw e at x) y) (sameSymbol-decides .same d)))
       (λ n. ne-eqb a b n ∙ sym (apart sameSymbol-decides c d (λ e. n (addresses-equal (rw e at x) y))))
-
-  -- A rule's variables leave room for their bindings behind the theory.
-  pub few-variables : {e : ℕ} {r : Rule} → RuleAt text heap es top e r → top ≤ 11948 → 11948 + length (variablesOf r) ≤ 16384
-  unfolding variablesOf
-  few-variables (rule-at w) t = let l = w .low in let u = w .rising in let k = w .high in omega arith
-
-  pub rule-premises : {e : ℕ} {r : Rule} → RuleAt text heap es top e r → getD heap (e + 3) 0 ≡ length (premisesOf r)
-  unfolding premisesOf
-  rule-premises (rule-at w) = w .premise-count
-
-  pub rule-variables : {e : ℕ} {r : Rule} → RuleAt text heap es top e r → getD heap (e + 4) 0 ≡ length (variablesOf r)
-  unfolding variablesOf
-  rule-variables (rule-at w) = w .variable-count
-
-  -- A pattern's first word: a variable's number and 16,384, or a symbol's address, which is smaller.
-  module _ {low high : ℕ} {vs : List Variable} {o o′ : ℕ} where
-    pub variable-word : {name : Name} → Flat heap es top low high vs o (var name) o′ → (v : ℕ) × (getD heap o 0 ≡ 16384 + v) × Nth vs v name × (o′ ≡ o + 1)
-    variable-word (flat-variable {v} l u e n q) = (v, e, n, q)
-
-    pub symbol-word : {c : Symbol} {ps : Patterns} → Flat heap es top low high vs o (app c ps) o′ → SymbolAt heap es top (getD heap o 0) c × Flats heap es top low high vs (o + 1) ps o′
-    symbol-word (flat-symbol l u a r) = (a, r)

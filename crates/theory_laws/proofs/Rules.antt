@@ -16,7 +16,7 @@ use Rattle.horn.specs.Rulebook as definition
 use Rattle.horn.specs.Rulebook.{Variable, Pattern, rule, Theory, isRule}
 use Rattle.horn.proofs.Counts.{streamLength}
 use Rattle.horn.proofs.Equality.{case}
-use Rattle.words.specs.Parts.{part}
+use Rattle.words.specs.Parts.{part, copied}
 use Rattle.names.specs.Chains.{found, added}
 use Rattle.names.specs.Tables.{entry}
 use Rattle.lex.specs.declared.Reader.{Reader}
@@ -28,7 +28,7 @@ use Rattle.items.specs.Items.{readOn, openedOne, withTop, listDue}
 use Rattle.leaves.specs.Leaves.{Areas}
 use Rattle.items.specs.declared.Walk.{Walk}
 use Rattle.symbols.specs.Symbols.{isNew, entered}
-use Rattle.rules.specs.Rules.{nameKept, nameJudged, begun, bodyRead, copied, ruleDescribed, variablesStored, ruleEntered, ruleDeclared}
+use Rattle.rules.specs.Rules.{nameKept, nameJudged, begun, bodyRead, ruleDescribed, variablesStored, ruleEntered, ruleDeclared}
 use Rattle.rules.specs.declared.RuleName.{RuleName}
 use Rattle.rules.specs.declared.RuleName.the-variants as ruleNames
 use Rattle.outcomes.specs.Simulation.{Answers, both-refuse, both-ok, Simulates, refuse, leave, bind, pure, aside, test-then, paired, three-on}
@@ -187,7 +187,7 @@ module _ (text counted : List ℕ) (Before : Reader → Stream Token → Type 0)
         (rw e (new-test name (r .holds .rules))) refl
         (λ y.
         rw (m .met)
-        (leave {a = readOn q′ (m .next)} {s = copied (3 * q .variables) 0 (areas .0) (q .top) (ruleDescribed base n (q .variables) mid (q .top) (added (areas .1) 768 256 base text s t))} {b = record { sorts = th .sorts; symbols = th .symbols; rules = th .rules ++ (rule name (c .1) (p .0) (c .0) ∷ []) }} record {
+        (leave {a = readOn q′ (m .next)} {s = copied (ruleDescribed base n (q .variables) mid (q .top) (added (areas .1) 768 256 base text s t)) (q .top) (areas .0) 0 (3 * q .variables)} {b = record { sorts = th .sorts; symbols = th .symbols; rules = th .rules ++ (rule name (c .1) (p .0) (c .0) ∷ []) }} record {
           entries = withRule es (entry base name);
           ready = record {
             walks = m .walks;

@@ -2,47 +2,21 @@
 use mathlib.Core.Path.{_≡_, refl, _∙_}
 use mathlib.Core.Bool.{false}
 use mathlib.Core.List.{List, [], _∷_, _++_, List·Memᴰ·head, List·Memᴰ·tail}
-use Prim.Native.Nat.{ℕ, zero, suc, _+_, _*_, _≤_, _<_}
+use Prim.Native.Nat.{ℕ, _+_, _*_, _≤_, _<_}
 use native.Mathlib.Omega.{arith}
 use lib.ListN.{length, getD, set, length-set}
 use lib.Seq.{getD-set-same, getD-set-other}
 use Rattle.horn.specs.Names.{Name, some-of}
 use Rattle.horn.specs.Rulebook.{Variable, Pattern, rule, Theory, isRule}
-use Rattle.words.specs.Parts.{part}
+use Rattle.words.specs.Parts.{part, copied}
+use Rattle.words.proofs.Writing.{length-copied, copied-before, copied-there}
 use Rattle.names.specs.Chains.{added}
 use Rattle.names.specs.Tables.{Entry, entry}
-use Rattle.names.proofs.Holds.{by-number}
 use Rattle.names.proofs.Kept.{length-added, added-other}
-use Rattle.rules.specs.Rules.{copied, ruleDescribed}
+use Rattle.rules.specs.Rules.{ruleDescribed}
 use Rattle.theory_laws.specs.Representation.{Entries, Flat, FlatList, VariablesAt, no-variables, one-variable, RuleAt, rule-at, Holds}
 use Rattle.theory_laws.proofs.Frames.{Grown, Keeps, sort-kept, symbol-kept, rule-kept, flat-kept, premises-kept}
 use Rattle.theory_laws.proofs.Adding.{Adds, adds-kept, others, newer}
-
--- The words of the variables, copied behind the patterns.
-module _ (vars : List ℕ) (top : ℕ) where
-  pub length-copied : (left i : ℕ) (heap : List ℕ) → length (copied left i vars top heap) ≡ length heap
-  unfolding copied
-  length-copied zero i heap = refl
-  length-copied (suc left) i heap = length-copied left (i + 1) (set heap (top + i) (getD vars i 0)) ∙ length-set heap (top + i) (getD vars i 0)
-
-  pub copied-below : (left i : ℕ) (heap : List ℕ) (j : ℕ) → j < top + i → getD (copied left i vars top heap) j 0 ≡ getD heap j 0
-  unfolding copied
-  copied-below zero i heap j h = refl
-  copied-below (suc left) i heap j h =
-      copied-below left (i + 1) (set heap (top + i) (getD vars i 0)) j (omega arith)
-      ∙ getD-set-other heap (top + i) j (getD vars i 0) 0 (λ k. omega arith)
-
-  pub copied-there : (left i : ℕ) (heap : List ℕ) (j : ℕ) → i ≤ j → j < i + left → top + i + left ≤ length heap
-      → getD (copied left i vars top heap) (top + j) 0 ≡ getD vars j 0
-  unfolding copied
-  copied-there zero i heap j l u h = absurd (omega arith)
-  copied-there (suc left) i heap j l u h =
-      by-number j i
-      (λ e.
-      rw e
-      (copied-below left (i + 1) (set heap (top + i) (getD vars i 0)) (top + i) (omega arith)
-      ∙ getD-set-same heap (top + i) (getD vars i 0) 0 (omega arith)))
-      (λ n. copied-there left (i + 1) (set heap (top + i) (getD vars i 0)) j (omega (arith, n)) (omega arith) (simp length-set (omega arith)))
 
 -- Variables in another area, from another place on.
 pub variables-moved : {text area area′ : List ℕ} {es es′ : Entries} {o : ℕ} {vs : List Variable} (g : Grown es es′) (o′ : ℕ)
@@ -125,7 +99,7 @@ module _ (text heap middle vars : List ℕ) (es : Entries) (th : Theory) (e top 
   described-words = ruleDescribed e n v mid top named-words
 
   abbrev pub rule-words : List ℕ
-  rule-words = copied (3 * v) 0 vars top described-words
+  rule-words = copied described-words top vars 0 (3 * v)
 
   length-middle : length described-words ≡ 16384
   length-middle = length-rule named-words e n v mid top ∙ length-added middle 768 256 e text s t ∙ keeps .same-length ∙ h .long
@@ -133,13 +107,13 @@ module _ (text heap middle vars : List ℕ) (es : Entries) (th : Theory) (e top 
   -- Words between the entry's seven words and the variables, and words below the entry.
   pattern-words : (i : ℕ) → e + 7 ≤ i → i < top → getD rule-words i 0 ≡ getD middle i 0
   pattern-words i l u =
-      copied-below vars top (3 * v) 0 described-words i (omega arith)
+      copied-before (3 * v) described-words top vars 0 i (omega arith)
       ∙ rule-other named-words e n v mid top i (λ x y. omega arith)
       ∙ added-other middle 768 256 e text s t (omega arith) i (λ x y. omega arith) (λ x y. omega arith)
 
   older-words : (i : ℕ) → 1024 ≤ i → i < e → getD rule-words i 0 ≡ getD middle i 0
   older-words i l u =
-      copied-below vars top (3 * v) 0 described-words i (omega arith)
+      copied-before (3 * v) described-words top vars 0 i (omega arith)
       ∙ rule-other named-words e n v mid top i (λ x y. omega arith)
       ∙ added-other middle 768 256 e text s t (omega arith) i (λ x y. omega arith) (λ x y. omega arith)
 
@@ -147,9 +121,9 @@ module _ (text heap middle vars : List ℕ) (es : Entries) (th : Theory) (e top 
   rule-adds = record {
     middle = middle;
     keeps = keeps;
-    same-length = length-copied vars top (3 * v) 0 described-words ∙ length-rule named-words e n v mid top ∙ length-added middle 768 256 e text s t;
+    same-length = length-copied (3 * v) described-words top vars 0 ∙ length-rule named-words e n v mid top ∙ length-added middle 768 256 e text s t;
     words = λ i u.
-        copied-below vars top (3 * v) 0 described-words i (omega arith)
+        copied-before (3 * v) described-words top vars 0 i (omega arith)
         ∙ rule-other named-words e n v mid top i (λ x y. omega arith);
     room = let l = h .long in omega arith;
     base-low = low;
@@ -169,20 +143,21 @@ module _ (text heap middle vars : List ℕ) (es : Entries) (th : Theory) (e top 
         low = low;
         called = List·Memᴰ·head refl;
         premise-count =
-            copied-below vars top (3 * v) 0 described-words (e + 3) (omega arith) ∙ rule-first named-words e n v mid top long-enough ∙ many-premises;
+            copied-before (3 * v) described-words top vars 0 (e + 3) (omega arith) ∙ rule-first named-words e n v mid top long-enough ∙ many-premises;
         variable-count =
-            copied-below vars top (3 * v) 0 described-words (e + 4) (omega arith) ∙ rule-second named-words e n v mid top long-enough ∙ many-variables;
+            copied-before (3 * v) described-words top vars 0 (e + 4) (omega arith) ∙ rule-second named-words e n v mid top long-enough ∙ many-variables;
         conclusion-place = mid;
         variables-place = top;
-        to-conclusion = copied-below vars top (3 * v) 0 described-words (e + 5) (omega arith) ∙ rule-third named-words e n v mid top long-enough;
-        to-variables = copied-below vars top (3 * v) 0 described-words (e + 6) (omega arith) ∙ rule-fourth named-words e n v mid top long-enough;
+        to-conclusion = copied-before (3 * v) described-words top vars 0 (e + 5) (omega arith) ∙ rule-third named-words e n v mid top long-enough;
+        to-variables = copied-before (3 * v) described-words top vars 0 (e + 6) (omega arith) ∙ rule-fourth named-words e n v mid top long-enough;
         at-premises = premises-kept g older-words (omega arith) pattern-words (omega arith) (λ i x y. y) at-premises;
         at-conclusion = flat-kept g older-words (omega arith) pattern-words (omega arith) (λ i x y. y) at-conclusion;
         at-variables =
             variables-moved g top
             (λ i i′ q x y.
             let z : i′ ≡ top + i = omega arith in
-            rw z (copied-there vars top (3 * v) 0 described-words i (omega arith) (omega arith) (omega arith)))
+            let n : 0 + i ≡ i = omega arith in
+            rw z (rw n at (copied-there (3 * v) described-words top vars 0 i (omega arith) (omega arith))))
             at-variables;
         rising = rising;
         high = omega arith;
@@ -196,7 +171,7 @@ module _ (text heap middle vars : List ℕ) (es : Entries) (th : Theory) (e top 
       let g = rule-grown es (entry e name) in
       let k = rule-adds in
       record {
-        long = length-copied vars top (3 * v) 0 described-words ∙ length-middle;
+        long = length-copied (3 * v) described-words top vars 0 ∙ length-middle;
         sorts = others k (top + 3 * v) (omega arith) (λ d x y. sort-kept g y) 0 (omega arith) (λ i x y z u. omega arith) (h .sorts);
         constructors = others k (top + 3 * v) (omega arith) (λ d c y. symbol-kept g (adds-kept k) (omega arith) y) 256 (omega arith) (λ i x y z u. omega arith) (h .constructors);
         predicates = others k (top + 3 * v) (omega arith) (λ d c y. symbol-kept g (adds-kept k) (omega arith) y) 512 (omega arith) (λ i x y z u. omega arith) (h .predicates);

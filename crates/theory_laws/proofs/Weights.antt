@@ -36,7 +36,8 @@ light-begins closes bytes = omega (arith, wide-some bytes)
 light-begins comments bytes = omega (arith, wide-some bytes)
 light-begins ordinary bytes = omega (arith, wide-all bytes)
 
-light-continues : (a : List ℕ) (k : Kind) (bytes : List ℕ) → weight (before ((continues a k bytes) .0) end) + begun ((continues a k bytes) .1) ≤ length a + wide bytes
+light-continues : (a : List ℕ) (k : Kind) (bytes : List ℕ)
+    → weight (before ((continues a k bytes) .0) end) + begun ((continues a k bytes) .1) ≤ length a + wide bytes
 unfolding continues begun weight before
 light-continues a blank bytes = omega (arith, wide-some bytes)
 light-continues a opens bytes = omega (arith, wide-some bytes)

@@ -1,8 +1,9 @@
 -- Both walks over a rulebook answer as the definition does, for every text of at most 8,192 bytes and areas of 16,384
 -- words of any contents; an accepted rulebook's theory stands in the words. Assumes nothing.
 use mathlib.Core.Path.{_≡_, refl, ap, sym, subst, _∙_}
+use mathlib.Core.Bool.{Bool}
 use mathlib.Core.List.{List, [], _∷_}
-use Prim.Native.Nat.{ℕ, zero, suc, _+_, _/_, _≤_}
+use Prim.Native.Nat.{ℕ, _+_, _/_, _≤_}
 use native.Mathlib.Omega.{arith}
 use lib.ListN.{length, take}
 use Rattle.horn.specs.Refusals.{number, Result, ok, refused, _>>=_}
@@ -13,10 +14,12 @@ use Rattle.horn.specs.Rulebook.{Theory, emptyTheory}
 use Rattle.horn.specs.Calls.{RulebookReport, rulebookReport, rulebookAnswer}
 use Rattle.horn.proofs.Counts.{streamLength, few-tokens}
 use Rattle.horn.proofs.Inversion.{not-ok}
+use Rattle.horn.specs.Names.{Name}
 use Rattle.words.specs.Parts.{cleared}
+use Rattle.words.proofs.Writing.{length-cleared, getD-cleared}
 use Rattle.names.specs.Tables as tables
 use Rattle.names.specs.Tables.{none-yet}
-use Rattle.names.proofs.Kept.{empty-table, cleared-zero}
+use Rattle.names.proofs.Kept.{empty-table}
 use Rattle.lex.specs.Answers as lexed
 use Rattle.lex.proofs.Standing.{Stands}
 use Rattle.sexp.specs.Flattening.{flattened, countsAll, counts}
@@ -27,6 +30,7 @@ use Rattle.sexp.proofs.Ahead.{Ahead, ahead-start}
 use Rattle.sexp.proofs.Law.{walk-cases}
 use Rattle.outcomes.specs.Outcomes as outcomes
 use Rattle.outcomes.specs.Leaving.{Did, _leaving_}
+use Rattle.items.specs.Places as places
 use Rattle.leaves.specs.Leaves.{Areas}
 use Rattle.theory.specs.Declarations.{declarations, startWalk}
 use Rattle.theory.specs.Walks as walk
@@ -34,19 +38,13 @@ use Rattle.theory.specs.Walks.{AllAreas, withCounts}
 use Rattle.theory.specs.declared.Counts.{Counts}
 use Rattle.outcomes.specs.Simulation.{Simulates, refuse, leave}
 use Rattle.theory_laws.specs.Reading.{Next, no-more, one-next, weight}
-use Rattle.theory_laws.specs.Representation.{Entries, Holds}
+use Rattle.theory_laws.specs.Representation.{Entries, Declares, Holds}
 use Rattle.theory_laws.proofs.Weights.{light-tokens}
 use Rattle.theory_laws.proofs.Depth.{whole-shallow}
 use Rattle.theory_laws.proofs.Tallies.{tally, none-counted, none-total}
 use Rattle.theory_laws.proofs.Declarations.{Accepted, declarations-law, size-longer}
 use Rattle.theory_laws.proofs.Readers.{reads}
 use Rattle.horn.proofs.Refusing.{Judges, judges-refused, judging-number, judges-declarations}
-
-length-cleared : (n : ℕ) (s : List ℕ) → length (cleared n s) ≡ length s
-unfolding cleared
-length-cleared zero s = refl
-length-cleared (suc n) [] = refl
-length-cleared (suc n) (w ∷ s) = ap suc (length-cleared n s)
 
 next-ahead : (area : List ℕ) (k : ℕ) (cs : List ℕ) → Ahead area k cs → Next area k cs
 unfolding Ahead
@@ -57,33 +55,28 @@ next-ahead area k (c ∷ cs) a = one-next (a .0) (next-ahead area (k + 1) cs (a 
 abbrev noEntries : Entries
 noEntries = record { sorts = []; constructors = []; predicates = []; rules = [] }
 
-holds-nothing : (text heap : List ℕ) → length heap ≡ 16384 → Holds text (cleared 1024 heap) noEntries 1024 emptyTheory
-unfolding emptyTheory tables.top
-holds-nothing text heap long =
-    let l = length-cleared 1024 heap in
-    record {
-      long = l ∙ long;
-      sorts = record {
-        table = empty-table text (omega arith) (omega arith) (omega arith) (λ i x y. cleared-zero 1024 heap i (omega arith));
+module _ (text heap : List ℕ) (long : length heap ≡ 16384) where
+  declares-nothing : {A : Type 0} (test : Name → A → Bool) (Means : ℕ → A → Type 0) (buckets : ℕ) → buckets ≤ places.rules
+      → Declares text (cleared places.entries heap) places.entries buckets [] test Means []
+  unfolding tables.top
+  declares-nothing test Means buckets b =
+      let l = length-cleared places.entries heap in
+      record {
+        table = empty-table text (omega arith) (omega arith) (omega arith) (λ i x y. getD-cleared places.entries heap i (omega arith));
         below = omega arith;
         stands = none-yet;
-      };
-      constructors = record {
-        table = empty-table text (omega arith) (omega arith) (omega arith) (λ i x y. cleared-zero 1024 heap i (omega arith));
-        below = omega arith;
-        stands = none-yet;
-      };
-      predicates = record {
-        table = empty-table text (omega arith) (omega arith) (omega arith) (λ i x y. cleared-zero 1024 heap i (omega arith));
-        below = omega arith;
-        stands = none-yet;
-      };
-      rules = record {
-        table = empty-table text (omega arith) (omega arith) (omega arith) (λ i x y. cleared-zero 1024 heap i (omega arith));
-        below = omega arith;
-        stands = none-yet;
-      };
-    }
+      }
+
+  holds-nothing : Holds text (cleared places.entries heap) noEntries places.entries emptyTheory
+  unfolding emptyTheory
+  holds-nothing =
+      record {
+        long = length-cleared places.entries heap ∙ long;
+        sorts = declares-nothing _ _ places.sorts (omega arith);
+        constructors = declares-nothing _ _ places.constructors (omega arith);
+        predicates = declares-nothing _ _ places.predicates (omega arith);
+        rules = declares-nothing _ _ places.rules (omega arith);
+      }
 
 -- An accepted rulebook: its counts, and its theory in the words below `top`. The other two areas are as long as before.
 pub record Judged (text : List ℕ) (c : Counts) (areas : AllAreas) (th : Theory) : Type 0 where
@@ -117,7 +110,8 @@ module _ (text : List ℕ) (short : length text ≤ 8192) where
       → sexps (items (tokens text)) ≡ ok xs
       → tokens text ≡ flattened xs
       → take (length (counts xs)) area ≡ counts xs
-      → Simulates (Accepted text area (Stands text) (reads text) short) (declarations text area vars (cleared 1024 heap)) (definition.declarations emptyTheory xs)
+      → Simulates (Accepted text area (Stands text) (reads text) short) (declarations text area vars (cleared 1024 heap))
+      (definition.declarations emptyTheory xs)
   unfolding declarations startWalk flattened counts
   second-walk vars area heap xs long-vars long e whole found =
       let light = light-tokens text in

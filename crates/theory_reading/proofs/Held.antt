@@ -8,6 +8,8 @@ use native.Mathlib.Omega.{arith}
 use borrow.Author.Tests.{eq-eqb, ne-eqb}
 use lib.Dec.{eqb}
 use lib.ListN.{length, getD, set}
+use Rattle.horn.specs.Refusals as refusals
+use Rattle.horn.specs.Refusals.{number, unknown}
 use Rattle.horn.specs.Names.{Name, first}
 use Rattle.horn.specs.Rulebook.{Symbol, inputs, output, Variable, variable, Pattern, var, app, Patterns, Rule, Theory}
 use Rattle.horn.specs.Rulebook.{isVariable, isConstructor, isPredicate, isRule, variablesOf, premisesOf, conclusionOf, constructor, predicate, ruleNamed}
@@ -17,15 +19,18 @@ use Rattle.horn.proofs.Equality.{case, named-decides}
 use Rattle.words.specs.Parts.{part, sameBytes}
 use Rattle.names.specs.Tables.{Agree, both-none, both-some}
 use Rattle.names.proofs.Holds.{by-number}
+use Rattle.names.proofs.Declared.{find-agrees}
 use Rattle.outcomes.specs.Outcomes as outcomes
-use Rattle.outcomes.specs.Simulation.{Answers}
+use Rattle.outcomes.specs.Simulation.{Answers, both-refuse, both-ok}
 use Rattle.theory_laws.specs.Representation.{Entries, SortAt, OutputAt, sort-output, SortsAt, no-sorts, one-sort, SymbolAt, symbol-at, Nth, here, there}
-use Rattle.theory_laws.specs.Representation.{Flat, flat-variable, flat-symbol, Flats, no-flats, one-flat, FlatList, VariablesAt, no-variables, one-variable, RuleAt, rule-at, Holds}
+use Rattle.theory_laws.specs.Representation.{Flat, flat-variable, flat-symbol, Flats, no-flats, one-flat, FlatList, VariablesAt}
+use Rattle.theory_laws.specs.Representation.{no-variables, one-variable, RuleAt, rule-at, Holds}
 use Rattle.words.proofs.Sums.{sum-small}
 use Rattle.theory_laws.proofs.Frames.{Keeps, keeps-less, keeps-set, holds-kept}
 use Rattle.theory_laws.proofs.Ready.{nth-below}
-use Rattle.theory_laws.proofs.Lookups.{same-named, named-turned, same-output}
-use Rattle.theory_laws.proofs.Readback.{find-constructor, find-predicate, find-rule, constructor-known, predicate-known, rule-known, symbol-output, symbol-arity, symbol-input, symbol-below}
+use Rattle.facts.proofs.Comparing.{same-named}
+use Rattle.theory_laws.proofs.Lookups.{named-turned, same-output}
+use Rattle.theory_laws.proofs.Readback.{symbol-output, symbol-arity, symbol-input, symbol-below}
 use Rattle.theory_reading.specs.Reading as reading
 use Rattle.theory_reading.specs.Reading.{constructorFound, predicateFound, ruleFound, outputOf, arityOf, inputOf, fitsInput, allFit, accepted}
 use Rattle.theory_reading.specs.Reading.{premiseCount, variableCount, premisesPlace, conclusionPlace, variablesPlace}
@@ -47,48 +52,59 @@ accepts-uneven (s ∷ ss) (t ∷ₜ ts) n = rw (accepts-uneven ss ts (λ e. n (a
 -- The heads of some terms, from the k-th on.
 pub data Heads (heap : List ℕ) (es : Entries) (top : ℕ) (head : ℕ → ℕ) : ℕ → Terms → Type 0 where
   no-heads : {k : ℕ} → Heads heap es top head k []ₜ
-  one-head : {k : ℕ} {c : Symbol} {us ts : Terms} → SymbolAt heap es top (head k) c → Heads heap es top head (k + 1) ts → Heads heap es top head k (node c us ∷ₜ ts)
+  one-head : {k : ℕ} {c : Symbol} {us ts : Terms} → SymbolAt heap es top (head k) c → Heads heap es top head (k + 1) ts
+      → Heads heap es top head k (node c us ∷ₜ ts)
 
 -- A pattern's words rise.
 mutual
-  pub flat-rises : {heap : List ℕ} {es : Entries} {bound low high : ℕ} {vs : List Variable} {o o′ : ℕ} {p : Pattern} → Flat heap es bound low high vs o p o′ → o < o′
+  pub flat-rises : {heap : List ℕ} {es : Entries} {bound low high : ℕ} {vs : List Variable} {o o′ : ℕ} {p : Pattern} → Flat heap es bound low high vs o p o′
+      → o < o′
   flat-rises (flat-variable l u e n q) = omega arith
   flat-rises (flat-symbol l u x r) = omega (arith, flats-rise r)
 
-  pub flats-rise : {heap : List ℕ} {es : Entries} {bound low high : ℕ} {vs : List Variable} {o o′ : ℕ} {ps : Patterns} → Flats heap es bound low high vs o ps o′ → o ≤ o′
+  pub flats-rise : {heap : List ℕ} {es : Entries} {bound low high : ℕ} {vs : List Variable} {o o′ : ℕ} {ps : Patterns} → Flats heap es bound low high vs o ps o′
+      → o ≤ o′
   flats-rise no-flats = omega arith
   flats-rise (one-flat p r) = omega (arith, flat-rises p, flats-rise r)
 
 -- A variable of the rule at e by its number.
 pub data VariableIs (heap : List ℕ) (es : Entries) (e : ℕ) (vs : List Variable) (key : Name) (v : ℕ) : Variable → Type 0 where
-  variable-is : {name s : Name} → name ≡ key → Nth vs v key → v < length vs → SortAt es (sortOfVariable heap e v) s → VariableIs heap es e vs key v (variable name s)
+  variable-is : {name s : Name} → name ≡ key → Nth vs v key → v < length vs → SortAt es (sortOfVariable heap e v) s
+      → VariableIs heap es e vs key v (variable name s)
+
+-- What is found or unknown, 12.
+known : {A : Type 0} {Means : ℕ → A → Type 0} {o : Option ℕ} {o′ : Option A} → Agree Means o o′
+    → Answers Means (outcomes.orElse o 12) (refusals.found o′ unknown)
+unfolding refusals.found number
+known both-none = both-refuse refl
+known (both-some m) = both-ok m
 
 module _ {text heap : List ℕ} {es : Entries} {top : ℕ} {th : Theory} (h : Holds text heap es top th) where
   -- Found by its bytes, wherever they stand: what the definition finds, or none.
   pub constructor-found : (key : Name) → Agree (SymbolAt heap es top) (constructorFound heap text key) (first (isConstructor key) (th .symbols))
   unfolding constructorFound
-  constructor-found key = find-constructor h key
+  constructor-found key = find-agrees isConstructor (SymbolAt heap es top) key (h .constructors .table) (h .constructors .stands)
 
   pub predicate-found : (key : Name) → Agree (SymbolAt heap es top) (predicateFound heap text key) (first (isPredicate key) (th .symbols))
   unfolding predicateFound
-  predicate-found key = find-predicate h key
+  predicate-found key = find-agrees isPredicate (SymbolAt heap es top) key (h .predicates .table) (h .predicates .stands)
 
   pub rule-found : (key : Name) → Agree (RuleAt text heap es top) (ruleFound heap text key) (first (isRule key) (th .rules))
   unfolding ruleFound
-  rule-found key = find-rule h key
+  rule-found key = find-agrees isRule (RuleAt text heap es top) key (h .rules .table) (h .rules .stands)
 
   -- The same with the refusal of what is unknown, 12.
   pub constructor-due : (key : Name) → Answers (SymbolAt heap es top) (outcomes.orElse (constructorFound heap text key) 12) (constructor th key)
-  unfolding constructorFound
-  constructor-due key = constructor-known h key
+  unfolding constructor
+  constructor-due key = known (constructor-found key)
 
   pub predicate-due : (key : Name) → Answers (SymbolAt heap es top) (outcomes.orElse (predicateFound heap text key) 12) (predicate th key)
-  unfolding predicateFound
-  predicate-due key = predicate-known h key
+  unfolding predicate
+  predicate-due key = known (predicate-found key)
 
   pub rule-due : (key : Name) → Answers (RuleAt text heap es top) (outcomes.orElse (ruleFound heap text key) 12) (ruleNamed th key)
-  unfolding ruleFound
-  rule-due key = rule-known h key
+  unfolding ruleNamed
+  rule-due key = known (rule-found key)
 
   -- A symbol's words.
   module _ {a : ℕ} {c : Symbol} (x : SymbolAt heap es top a c) where
@@ -119,7 +135,8 @@ module _ {text heap : List ℕ} {es : Entries} {top : ℕ} {th : Theory} (h : Ho
   unfolding inputOf
   input-word c k e = rw e
 
-  all-fit : {head : ℕ → ℕ} (c : ℕ) {o k : ℕ} {ss : List Name} {ts : Terms} → o ≡ c + 5 + k → length ss ≡ width ts → SortsAt heap es o ss → Heads heap es top head k ts
+  all-fit : {head : ℕ → ℕ} (c : ℕ) {o k : ℕ} {ss : List Name} {ts : Terms} → o ≡ c + 5 + k → length ss ≡ width ts → SortsAt heap es o ss
+      → Heads heap es top head k ts
       → allFit head heap c (width ts) k ≡ accepts ss ts
   unfolding allFit accepts width
   all-fit c e n no-sorts no-heads = refl
@@ -215,7 +232,8 @@ module _ {text heap : List ℕ} {es : Entries} {top : ℕ} {th : Theory} (h : Ho
 
   -- A variable of the rule by its bytes.
   data Placed (place i : ℕ) (us : List Variable) (key : Name) (v : ℕ) : Variable → Type 0 where
-    placed : {k : ℕ} {name s : Name} → v ≡ i + k → name ≡ key → Nth us k key → SortAt es (getD heap (place + 3 * v + 2) 0) s → Placed place i us key v (variable name s)
+    placed : {k : ℕ} {name s : Name} → v ≡ i + k → name ≡ key → Nth us k key → SortAt es (getD heap (place + 3 * v + 2) 0) s
+        → Placed place i us key v (variable name s)
 
   placed-later : {place i : ℕ} {u : Variable} {us : List Variable} {key : Name} {o : Option ℕ} {p : Option Variable}
       → Agree (Placed place (i + 1) us key) o p

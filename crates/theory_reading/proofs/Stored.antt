@@ -57,7 +57,8 @@ pub longer-none : {ts : List Term} → Longer ts ts
 longer-none {ts} = record { more = []; same = sym (append-nil ts) }
 
 pub longer-then : {ts us vs : List Term} → Longer ts us → Longer us vs → Longer ts vs
-longer-then {ts} g k = record { more = g .more ++ k .more; same = k .same ∙ ap (λ (x : List Term). x ++ k .more) (g .same) ∙ append-assoc ts (g .more) (k .more) }
+longer-then {ts} g k =
+    record { more = g .more ++ k .more; same = k .same ∙ ap (λ (x : List Term). x ++ k .more) (g .same) ∙ append-assoc ts (g .more) (k .more) }
 
 pub longer-length : {ts us : List Term} → Longer ts us → length ts ≤ length us
 longer-length {ts} g = let e = length-append ts (g .more) in rw (g .same) (omega arith)
@@ -154,9 +155,12 @@ module _ {es : Entries} {th : Theory} where
               head = head;
               arguments = arguments;
               in-use = u;
-              read-head = head-read (limits .nodes) (limits .nodeWords) places store (st .trees .nodesOf) (st .trees .kept) k i (omega arith) ∙ ap (λ (x : Node). getD x 0 0) e;
+              read-head =
+                  head-read (limits .nodes) (limits .nodeWords) places store (st .trees .nodesOf) (st .trees .kept) k i (omega arith)
+                  ∙ ap (λ (x : Node). getD x 0 0) e;
               read = λ j l.
-                  argument-read (limits .nodes) (limits .nodeWords) places store (st .trees .nodesOf) (st .trees .kept) k i j (omega arith) ∙ ap (λ (x : Node). getD x (1 + j) 0) e ∙ later head arguments j;
+                  argument-read (limits .nodes) (limits .nodeWords) places store (st .trees .nodesOf) (st .trees .kept) k i j (omega arith)
+                  ∙ ap (λ (x : Node). getD x (1 + j) 0) e ∙ later head arguments j;
               below = below-more (length ts) (omega arith) bs;
               tree = t;
               count = width-of head arguments t;
@@ -178,7 +182,9 @@ module _ {es : Entries} {th : Theory} where
           record {
             holds = record {
               trees = made;
-              full = λ k b. last-tree ts t k b (λ i. rw (same-tree (symbolAt es th) ts (t ∷ []) k i) (st .full k i)) (λ i. rw (i, new-tree (symbolAt es th) ts t) s);
+              full =
+                  λ k b. last-tree ts t k b (λ i. rw (same-tree (symbolAt es th) ts (t ∷ []) k i) (st .full k i))
+                  (λ i. rw (i, new-tree (symbolAt es th) ts t) s);
             };
             means = record { below = b; tree = new-tree (symbolAt es th) ts t };
             grown = record { more = t ∷ []; same = refl };
@@ -199,6 +205,7 @@ module _ {es : Entries} {th : Theory} where
     stored-law h l a x f e s = node-stored a s (rw e at (interned h limits places l store ts (st .trees) x f))
 
     -- Equality of numbers is equality of trees.
-    pub means-same : {text heap : List ℕ} {top : ℕ} → Holds text heap es top th → {j k : ℕ} {t u : Term} → Means es th ts j t → Means es th ts k u → eqb j k ≡ sameTerm t u
+    pub means-same : {text heap : List ℕ} {top : ℕ} → Holds text heap es top th → {j k : ℕ} {t u : Term} → Means es th ts j t → Means es th ts k u
+        → eqb j k ≡ sameTerm t u
     means-same h {j} {k} m n =
         rw (← m .tree, ← n .tree) (terms.same-number h (limits .nodes) (limits .nodeWords) places (st .trees) j k (m .below) (n .below))

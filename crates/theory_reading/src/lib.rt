@@ -30,6 +30,7 @@ pub fn find_constructor(heap: &[u32], text: &[u8], from: &[u8], start: usize, en
     )
 }
 
+// The predicate that has a name.
 pub fn find_predicate(heap: &[u32], text: &[u8], from: &[u8], start: usize, end: usize) -> Found
     ensures { λ r. ⌜ answered r ≡ predicateFound (now (heap .entry)) (now (text .entry)) (part start end (now (from .entry))) ⌝ }
 {
@@ -44,6 +45,7 @@ pub fn find_predicate(heap: &[u32], text: &[u8], from: &[u8], start: usize, end:
     )
 }
 
+// The rule that has a name.
 pub fn find_rule(heap: &[u32], text: &[u8], from: &[u8], start: usize, end: usize) -> Found
     ensures { λ r. ⌜ answered r ≡ ruleFound (now (heap .entry)) (now (text .entry)) (part start end (now (from .entry))) ⌝ }
 {
@@ -85,6 +87,7 @@ pub fn premise_count(heap: &[u32], r: u32) -> u32
     words::at(heap, r as usize + places::PREMISE_COUNT)
 }
 
+// How many variables it has.
 pub fn variable_count(heap: &[u32], r: u32) -> u32
     ensures { λ n. ⌜ n ≡ variableCount (now (heap .entry)) r ⌝ }
 {
@@ -98,12 +101,14 @@ pub fn premises(r: u32) -> u32
     words::plus(r, places::PATTERNS)
 }
 
+// Where the words of its conclusion begin.
 pub fn conclusion(heap: &[u32], r: u32) -> u32
     ensures { λ o. ⌜ o ≡ conclusionPlace (now (heap .entry)) r ⌝ }
 {
     words::at(heap, r as usize + places::CONCLUSION)
 }
 
+// Where its variables stand, three words each.
 pub fn variables(heap: &[u32], r: u32) -> u32
     ensures { λ o. ⌜ o ≡ variablesPlace (now (heap .entry)) r ⌝ }
 {

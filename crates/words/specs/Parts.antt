@@ -1,9 +1,9 @@
 -- Parts of lent words and bytes.
-use Prim.Native.Nat.{ℕ, zero, suc, _-_}
+use Prim.Native.Nat.{ℕ, zero, suc, _+_, _-_}
 use mathlib.Core.Bool.{Bool, true, false}
 use mathlib.Core.List.{List, [], _∷_}
 use lib.Dec.{eqb}
-use lib.ListN.{take, drop}
+use lib.ListN.{take, drop, getD, set}
 
 -- What stands from `start` up to `end`, as far as it is there.
 unfoldable pub part : ℕ → ℕ → List ℕ → List ℕ
@@ -15,6 +15,11 @@ sameBytes [] [] = true
 sameBytes [] (b ∷ bs) = false
 sameBytes (a ∷ as′) [] = false
 sameBytes (a ∷ as′) (b ∷ bs) = elim (eqb a b) [ true ↦ sameBytes as′ bs | false ↦ false ]
+
+-- A list with n words at i taken from those at j of another.
+unfoldable pub copied : List ℕ → ℕ → List ℕ → ℕ → ℕ → List ℕ
+copied a i s j zero = a
+copied a i s j (suc n) = copied (set a i (getD s j 0)) (i + 1) s (j + 1) n
 
 -- The first n words set to 0, or all of them where there are fewer.
 unfoldable pub cleared : ℕ → List ℕ → List ℕ

@@ -3,7 +3,7 @@ ghost use mathlib.Core.Path.{_≡_};
 ghost use Prim.Native.Nat.{_*_, _%_, _^_};
 ghost use lib.Bits.{bitXor};
 ghost use lib.ListN.{getD, set};
-ghost use Rattle.words.specs.Parts.{part, sameBytes, cleared};
+ghost use Rattle.words.specs.Parts.{part, sameBytes, copied, cleared};
 ghost use Rattle.words.specs.Sums.{sum32};
 ghost use Rattle.words.specs.Hash.{rotated, hashed, hash};
 
@@ -85,6 +85,23 @@ pub fn same(a: &[u8], b: &[u8]) -> bool
     true
 }
 
+// Whether two lists of words are equal.
+pub fn same_words(a: &[u32], b: &[u32]) -> bool
+    ensures { λ r. ⌜ r ≡ sameBytes (now (a .entry)) (now (b .entry)) ⌝ }
+{
+    if a.len() != b.len() {
+        return false;
+    }
+    let mut i = 0;
+    while i < a.len() {
+        if a[i] != b[i] {
+            return false;
+        }
+        i += 1;
+    }
+    true
+}
+
 // Whether a part of one text is equal to a part of another.
 pub fn same_bytes(a: &[u8], start: usize, end: usize, b: &[u8], from: usize, to: usize) -> bool
     ensures { λ r. ⌜ r ≡ sameBytes (part start end (now (a .entry))) (part from to (now (b .entry))) ⌝ }
@@ -92,6 +109,23 @@ pub fn same_bytes(a: &[u8], start: usize, end: usize, b: &[u8], from: usize, to:
     let x = bytes_part(a, start, end);
     let y = bytes_part(b, from, to);
     same(x, y)
+}
+
+// Copies the first n words of `from` to place i of `to`, as far as that goes on.
+pub fn copy(to: &mut [u32], i: usize, from: &[u32], n: usize)
+    ensures { λ r. ⌜ now (to .exit) ≡ copied (now (to .entry)) i (now (from .entry)) 0 n ⌝ }
+{
+    let mut p = i;
+    let mut j: usize = 0;
+    while j < n {
+        if to.len() <= p {
+            return;
+        }
+        let v = at(from, j);
+        to[p] = v;
+        p += 1;
+        j += 1;
+    }
 }
 
 // Sets the first n words to 0, or all of them where there are fewer.
@@ -134,6 +168,7 @@ pub fn rotate_left_5(h: u64) -> u64
     h % 576460752303423488 * 32 + h / 576460752303423488
 }
 
+// Both words xored.
 pub fn xor(a: u64, b: u64) -> u64
     ensures { λ r. ⌜ r ≡ bitXor a b ⌝ }
 {

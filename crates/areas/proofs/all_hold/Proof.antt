@@ -6,26 +6,14 @@ use borrow.Author.Needs.{needs}
 use Rattle.areas.proofs.all_hold.Statement.{statement}
 use Rattle.areas.proofs.all_hold.Tie as tie
 
-holds-requires : tie.Need-holds-requires
-holds-requires c κs = search needs
-
 returns : tie.Need-returns
 returns c = all-off _ _ _ _ _ _ _ (sym (c .before .holds .ensures) ∙ not-true _ (c .if1 .taken))
-
-holds-requires-2 : tie.Need-holds-requires-2
-holds-requires-2 c κs = search needs
 
 returns-2 : tie.Need-returns-2
 returns-2 c = all-off-2 _ _ _ _ _ _ _ (sym (c .before .before .before .holds .ensures) ∙ not-false _ (c .before .before .if1 .left)) (sym (c .before .holds2 .ensures) ∙ not-true _ (c .if2 .taken))
 
-holds-requires-3 : tie.Need-holds-requires-3
-holds-requires-3 c κs = search needs
-
 returns-3 : tie.Need-returns-3
 returns-3 c = all-off-3 _ _ _ _ _ _ _ (sym (c .before .before .before .before .before .holds .ensures) ∙ not-false _ (c .before .before .before .before .if1 .left)) (sym (c .before .before .before .holds2 .ensures) ∙ not-false _ (c .before .before .if2 .left)) (sym (c .before .holds3 .ensures) ∙ not-true _ (c .if3 .taken))
-
-holds-requires-4 : tie.Need-holds-requires-4
-holds-requires-4 c κs = search needs
 
 returns-4 : tie.Need-returns-4
 returns-4 c = c .holds4 .ensures ∙ all-last _ _ _ _ _ _ _ (sym (c .before .before .before .before .before .before .holds .ensures) ∙ not-false _ (c .before .before .before .before .before .if1 .left)) (sym (c .before .before .before .before .holds2 .ensures) ∙ not-false _ (c .before .before .before .if2 .left)) (sym (c .before .before .holds3 .ensures) ∙ not-false _ (c .before .if3 .left))
@@ -33,12 +21,5 @@ returns-4 c = c .holds4 .ensures ∙ all-last _ _ _ _ _ _ _ (sym (c .before .bef
 pub all-hold-spec : {M : Type 1} → statement M
 all-hold-spec =
     tie.close
-    (tie.spec
-    holds-requires
-    returns
-    holds-requires-2
-    returns-2
-    holds-requires-3
-    returns-3
-    holds-requires-4
+    (tie.spec (λ c κs. search needs) returns (λ c κs. search needs) returns-2 (λ c κs. search needs) returns-3 (λ c κs. search needs)
     returns-4)

@@ -17,27 +17,9 @@ abbrev μ-loop : tie.MeasureT-loop
 loop-holds : tie.Need-loop-holds Inv-loop μ-loop
 loop-holds c = (refl, search needs)
 
-at-requires : tie.Need-at-requires Inv-loop μ-loop
-at-requires c κs = search needs
-
-word-due-requires : tie.Need-word-due-requires Inv-loop μ-loop
-word-due-requires c κs = search needs
-
 returns : tie.Need-returns Inv-loop μ-loop
 unfolding areaHeld
 returns c = sym (c .before .before .before .before .loop .inv .0 ∙ held-off _ _ _ _ _ _ (c .before .before .before .loop-test .taken) (λ e. c .if1 .taken (c .before .before .at .ensures ∙ e ∙ sym (c .before .word-due .ensures))))
-
-wrapping-add-u32-requires : tie.Need-wrapping-add-u32-requires Inv-loop μ-loop
-wrapping-add-u32-requires c κs = search needs
-
-add-i : tie.Need-add-i Inv-loop μ-loop
-add-i c = search needs
-
-sub-left : tie.Need-sub-left Inv-loop μ-loop
-sub-left c = search needs
-
-loop-less : tie.Need-loop-less Inv-loop μ-loop
-loop-less c = search needs
 
 loop-again : tie.Need-loop-again Inv-loop μ-loop
 loop-again c = (c .before .before .before .before .before .loop .inv .0 ∙ rw (c .wrapping-add-u32 .ensures) (held-on _ _ _ _ _ _ (c .before .before .before .before .loop-test .taken) (sym (c .before .before .before .at .ensures) ∙ c .before .if1 .left ∙ c .before .before .word-due .ensures)), search needs)
@@ -49,16 +31,5 @@ returns-2 c = sym (c .before .loop .inv .0 ∙ held-end _ _ _ _ _ _ (c .loop-tes
 pub holds-spec : {M : Type 1} → statement M
 holds-spec =
     tie.close
-    (tie.spec
-    Inv-loop
-    μ-loop
-    loop-holds
-    at-requires
-    word-due-requires
-    returns
-    wrapping-add-u32-requires
-    add-i
-    sub-left
-    loop-less
-    loop-again
-    returns-2)
+    (tie.spec Inv-loop μ-loop loop-holds (λ c κs. search needs) (λ c κs. search needs) returns (λ c κs. search needs) (λ c. search needs)
+    (λ c. search needs) (λ c. search needs) loop-again returns-2)

@@ -4,12 +4,9 @@ use borrow.Author.Needs.{needs}
 use Rattle.arena.proofs.node_count.Statement.{statement}
 use Rattle.arena.proofs.node_count.Tie as tie
 
-at-requires : tie.Need-at-requires
-at-requires c κs = search needs
-
 returns : tie.Need-returns
 unfolding count
 returns c = search needs
 
 pub node-count-spec : {M : Type 1} → statement M
-node-count-spec = tie.close (tie.spec at-requires returns)
+node-count-spec = tie.close (tie.spec (λ c κs. search needs) returns)

@@ -12,12 +12,6 @@ returns c = place-none (c .before .args .h) (c .before .args .places) (c .if1 .t
 sub-result : tie.Need-sub-result
 sub-result c = omega (arith, trailing-le 32 (c .before .args .places))
 
-cast-result : tie.Need-cast-result
-cast-result c = search needs
-
-shr-result : tie.Need-shr-result
-shr-result c = search needs
-
 cast-result-2 : tie.Need-cast-result-2
 cast-result-2 c = record { fits = place-fits (c .before .args .h) (c .before .args .places) (search needs) }
 
@@ -25,5 +19,4 @@ returns-2 : tie.Need-returns-2
 returns-2 c = place-some (c .before .args .h) (c .before .args .places) (c .if1 .left)
 
 pub start-place-spec : {M : Type 1} → statement M
-start-place-spec =
-    tie.close (tie.spec returns sub-result cast-result shr-result cast-result-2 returns-2)
+start-place-spec = tie.close (tie.spec returns sub-result (λ c. search needs) (λ c. search needs) cast-result-2 returns-2)

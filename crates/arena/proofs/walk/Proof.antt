@@ -22,50 +22,14 @@ abbrev μ-loop : tie.MeasureT-loop
 loop-holds : tie.Need-loop-holds Inv-loop μ-loop
 loop-holds c = (refl, search needs, search needs)
 
-add-at : tie.Need-add-at Inv-loop μ-loop
-add-at c = search needs
-
-cast-at : tie.Need-cast-at Inv-loop μ-loop
-cast-at c = search needs
-
-add-at-2 : tie.Need-add-at-2 Inv-loop μ-loop
-add-at-2 c = search needs
-
-at-requires : tie.Need-at-requires Inv-loop μ-loop
-at-requires c κs = search needs
-
 returns : tie.Need-returns Inv-loop μ-loop
 returns c = sym (c .before .before .before .loop .inv .0 ∙ walk-free _ _ _ _ _ _ (c .before .before .loop-test .taken) (c .before .at .ensures) (c .if1 .taken))
-
-sub-is-key : tie.Need-sub-is-key Inv-loop μ-loop
-sub-is-key c = search needs
-
-is-key-requires : tie.Need-is-key-requires Inv-loop μ-loop
-is-key-requires c κs = search needs
-
-sub-t16 : tie.Need-sub-t16 Inv-loop μ-loop
-sub-t16 c = search needs
 
 returns-2 : tie.Need-returns-2 Inv-loop μ-loop
 returns-2 c = sym (c .before .before .before .before .before .loop .inv .0 ∙ walk-held _ _ _ _ _ _ (c .before .before .before .before .loop-test .taken) (c .before .before .before .at .ensures) (c .before .before .if1 .left) (sym (c .before .is-key .ensures) ∙ c .if2 .taken))
 
-cast-i : tie.Need-cast-i Inv-loop μ-loop
-cast-i c = search needs
-
-add-i : tie.Need-add-i Inv-loop μ-loop
-add-i c = search needs
-
-rem-i : tie.Need-rem-i Inv-loop μ-loop
-rem-i c = search needs
-
 cast-i-2 : tie.Need-cast-i-2 Inv-loop μ-loop
 cast-i-2 c = let h : 0 < c .before .before .before .before .before .before .before .before .args .places = omega arith in let m = mod-lt (c .before .before .before .before .before .loop .i + 1) h in record { fits = omega arith }
-
-sub-fuel : tie.Need-sub-fuel Inv-loop μ-loop
-sub-fuel c = search needs
-
-loop-less : tie.Need-loop-less Inv-loop μ-loop
-loop-less c = search needs
 
 loop-again : tie.Need-loop-again Inv-loop μ-loop
 loop-again c = (c .before .before .before .before .before .loop .inv .0 ∙ walk-on _ _ _ _ _ _ (c .before .before .before .before .loop-test .taken) (c .before .before .before .at .ensures) (c .before .before .if1 .left) (sym (c .before .is-key .ensures) ∙ c .if2 .left), search needs, let h : 0 < c .before .before .before .before .before .before .before .before .args .places = omega arith in let m = mod-lt (c .before .before .before .before .before .loop .i + 1) h in omega arith)
@@ -76,24 +40,6 @@ returns-3 c = sym (c .before .loop .inv .0 ∙ walk-end _ _ _ _ _ (λ h. omega a
 pub walk-spec : {M : Type 1} → statement M
 walk-spec =
     tie.close
-    (tie.spec
-    Inv-loop
-    μ-loop
-    loop-holds
-    add-at
-    cast-at
-    add-at-2
-    at-requires
-    returns
-    sub-is-key
-    is-key-requires
-    sub-t16
-    returns-2
-    cast-i
-    add-i
-    rem-i
-    cast-i-2
-    sub-fuel
-    loop-less
-    loop-again
-    returns-3)
+    (tie.spec Inv-loop μ-loop loop-holds (λ c. search needs) (λ c. search needs) (λ c. search needs) (λ c κs. search needs) returns
+    (λ c. search needs) (λ c κs. search needs) (λ c. search needs) returns-2 (λ c. search needs) (λ c. search needs) (λ c. search needs)
+    cast-i-2 (λ c. search needs) (λ c. search needs) loop-again returns-3)

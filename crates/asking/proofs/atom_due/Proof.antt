@@ -5,9 +5,6 @@ use Rattle.asking.proofs.Tags.{no-atom}
 use Rattle.asking.proofs.atom_due.Statement.{statement}
 use Rattle.asking.proofs.atom_due.Tie as tie
 
-item-due-requires : tie.Need-item-due-requires
-item-due-requires c κs = tt
-
 enum-known-answer : tie.Need-enum-known-answer
 enum-known-answer c = c .match .keys1
 
@@ -27,4 +24,4 @@ unfolding atomDue
 returns-3 c = rw (← c .before .before .before .before .item-due .ensures, c .before .answer2 .given .1)
 
 pub atom-due-spec : {M : Type 1} → statement M
-atom-due-spec = tie.close (tie.spec item-due-requires enum-known-answer returns enum-known-answer-2 returns-2 returns-3)
+atom-due-spec = tie.close (tie.spec (λ c κs. tt) enum-known-answer returns enum-known-answer-2 returns-2 returns-3)

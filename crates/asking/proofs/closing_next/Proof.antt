@@ -5,9 +5,6 @@ use Rattle.horn.specs.Refusals.{number}
 use Rattle.asking.proofs.closing_next.Statement.{statement}
 use Rattle.asking.proofs.closing_next.Tie as tie
 
-peek-requires : tie.Need-peek-requires
-peek-requires c κs = tt
-
 enum-told : tie.Need-enum-told
 enum-told c = c .match .keys1
 
@@ -25,9 +22,6 @@ enum-told-4 c = c .match2 .keys2
 
 enum-told-5 : tie.Need-enum-told-5
 enum-told-5 c = c .match2 .keys3
-
-closing-due-requires : tie.Need-closing-due-requires
-closing-due-requires c κs = tt
 
 enum-known-p : tie.Need-enum-known-p
 enum-known-p c = c .match3 .keys1
@@ -62,20 +56,5 @@ returns-6 c = rw (← c .before .before .before .before .before .before .before 
 pub closing-next-spec : {M : Type 1} → statement M
 closing-next-spec =
     tie.close
-    (tie.spec
-    peek-requires
-    enum-told
-    enum-told-2
-    enum-known-seen
-    enum-told-3
-    enum-told-4
-    enum-told-5
-    closing-due-requires
-    enum-known-p
-    enum-known-p-2
-    returns
-    returns-2
-    returns-3
-    returns-4
-    returns-5
-    returns-6)
+    (tie.spec (λ c κs. tt) enum-told enum-told-2 enum-known-seen enum-told-3 enum-told-4 enum-told-5 (λ c κs. tt) enum-known-p
+    enum-known-p-2 returns returns-2 returns-3 returns-4 returns-5 returns-6)

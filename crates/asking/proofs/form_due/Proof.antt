@@ -5,9 +5,6 @@ use Rattle.horn.specs.Refusals.{number}
 use Rattle.asking.proofs.form_due.Statement.{statement}
 use Rattle.asking.proofs.form_due.Tie as tie
 
-token-requires : tie.Need-token-requires
-token-requires c κs = tt
-
 enum-told : tie.Need-enum-told
 enum-told c = c .match .keys1
 
@@ -49,16 +46,5 @@ returns-5 c = rw (← c .before .before .before .before .before .token .ensures,
 pub form-due-spec : {M : Type 1} → statement M
 form-due-spec =
     tie.close
-    (tie.spec
-    token-requires
-    enum-told
-    enum-told-2
-    enum-known-read
-    enum-told-3
-    enum-told-4
-    enum-told-5
-    returns
-    returns-2
-    returns-3
-    returns-4
+    (tie.spec (λ c κs. tt) enum-told enum-told-2 enum-known-read enum-told-3 enum-told-4 enum-told-5 returns returns-2 returns-3 returns-4
     returns-5)

@@ -10,9 +10,6 @@ returns : tie.Need-returns
 unfolding itemDue
 returns c = rw (eq-eqb _ _ (c .if1 .taken))
 
-token-requires : tie.Need-token-requires
-token-requires c κs = tt
-
 enum-told : tie.Need-enum-told
 enum-told c = c .match .keys1
 
@@ -54,17 +51,5 @@ returns-6 c = rw (ne-eqb _ _ (c .before .before .before .before .before .before 
 pub item-due-spec : {M : Type 1} → statement M
 item-due-spec =
     tie.close
-    (tie.spec
-    returns
-    token-requires
-    enum-told
-    enum-told-2
-    enum-known-read
-    enum-told-3
-    enum-told-4
-    enum-known-token
-    returns-2
-    returns-3
-    returns-4
-    returns-5
-    returns-6)
+    (tie.spec returns (λ c κs. tt) enum-told enum-told-2 enum-known-read enum-told-3 enum-told-4 enum-known-token returns-2 returns-3
+    returns-4 returns-5 returns-6)

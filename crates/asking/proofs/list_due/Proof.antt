@@ -3,9 +3,6 @@ use Rattle.asking.specs.Asking.{listDue}
 use Rattle.asking.proofs.list_due.Statement.{statement}
 use Rattle.asking.proofs.list_due.Tie as tie
 
-item-due-requires : tie.Need-item-due-requires
-item-due-requires c κs = tt
-
 enum-known-answer : tie.Need-enum-known-answer
 enum-known-answer c = c .match .keys1
 
@@ -28,13 +25,4 @@ unfolding listDue
 returns-3 c = rw (← c .before .before .before .item-due .ensures, c .before .answer2 .given .1)
 
 pub list-due-spec : {M : Type 1} → statement M
-list-due-spec =
-    tie.close
-    (tie.spec
-    item-due-requires
-    enum-known-answer
-    enum-told
-    enum-known-answer-2
-    returns
-    returns-2
-    returns-3)
+list-due-spec = tie.close (tie.spec (λ c κs. tt) enum-known-answer enum-told enum-known-answer-2 returns returns-2 returns-3)

@@ -19,20 +19,8 @@ Inv-loop text goals rules table₀ store₀ stack₀ heap₀ r₀ now₀ fuel₀
 abbrev μ-loop : tie.MeasureT-loop
 μ-loop text goals rules table₀ store₀ stack₀ heap₀ r₀ now₀ fuel₀ table store stack heap r now fuel = fuel
 
-new-requires : tie.Need-new-requires Inv-loop μ-loop
-new-requires c κs = tt
-
-add-fuel : tie.Need-add-fuel Inv-loop μ-loop
-add-fuel c = search needs
-
 loop-holds : tie.Need-loop-holds Inv-loop μ-loop
 loop-holds c = (refl, refl, refl, refl, refl)
-
-form-due-requires : tie.Need-form-due-requires Inv-loop μ-loop
-form-due-requires c κs = tt
-
-enum-known-next : tie.Need-enum-known-next Inv-loop μ-loop
-enum-known-next c = c .match .keys1
 
 same-length : tie.Need-same-length Inv-loop μ-loop
 same-length c = c .before .before .before .before .before .loop .inv .1
@@ -49,9 +37,6 @@ same-length-4 c = c .before .before .before .before .before .loop .inv .4
 returns : tie.Need-returns Inv-loop μ-loop
 returns c = rw (← c .before .before .before .before .before .before .new .ensures) (sym (c .before .before .before .before .before .loop .inv .0 ∙ forms-bad _ _ _ _ _ _ _ _ _ _ (c .before .before .before .before .loop-test .taken) (sym (c .before .before .before .form-due .ensures) ∙ ap begun (c .before .next .given .1))))
 
-enum-told : tie.Need-enum-told Inv-loop μ-loop
-enum-told c = c .match .keys2
-
 same-length-5 : tie.Need-same-length-5 Inv-loop μ-loop
 same-length-5 c = c .before .before .before .before .loop .inv .1
 
@@ -67,15 +52,6 @@ same-length-8 c = c .before .before .before .before .loop .inv .4
 returns-2 : tie.Need-returns-2 Inv-loop μ-loop
 returns-2 c = rw (← c .before .before .before .before .before .new .ensures) (sym (c .before .before .before .before .loop .inv .0 ∙ forms-over _ _ _ _ _ _ _ _ _ _ (c .before .before .before .loop-test .taken) (sym (c .before .before .form-due .ensures) ∙ ap begun (c .enum-told .given .1))))
 
-enum-known-next-2 : tie.Need-enum-known-next-2 Inv-loop μ-loop
-enum-known-next-2 c = c .match .keys3
-
-read-form-requires : tie.Need-read-form-requires Inv-loop μ-loop
-read-form-requires c κs = tt
-
-enum-known-f : tie.Need-enum-known-f Inv-loop μ-loop
-enum-known-f c = c .match2 .keys1
-
 same-length-9 : tie.Need-same-length-9 Inv-loop μ-loop
 same-length-9 c = c .before .before .before .before .before .before .before .before .before .before .table .given ∙ c .before .before .before .before .before .before .before .before .before .before .before .before .before .before .before .before .before .before .before .before .before .loop .inv .1
 
@@ -90,15 +66,6 @@ same-length-12 c = c .before .before .before .before .heap .given ∙ c .before 
 
 returns-3 : tie.Need-returns-3 Inv-loop μ-loop
 returns-3 c = rw (← c .before .before .before .before .before .before .before .before .before .before .before .before .before .before .before .before .before .before .before .before .before .before .new .ensures) (sym (c .before .before .before .before .before .before .before .before .before .before .before .before .before .before .before .before .before .before .before .before .before .loop .inv .0 ∙ form-refused _ _ _ _ _ _ _ _ _ _ (c .before .before .before .before .before .before .before .before .before .before .before .before .before .before .before .before .before .before .before .before .loop-test .taken) (sym (c .before .before .before .before .before .before .before .before .before .before .before .before .before .before .before .before .before .before .before .form-due .ensures) ∙ ap begun (c .before .before .before .before .before .before .before .before .before .before .before .before .before .before .before .before .before .next2 .given .1)) (sym (c .before .before .before .before .before .before .before .before .before .before .before .read-form .ensures)) (ap formed (c .before .f .given .1))))
-
-enum-known-f-2 : tie.Need-enum-known-f-2 Inv-loop μ-loop
-enum-known-f-2 c = c .match2 .keys2
-
-sub-fuel : tie.Need-sub-fuel Inv-loop μ-loop
-sub-fuel c = search needs
-
-loop-less : tie.Need-loop-less Inv-loop μ-loop
-loop-less c = search needs
 
 loop-again : tie.Need-loop-again Inv-loop μ-loop
 loop-again c = (c .before .before .before .before .before .before .before .before .before .before .before .before .before .before .before .before .before .before .before .before .before .loop .inv .0 ∙ forms-on _ _ _ _ _ _ _ _ _ _ (c .before .before .before .before .before .before .before .before .before .before .before .before .before .before .before .before .before .before .before .before .loop-test .taken) (sym (c .before .before .before .before .before .before .before .before .before .before .before .before .before .before .before .before .before .before .before .form-due .ensures) ∙ ap begun (c .before .before .before .before .before .before .before .before .before .before .before .before .before .before .before .before .before .next2 .given .1)) (sym (c .before .before .before .before .before .before .before .before .before .before .before .read-form .ensures)) (ap formed (c .before .f2 .given .1)), c .before .before .before .before .before .before .before .before .before .before .table .given ∙ c .before .before .before .before .before .before .before .before .before .before .before .before .before .before .before .before .before .before .before .before .before .loop .inv .1, c .before .before .before .before .before .before .before .before .store .given ∙ c .before .before .before .before .before .before .before .before .before .before .before .before .before .before .before .before .before .before .before .before .before .loop .inv .2, c .before .before .before .before .before .before .stack .given ∙ c .before .before .before .before .before .before .before .before .before .before .before .before .before .before .before .before .before .before .before .before .before .loop .inv .3, c .before .before .before .before .heap .given ∙ c .before .before .before .before .before .before .before .before .before .before .before .before .before .before .before .before .before .before .before .before .before .loop .inv .4)
@@ -121,39 +88,8 @@ returns-4 c = rw (← c .before .before .new .ensures) (sym (c .before .loop .in
 pub all-forms-spec : {M : Type 1} → statement M
 all-forms-spec =
     tie.close
-    (tie.spec
-    Inv-loop
-    μ-loop
-    new-requires
-    add-fuel
-    loop-holds
-    form-due-requires
-    enum-known-next
-    same-length
-    same-length-2
-    same-length-3
-    same-length-4
-    returns
-    enum-told
-    same-length-5
-    same-length-6
-    same-length-7
-    same-length-8
-    returns-2
-    enum-known-next-2
-    read-form-requires
-    enum-known-f
-    same-length-9
-    same-length-10
-    same-length-11
-    same-length-12
-    returns-3
-    enum-known-f-2
-    sub-fuel
-    loop-less
-    loop-again
-    same-length-13
-    same-length-14
-    same-length-15
-    same-length-16
+    (tie.spec Inv-loop μ-loop (λ c κs. tt) (λ c. search needs) loop-holds (λ c κs. tt) (λ c. c .match .keys1) same-length same-length-2
+    same-length-3 same-length-4 returns (λ c. c .match .keys2) same-length-5 same-length-6 same-length-7 same-length-8 returns-2
+    (λ c. c .match .keys3) (λ c κs. tt) (λ c. c .match2 .keys1) same-length-9 same-length-10 same-length-11 same-length-12 returns-3
+    (λ c. c .match2 .keys2) (λ c. search needs) (λ c. search needs) loop-again same-length-13 same-length-14 same-length-15 same-length-16
     returns-4)

@@ -4,15 +4,6 @@ use Rattle.certificates.specs.Certificates as models
 use Rattle.certificates.proofs.certificate.Statement.{statement}
 use Rattle.certificates.proofs.certificate.Tie as tie
 
-all-forms-requires : tie.Need-all-forms-requires
-all-forms-requires c κs = tt
-
-enum-known-all : tie.Need-enum-known-all
-enum-known-all c = c .match .keys1
-
-enum-known-all-2 : tie.Need-enum-known-all-2
-enum-known-all-2 c = c .match .keys2
-
 same-length : tie.Need-same-length
 same-length c = c .before .before .before .before .before .before .before .before .before .before .before .before .table .given
 
@@ -64,22 +55,5 @@ returns-3 c = rw (← c .before .before .before .before .before .before .before 
 pub certificate-spec : {M : Type 1} → statement M
 certificate-spec =
     tie.close
-    (tie.spec
-    all-forms-requires
-    enum-known-all
-    enum-known-all-2
-    same-length
-    same-length-2
-    same-length-3
-    same-length-4
-    returns
-    same-length-5
-    same-length-6
-    same-length-7
-    same-length-8
-    returns-2
-    same-length-9
-    same-length-10
-    same-length-11
-    same-length-12
-    returns-3)
+    (tie.spec (λ c κs. tt) (λ c. c .match .keys1) (λ c. c .match .keys2) same-length same-length-2 same-length-3 same-length-4 returns
+    same-length-5 same-length-6 same-length-7 same-length-8 returns-2 same-length-9 same-length-10 same-length-11 same-length-12 returns-3)

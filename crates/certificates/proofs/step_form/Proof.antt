@@ -4,21 +4,6 @@ use Rattle.certificates.specs.Certificates.{stepForm}
 use Rattle.certificates.proofs.step_form.Statement.{statement}
 use Rattle.certificates.proofs.step_form.Tie as tie
 
-step-requires : tie.Need-step-requires
-step-requires c κs = tt
-
-enum-known-s : tie.Need-enum-known-s
-enum-known-s c = c .match .keys1
-
-enum-known-s-2 : tie.Need-enum-known-s-2
-enum-known-s-2 c = c .match .keys2
-
-add-step-requires : tie.Need-add-step-requires
-add-step-requires c κs = tt
-
-same-length : tie.Need-same-length
-same-length c = refl
-
 same-length-2 : tie.Need-same-length-2
 same-length-2 c = c .before .before .before .before .before .before .before .before .store .given
 
@@ -51,18 +36,5 @@ returns-2 c = rw (← c .before .before .before .before .before .before .before 
 pub step-form-spec : {M : Type 1} → statement M
 step-form-spec =
     tie.close
-    (tie.spec
-    step-requires
-    enum-known-s
-    enum-known-s-2
-    add-step-requires
-    same-length
-    same-length-2
-    same-length-3
-    same-length-4
-    returns
-    same-length-5
-    same-length-6
-    same-length-7
-    same-length-8
-    returns-2)
+    (tie.spec (λ c κs. tt) (λ c. c .match .keys1) (λ c. c .match .keys2) (λ c κs. tt) (λ c. refl) same-length-2 same-length-3 same-length-4
+    returns same-length-5 same-length-6 same-length-7 same-length-8 returns-2)

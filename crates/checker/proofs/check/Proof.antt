@@ -4,12 +4,6 @@ use Rattle.checker.specs.Checker as models
 use Rattle.checker.proofs.check.Statement.{statement}
 use Rattle.checker.proofs.check.Tie as tie
 
-theory-requires : tie.Need-theory-requires
-theory-requires c κs = tt
-
-enum-known-judged : tie.Need-enum-known-judged
-enum-known-judged c = c .match .keys1
-
 same-length : tie.Need-same-length
 same-length c = c .before .before .before .before .before .before .before .before .table .given
 
@@ -22,27 +16,6 @@ same-length-3 c = c .before .before .before .before .heap .given
 returns : tie.Need-returns
 unfolding models.check
 returns c = rw (← c .before .before .before .before .before .before .before .before .before .theory .ensures, c .before .judged .given .1)
-
-enum-told : tie.Need-enum-told
-enum-told c = c .match .keys2
-
-empty-requires : tie.Need-empty-requires
-empty-requires c κs = tt
-
-begin-requires : tie.Need-begin-requires
-begin-requires c κs = tt
-
-goals-requires : tie.Need-goals-requires
-goals-requires c κs = tt
-
-enum-known-gathered : tie.Need-enum-known-gathered
-enum-known-gathered c = c .match2 .keys1
-
-enum-told-2 : tie.Need-enum-told-2
-enum-told-2 c = c .match2 .keys2
-
-forms-refusal-requires : tie.Need-forms-refusal-requires
-forms-refusal-requires c κs = tt
 
 same-length-4 : tie.Need-same-length-4
 same-length-4 c = c .before .before .before .before .before .before .store2 .given ∙ c .before .before .before .before .before .before .before .before .before .before .before .before .before .before .before .before .before .before .before .store .given
@@ -60,18 +33,6 @@ returns-2 : tie.Need-returns-2
 unfolding models.check
 returns-2 c = rw (← c .before .before .before .before .before .before .before .before .before .before .before .before .before .before .before .before .before .before .before .before .before .before .before .before .before .before .before .before .before .before .theory .ensures, c .before .before .before .before .before .before .before .before .before .before .before .before .before .before .before .before .before .before .before .before .before .before .enum-told .given .1, ← c .before .before .before .before .before .before .before .before .before .before .before .before .before .before .before .before .before .before .before .before .empty .ensures, ← c .before .before .before .before .before .before .before .before .before .before .before .before .before .before .before .before .begin .ensures .0, ← c .before .before .before .before .before .before .before .before .before .before .before .before .before .before .before .before .begin .ensures .1, ← c .before .before .before .before .before .before .before .before .before .goals .ensures, c .forms-refusal .ensures, c .before .enum-told2 .given .1)
 
-certificate-requires : tie.Need-certificate-requires
-certificate-requires c κs = tt
-
-enum-known-all : tie.Need-enum-known-all
-enum-known-all c = c .match3 .keys1
-
-enum-told-3 : tie.Need-enum-told-3
-enum-told-3 c = c .match3 .keys2
-
-forms-refusal-requires-2 : tie.Need-forms-refusal-requires-2
-forms-refusal-requires-2 c κs = tt
-
 same-length-8 : tie.Need-same-length-8
 same-length-8 c = c .before .before .before .before .before .before .before .before .store3 .given ∙ c .before .before .before .before .before .before .before .before .before .before .before .before .before .before .before .before .before .before .before .before .before .before .store2 .given ∙ c .before .before .before .before .before .before .before .before .before .before .before .before .before .before .before .before .before .before .before .before .before .before .before .before .before .before .before .before .before .before .before .before .before .before .before .store .given
 
@@ -87,9 +48,6 @@ same-length-11 c = c .before .before .before .before .heap2 .given ∙ c .before
 returns-3 : tie.Need-returns-3
 unfolding models.check
 returns-3 c = rw (← c .before .before .before .before .before .before .before .before .before .before .before .before .before .before .before .before .before .before .before .before .before .before .before .before .before .before .before .before .before .before .before .before .before .before .before .before .before .before .before .before .before .before .before .before .before .before .theory .ensures, c .before .before .before .before .before .before .before .before .before .before .before .before .before .before .before .before .before .before .before .before .before .before .before .before .before .before .before .before .before .before .before .before .before .before .before .before .before .before .enum-told .given .1, ← c .before .before .before .before .before .before .before .before .before .before .before .before .before .before .before .before .before .before .before .before .before .before .before .before .before .before .before .before .before .before .before .before .before .before .before .before .empty .ensures, ← c .before .before .before .before .before .before .before .before .before .before .before .before .before .before .before .before .before .before .before .before .before .before .before .before .before .before .before .before .before .before .before .before .begin .ensures .0, ← c .before .before .before .before .before .before .before .before .before .before .before .before .before .before .before .before .before .before .before .before .before .before .before .before .before .before .before .before .before .before .before .before .begin .ensures .1, ← c .before .before .before .before .before .before .before .before .before .before .before .before .before .before .before .before .before .before .before .before .before .before .before .before .before .goals .ensures, c .before .before .before .before .before .before .before .before .before .before .before .before .before .before .before .before .before .gathered .given .1, ← c .before .before .before .before .before .before .before .before .before .before .before .certificate .ensures, c .forms-refusal2 .ensures, c .before .enum-told3 .given .1)
-
-node-count-requires : tie.Need-node-count-requires
-node-count-requires c κs = tt
 
 same-length-12 : tie.Need-same-length-12
 same-length-12 c = c .before .before .before .before .before .before .before .before .before .before .store3 .given ∙ c .before .before .before .before .before .before .before .before .before .before .before .before .before .before .before .before .before .before .before .before .before .before .before .before .store2 .given ∙ c .before .before .before .before .before .before .before .before .before .before .before .before .before .before .before .before .before .before .before .before .before .before .before .before .before .before .before .before .before .before .before .before .before .before .before .before .before .store .given
@@ -110,37 +68,7 @@ returns-4 c = rw (← c .before .before .before .before .before .before .before 
 pub check-spec : {M : Type 1} → statement M
 check-spec =
     tie.close
-    (tie.spec
-    theory-requires
-    enum-known-judged
-    same-length
-    same-length-2
-    same-length-3
-    returns
-    enum-told
-    empty-requires
-    begin-requires
-    goals-requires
-    enum-known-gathered
-    enum-told-2
-    forms-refusal-requires
-    same-length-4
-    same-length-5
-    same-length-6
-    same-length-7
-    returns-2
-    certificate-requires
-    enum-known-all
-    enum-told-3
-    forms-refusal-requires-2
-    same-length-8
-    same-length-9
-    same-length-10
-    same-length-11
-    returns-3
-    node-count-requires
-    same-length-12
-    same-length-13
-    same-length-14
-    same-length-15
-    returns-4)
+    (tie.spec (λ c κs. tt) (λ c. c .match .keys1) same-length same-length-2 same-length-3 returns (λ c. c .match .keys2) (λ c κs. tt)
+    (λ c κs. tt) (λ c κs. tt) (λ c. c .match2 .keys1) (λ c. c .match2 .keys2) (λ c κs. tt) same-length-4 same-length-5 same-length-6
+    same-length-7 returns-2 (λ c κs. tt) (λ c. c .match3 .keys1) (λ c. c .match3 .keys2) (λ c κs. tt) same-length-8 same-length-9
+    same-length-10 same-length-11 returns-3 (λ c κs. tt) same-length-12 same-length-13 same-length-14 same-length-15 returns-4)

@@ -4,21 +4,6 @@ use Rattle.goals.specs.Goals as models
 use Rattle.goals.proofs.goals.Statement.{statement}
 use Rattle.goals.proofs.goals.Tie as tie
 
-new-requires : tie.Need-new-requires
-new-requires c κs = tt
-
-goals-from-requires : tie.Need-goals-from-requires
-goals-from-requires c κs = tt
-
-enum-known-all : tie.Need-enum-known-all
-enum-known-all c = c .match .keys1
-
-enum-told : tie.Need-enum-told
-enum-told c = c .match .keys2
-
-forms-refusal-requires : tie.Need-forms-refusal-requires
-forms-refusal-requires c κs = tt
-
 same-length : tie.Need-same-length
 same-length c = c .before .before .before .before .before .before .before .before .table .given
 
@@ -61,21 +46,5 @@ returns-3 c = rw (← c .before .before .before .before .before .before .before 
 pub goals-spec : {M : Type 1} → statement M
 goals-spec =
     tie.close
-    (tie.spec
-    new-requires
-    goals-from-requires
-    enum-known-all
-    enum-told
-    forms-refusal-requires
-    same-length
-    same-length-2
-    same-length-3
-    returns
-    same-length-4
-    same-length-5
-    same-length-6
-    returns-2
-    same-length-7
-    same-length-8
-    same-length-9
-    returns-3)
+    (tie.spec (λ c κs. tt) (λ c κs. tt) (λ c. c .match .keys1) (λ c. c .match .keys2) (λ c κs. tt) same-length same-length-2 same-length-3
+    returns same-length-4 same-length-5 same-length-6 returns-2 same-length-7 same-length-8 same-length-9 returns-3)

@@ -14,17 +14,8 @@ Inv-loop text rules heap table₀ store₀ stack₀ sofar₀ r₀ fuel₀ table 
 abbrev μ-loop : tie.MeasureT-loop
 μ-loop text rules heap table₀ store₀ stack₀ sofar₀ r₀ fuel₀ table store stack sofar r fuel = fuel
 
-add-fuel : tie.Need-add-fuel Inv-loop μ-loop
-add-fuel c = search needs
-
 loop-holds : tie.Need-loop-holds Inv-loop μ-loop
 loop-holds c = (refl, refl, refl, refl)
-
-form-due-requires : tie.Need-form-due-requires Inv-loop μ-loop
-form-due-requires c κs = tt
-
-enum-known-next : tie.Need-enum-known-next Inv-loop μ-loop
-enum-known-next c = c .match .keys1
 
 same-length : tie.Need-same-length Inv-loop μ-loop
 same-length c = c .before .before .before .before .before .loop .inv .1
@@ -38,9 +29,6 @@ same-length-3 c = c .before .before .before .before .before .loop .inv .3
 returns : tie.Need-returns Inv-loop μ-loop
 returns c = sym (c .before .before .before .before .before .loop .inv .0 ∙ form-refused _ _ _ _ _ _ _ _ _ (c .before .before .before .before .loop-test .taken) (rw (← c .before .before .before .form-due .ensures, c .before .next .given .1)))
 
-enum-told : tie.Need-enum-told Inv-loop μ-loop
-enum-told c = c .match .keys2
-
 same-length-4 : tie.Need-same-length-4 Inv-loop μ-loop
 same-length-4 c = c .before .before .before .before .loop .inv .1
 
@@ -53,21 +41,6 @@ same-length-6 c = c .before .before .before .before .loop .inv .3
 returns-2 : tie.Need-returns-2 Inv-loop μ-loop
 returns-2 c = sym (c .before .before .before .before .loop .inv .0 ∙ goals-over _ _ _ _ _ _ _ _ _ (c .before .before .before .loop-test .taken) (rw (← c .before .before .form-due .ensures, c .enum-told .given .1)))
 
-enum-known-next-2 : tie.Need-enum-known-next-2 Inv-loop μ-loop
-enum-known-next-2 c = c .match .keys3
-
-goal-requires : tie.Need-goal-requires Inv-loop μ-loop
-goal-requires c κs = tt
-
-enum-known-f : tie.Need-enum-known-f Inv-loop μ-loop
-enum-known-f c = c .match2 .keys1
-
-enum-told-2 : tie.Need-enum-told-2 Inv-loop μ-loop
-enum-told-2 c = c .match2 .keys2
-
-form-refusal-requires : tie.Need-form-refusal-requires Inv-loop μ-loop
-form-refusal-requires c κs = tt
-
 same-length-7 : tie.Need-same-length-7 Inv-loop μ-loop
 same-length-7 c = c .before .before .before .before .before .before .before .before .table .given ∙ c .before .before .before .before .before .before .before .before .before .before .before .before .before .before .before .before .before .before .loop .inv .1
 
@@ -79,12 +52,6 @@ same-length-9 c = c .before .before .before .before .stack .given ∙ c .before 
 
 returns-3 : tie.Need-returns-3 Inv-loop μ-loop
 returns-3 c = sym (c .before .before .before .before .before .before .before .before .before .before .before .before .before .before .before .before .before .before .loop .inv .0 ∙ goal-refused _ _ _ _ _ _ _ _ _ (c .before .before .before .before .before .before .before .before .before .before .before .before .before .before .before .before .before .loop-test .taken) (sym (c .before .before .before .before .before .before .before .before .before .before .before .before .before .before .before .before .form-due .ensures) ∙ ap begun (c .before .before .before .before .before .before .before .before .before .before .before .before .before .before .next2 .given .1)) (rw (c .form-refusal .ensures, ← c .before .before .before .before .before .before .before .before .before .goal .ensures, c .before .enum-told2 .given .1)))
-
-sub-fuel : tie.Need-sub-fuel Inv-loop μ-loop
-sub-fuel c = search needs
-
-loop-less : tie.Need-loop-less Inv-loop μ-loop
-loop-less c = search needs
 
 loop-again : tie.Need-loop-again Inv-loop μ-loop
 loop-again c = (c .before .before .before .before .before .before .before .before .before .before .before .before .before .before .before .before .before .before .loop .inv .0 ∙ goals-on _ _ _ _ _ _ _ _ _ (c .before .before .before .before .before .before .before .before .before .before .before .before .before .before .before .before .before .loop-test .taken) (sym (c .before .before .before .before .before .before .before .before .before .before .before .before .before .before .before .before .form-due .ensures) ∙ ap begun (c .before .before .before .before .before .before .before .before .before .before .before .before .before .before .next2 .given .1)) (sym (c .before .before .before .before .before .before .before .before .before .goal .ensures)) (ap formed (c .before .f .given .1)), c .before .before .before .before .before .before .before .before .table .given ∙ c .before .before .before .before .before .before .before .before .before .before .before .before .before .before .before .before .before .before .loop .inv .1, c .before .before .before .before .before .before .store .given ∙ c .before .before .before .before .before .before .before .before .before .before .before .before .before .before .before .before .before .before .loop .inv .2, c .before .before .before .before .stack .given ∙ c .before .before .before .before .before .before .before .before .before .before .before .before .before .before .before .before .before .before .loop .inv .3)
@@ -104,35 +71,7 @@ returns-4 c = sym (c .before .loop .inv .0 ∙ goals-none _ _ _ _ _ _ _ _ _ (c .
 pub goals-from-spec : {M : Type 1} → statement M
 goals-from-spec =
     tie.close
-    (tie.spec
-    Inv-loop
-    μ-loop
-    add-fuel
-    loop-holds
-    form-due-requires
-    enum-known-next
-    same-length
-    same-length-2
-    same-length-3
-    returns
-    enum-told
-    same-length-4
-    same-length-5
-    same-length-6
-    returns-2
-    enum-known-next-2
-    goal-requires
-    enum-known-f
-    enum-told-2
-    form-refusal-requires
-    same-length-7
-    same-length-8
-    same-length-9
-    returns-3
-    sub-fuel
-    loop-less
-    loop-again
-    same-length-10
-    same-length-11
-    same-length-12
-    returns-4)
+    (tie.spec Inv-loop μ-loop (λ c. search needs) loop-holds (λ c κs. tt) (λ c. c .match .keys1) same-length same-length-2 same-length-3
+    returns (λ c. c .match .keys2) same-length-4 same-length-5 same-length-6 returns-2 (λ c. c .match .keys3) (λ c κs. tt)
+    (λ c. c .match2 .keys1) (λ c. c .match2 .keys2) (λ c κs. tt) same-length-7 same-length-8 same-length-9 returns-3 (λ c. search needs)
+    (λ c. search needs) loop-again same-length-10 same-length-11 same-length-12 returns-4)

@@ -37,15 +37,4 @@ returns-2 : tie.Need-returns-2 Inv-loop μ-loop
 returns-2 c = sym (c .before .loop .inv .1 .1 ∙ atom-over (c .before .before .before .args .text .now) (c .before .before .before .args .end) (c .before .loop .q) (c .before .loop .inv .0) (search needs))
 
 pub atom-end-spec : {M : Type 1} → statement M
-atom-end-spec =
-    tie.close
-    (tie.spec
-    Inv-loop
-    μ-loop
-    loop-holds
-    look-requires
-    returns
-    add-q
-    loop-less
-    loop-again
-    returns-2)
+atom-end-spec = tie.close (tie.spec Inv-loop μ-loop loop-holds look-requires returns add-q loop-less loop-again returns-2)

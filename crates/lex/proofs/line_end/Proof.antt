@@ -18,23 +18,8 @@ abbrev μ-loop : tie.MeasureT-loop
 loop-holds : tie.Need-loop-holds Inv-loop μ-loop
 loop-holds c = (length (c .before .args .text .now), (omega arith, refl))
 
-shared-slice-read-if1 : tie.Need-shared-slice-read-if1 Inv-loop μ-loop
-shared-slice-read-if1 c = search needs
-
-add-t11 : tie.Need-add-t11 Inv-loop μ-loop
-add-t11 c = search needs
-
 returns : tie.Need-returns Inv-loop μ-loop
 returns c = sym (c .before .before .before .loop .inv .1 .1 ∙ line-stop (c .before .before .before .before .before .args .text .now) (c .before .before .before .loop .q) (c .before .before .loop-test .taken) (c .before .before .before .loop .inv .0) (c .if1 .taken))
-
-sub-first-of : tie.Need-sub-first-of Inv-loop μ-loop
-sub-first-of c = search needs
-
-part-first-of-start : tie.Need-part-first-of-start Inv-loop μ-loop
-part-first-of-start c = search needs
-
-part-first-of-end : tie.Need-part-first-of-end Inv-loop μ-loop
-part-first-of-end c = search needs
 
 first-of-requires : tie.Need-first-of-requires Inv-loop μ-loop
 first-of-requires c κs = c .before .before .before .before .before .before .pre
@@ -57,19 +42,5 @@ returns-3 c = sym (c .before .loop .inv .1 .1 ∙ line-over (c .before .before .
 pub line-end-spec : {M : Type 1} → statement M
 line-end-spec =
     tie.close
-    (tie.spec
-    Inv-loop
-    μ-loop
-    loop-holds
-    shared-slice-read-if1
-    add-t11
-    returns
-    sub-first-of
-    part-first-of-start
-    part-first-of-end
-    first-of-requires
-    returns-2
-    add-q
-    loop-less
-    loop-again
-    returns-3)
+    (tie.spec Inv-loop μ-loop loop-holds (λ c. search needs) (λ c. search needs) returns (λ c. search needs) (λ c. search needs)
+    (λ c. search needs) first-of-requires returns-2 add-q loop-less loop-again returns-3)

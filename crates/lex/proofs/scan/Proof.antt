@@ -14,9 +14,6 @@ Inv-loop text end p classes e₀ q₀ e q = (f : ℕ) × ((length text - e ≤ f
 abbrev μ-loop : tie.MeasureT-loop
 μ-loop text end p classes e₀ q₀ e q = length text - e
 
-classes-requires : tie.Need-classes-requires Inv-loop μ-loop
-classes-requires c κs = tt
-
 skip-blanks-requires : tie.Need-skip-blanks-requires Inv-loop μ-loop
 skip-blanks-requires c κs = c .before .classes .ensures
 
@@ -59,19 +56,5 @@ returns-3 c = c .token-at .ensures ∙ sym (c .before .before .before .loop .inv
 pub scan-spec : {M : Type 1} → statement M
 scan-spec =
     tie.close
-    (tie.spec
-    Inv-loop
-    μ-loop
-    classes-requires
-    skip-blanks-requires
-    loop-holds
-    returns
-    line-end-requires
-    enum-known-line
-    enum-told
-    returns-2
-    skip-blanks-requires-2
-    loop-less
-    loop-again
-    token-at-requires
-    returns-3)
+    (tie.spec Inv-loop μ-loop (λ c κs. tt) skip-blanks-requires loop-holds returns line-end-requires enum-known-line enum-told returns-2
+    skip-blanks-requires-2 loop-less loop-again token-at-requires returns-3)

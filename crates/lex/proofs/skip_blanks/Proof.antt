@@ -40,16 +40,4 @@ returns-3 : tie.Need-returns-3 Inv-loop μ-loop
 returns-3 c = sym (c .before .loop .inv .1 .1 ∙ blank-over (c .before .before .before .args .text .now) (c .before .before .before .args .end) (c .before .loop .q) (c .before .loop .inv .0) (search needs))
 
 pub skip-blanks-spec : {M : Type 1} → statement M
-skip-blanks-spec =
-    tie.close
-    (tie.spec
-    Inv-loop
-    μ-loop
-    loop-holds
-    look-requires
-    returns
-    returns-2
-    add-q
-    loop-less
-    loop-again
-    returns-3)
+skip-blanks-spec = tie.close (tie.spec Inv-loop μ-loop loop-holds look-requires returns returns-2 add-q loop-less loop-again returns-3)

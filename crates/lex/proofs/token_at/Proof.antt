@@ -36,14 +36,4 @@ unfolding answer
 returns-4 c = at-none (c .before .before .before .before .before .args .text .now) (c .before .before .before .before .before .args .end) (c .before .before .before .before .before .args .p) (c .before .before .before .look .result .kind) (c .before .before .before .look .ensures .0) (c .before .before .if1 .left) (c .before .if2 .left) (c .if3 .left)
 
 pub token-at-spec : {M : Type 1} → statement M
-token-at-spec =
-    tie.close
-    (tie.spec
-    look-requires
-    atom-end-requires
-    returns
-    add-t14
-    returns-2
-    add-t18
-    returns-3
-    returns-4)
+token-at-spec = tie.close (tie.spec look-requires atom-end-requires returns add-t14 returns-2 add-t18 returns-3 returns-4)

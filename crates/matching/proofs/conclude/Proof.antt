@@ -6,9 +6,6 @@ use borrow.Author.Needs.{needs}
 use Rattle.matching.proofs.conclude.Statement.{statement}
 use Rattle.matching.proofs.conclude.Tie as tie
 
-conclude-built-requires : tie.Need-conclude-built-requires
-conclude-built-requires c κs = tt
-
 same-length : tie.Need-same-length
 same-length c = c .before .before .before .before .before .store .given
 
@@ -22,18 +19,6 @@ returns : tie.Need-returns
 unfolding stepConcluded
 returns c = rw (eq-eqb _ _ (c .before .before .before .before .before .before .before .before .before .before .if1 .taken)) (c .before .before .before .before .before .before .conclude-built .ensures)
 
-sub-conclude-stated : tie.Need-sub-conclude-stated
-sub-conclude-stated c = search needs
-
-conclude-stated-requires : tie.Need-conclude-stated-requires
-conclude-stated-requires c κs = tt
-
-same-length-4 : tie.Need-same-length-4
-same-length-4 c = refl
-
-same-length-5 : tie.Need-same-length-5
-same-length-5 c = refl
-
 same-length-6 : tie.Need-same-length-6
 same-length-6 c = c .before .heap2 .given
 
@@ -44,15 +29,5 @@ returns-2 c = rw (ne-eqb _ _ (c .before .before .before .before .before .before 
 pub conclude-spec : {M : Type 1} → statement M
 conclude-spec =
     tie.close
-    (tie.spec
-    conclude-built-requires
-    same-length
-    same-length-2
-    same-length-3
-    returns
-    sub-conclude-stated
-    conclude-stated-requires
-    same-length-4
-    same-length-5
-    same-length-6
-    returns-2)
+    (tie.spec (λ c κs. tt) same-length same-length-2 same-length-3 returns (λ c. search needs) (λ c κs. tt) (λ c. refl) (λ c. refl)
+    same-length-6 returns-2)

@@ -4,48 +4,12 @@ use Rattle.matching.specs.Matching.{builtConcluded}
 use Rattle.matching.proofs.conclude_built.Statement.{statement}
 use Rattle.matching.proofs.conclude_built.Tie as tie
 
-premise-count-requires : tie.Need-premise-count-requires
-premise-count-requires c κs = tt
-
-premises-requires : tie.Need-premises-requires
-premises-requires c κs = tt
-
-match-premises-requires : tie.Need-match-premises-requires
-match-premises-requires c κs = tt
-
-enum-known-p : tie.Need-enum-known-p
-enum-known-p c = c .match .keys1
-
-enum-told : tie.Need-enum-told
-enum-told c = c .match .keys2
-
-premises-refusal-requires : tie.Need-premises-refusal-requires
-premises-refusal-requires c κs = tt
-
-same-length : tie.Need-same-length
-same-length c = refl
-
-same-length-2 : tie.Need-same-length-2
-same-length-2 c = refl
-
 same-length-3 : tie.Need-same-length-3
 same-length-3 c = c .before .before .before .before .heap .given
 
 returns : tie.Need-returns
 unfolding builtConcluded
 returns c = rw (← c .before .before .before .before .before .before .before .before .before .before .premise-count .ensures, ← c .before .before .before .before .before .before .before .before .before .premises .ensures, ← c .before .before .before .before .before .match-premises .ensures, c .premises-refusal .ensures, c .before .enum-told .given .1)
-
-build-requires : tie.Need-build-requires
-build-requires c κs = tt
-
-enum-known-b : tie.Need-enum-known-b
-enum-known-b c = c .match2 .keys1
-
-enum-told-2 : tie.Need-enum-told-2
-enum-told-2 c = c .match2 .keys2
-
-built-refusal-requires : tie.Need-built-refusal-requires
-built-refusal-requires c κs = tt
 
 same-length-4 : tie.Need-same-length-4
 same-length-4 c = c .before .before .before .before .before .before .store .given
@@ -76,26 +40,6 @@ returns-3 c = rw (← c .before .before .before .before .before .before .before 
 pub conclude-built-spec : {M : Type 1} → statement M
 conclude-built-spec =
     tie.close
-    (tie.spec
-    premise-count-requires
-    premises-requires
-    match-premises-requires
-    enum-known-p
-    enum-told
-    premises-refusal-requires
-    same-length
-    same-length-2
-    same-length-3
-    returns
-    build-requires
-    enum-known-b
-    enum-told-2
-    built-refusal-requires
-    same-length-4
-    same-length-5
-    same-length-6
-    returns-2
-    same-length-7
-    same-length-8
-    same-length-9
-    returns-3)
+    (tie.spec (λ c κs. tt) (λ c κs. tt) (λ c κs. tt) (λ c. c .match .keys1) (λ c. c .match .keys2) (λ c κs. tt) (λ c. refl) (λ c. refl)
+    same-length-3 returns (λ c κs. tt) (λ c. c .match2 .keys1) (λ c. c .match2 .keys2) (λ c κs. tt) same-length-4 same-length-5
+    same-length-6 returns-2 same-length-7 same-length-8 same-length-9 returns-3)

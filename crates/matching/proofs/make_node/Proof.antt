@@ -3,21 +3,6 @@ use Rattle.matching.specs.Matching.{nodeMade}
 use Rattle.matching.proofs.make_node.Statement.{statement}
 use Rattle.matching.proofs.make_node.Tie as tie
 
-words-part-requires : tie.Need-words-part-requires
-words-part-requires c κs = tt
-
-intern-requires : tie.Need-intern-requires
-intern-requires c κs = tt
-
-enum-known-a : tie.Need-enum-known-a
-enum-known-a c = c .match .keys1
-
-enum-known-a-2 : tie.Need-enum-known-a-2
-enum-known-a-2 c = c .match .keys2
-
-enum-told : tie.Need-enum-told
-enum-told c = c .match .keys3
-
 same-length : tie.Need-same-length
 same-length c = c .before .before .before .before .store .given
 
@@ -42,15 +27,5 @@ returns-3 c = rw (← c .before .before .before .before .before .before .words-p
 pub make-node-spec : {M : Type 1} → statement M
 make-node-spec =
     tie.close
-    (tie.spec
-    words-part-requires
-    intern-requires
-    enum-known-a
-    enum-known-a-2
-    enum-told
-    same-length
-    returns
-    same-length-2
-    returns-2
-    same-length-3
-    returns-3)
+    (tie.spec (λ c κs. tt) (λ c κs. tt) (λ c. c .match .keys1) (λ c. c .match .keys2) (λ c. c .match .keys3) same-length returns
+    same-length-2 returns-2 same-length-3 returns-3)

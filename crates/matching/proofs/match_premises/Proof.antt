@@ -17,41 +17,17 @@ abbrev μ-loop : tie.MeasureT-loop
 loop-holds : tie.Need-loop-holds Inv-loop μ-loop
 loop-holds c = (search needs, premises-first _ _ _ _ _ _ _ _ _, refl)
 
-cast-at : tie.Need-cast-at Inv-loop μ-loop
-cast-at c = search needs
-
-at-requires : tie.Need-at-requires Inv-loop μ-loop
-at-requires c κs = tt
-
 same-length : tie.Need-same-length Inv-loop μ-loop
 same-length c = c .before .before .before .loop .inv .2
 
 returns : tie.Need-returns Inv-loop μ-loop
 returns c = sym (c .before .before .before .loop .inv .1 ∙ no-step _ _ _ _ _ _ _ _ _ _ (c .before .before .loop-test .taken) (rw (← c .before .at .ensures) (c .if1 .taken)))
 
-step-judgment-requires : tie.Need-step-judgment-requires Inv-loop μ-loop
-step-judgment-requires c κs = tt
-
-matches-requires : tie.Need-matches-requires Inv-loop μ-loop
-matches-requires c κs = tt
-
-enum-known-m : tie.Need-enum-known-m Inv-loop μ-loop
-enum-known-m c = c .match .keys1
-
-enum-told : tie.Need-enum-told Inv-loop μ-loop
-enum-told c = c .match .keys2
-
 same-length-2 : tie.Need-same-length-2 Inv-loop μ-loop
 same-length-2 c = c .before .before .before .heap .given ∙ c .before .before .before .before .before .before .before .before .before .before .loop .inv .2
 
 returns-2 : tie.Need-returns-2 Inv-loop μ-loop
 returns-2 c = sym (c .before .before .before .before .before .before .before .before .before .before .loop .inv .1 ∙ premise-differs _ _ _ _ _ _ _ _ _ _ (c .before .before .before .before .before .before .before .before .before .loop-test .taken) (rw (← c .before .before .before .before .before .before .before .before .at .ensures) (c .before .before .before .before .before .before .before .if1 .left)) (rw (← c .before .before .before .before .before .before .before .before .at .ensures, ← c .before .before .before .before .before .before .step-judgment .ensures, ← c .before .before .before .before .matches .ensures, c .enum-told .given .1)))
-
-add-k : tie.Need-add-k Inv-loop μ-loop
-add-k c = search needs
-
-loop-less : tie.Need-loop-less Inv-loop μ-loop
-loop-less c = search needs
 
 loop-again : tie.Need-loop-again Inv-loop μ-loop
 loop-again c = (search needs, c .before .before .before .before .before .before .before .before .before .before .before .loop .inv .1 ∙ premises-on _ _ _ _ _ _ _ _ _ _ (c .before .before .before .before .before .before .before .before .before .before .loop-test .taken) (rw (← c .before .before .before .before .before .before .before .before .before .at .ensures) (c .before .before .before .before .before .before .before .before .if1 .left)) (rw (← c .before .before .before .before .before .before .before .before .before .at .ensures, ← c .before .before .before .before .before .before .before .step-judgment .ensures, ← c .before .before .before .before .before .matches .ensures, c .before .m .given .1)), c .before .before .before .before .heap .given ∙ c .before .before .before .before .before .before .before .before .before .before .before .loop .inv .2)
@@ -65,22 +41,6 @@ returns-3 c = sym (c .before .loop .inv .1 ∙ premises-end _ _ _ _ _ _ _ _ _ _ 
 pub match-premises-spec : {M : Type 1} → statement M
 match-premises-spec =
     tie.close
-    (tie.spec
-    Inv-loop
-    μ-loop
-    loop-holds
-    cast-at
-    at-requires
-    same-length
-    returns
-    step-judgment-requires
-    matches-requires
-    enum-known-m
-    enum-told
-    same-length-2
-    returns-2
-    add-k
-    loop-less
-    loop-again
-    same-length-3
+    (tie.spec Inv-loop μ-loop loop-holds (λ c. search needs) (λ c κs. tt) same-length returns (λ c κs. tt) (λ c κs. tt)
+    (λ c. c .match .keys1) (λ c. c .match .keys2) same-length-2 returns-2 (λ c. search needs) (λ c. search needs) loop-again same-length-3
     returns-3)

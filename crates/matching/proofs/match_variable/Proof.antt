@@ -6,27 +6,12 @@ use borrow.Author.Needs.{needs}
 use Rattle.matching.proofs.match_variable.Statement.{statement}
 use Rattle.matching.proofs.match_variable.Tie as tie
 
-add-at : tie.Need-add-at
-add-at c = search needs
-
-at-requires : tie.Need-at-requires
-at-requires c κs = tt
-
-plus-requires : tie.Need-plus-requires
-plus-requires c κs = tt
-
-set-binding-requires : tie.Need-set-binding-requires
-set-binding-requires c κs = tt
-
 same-length : tie.Need-same-length
 same-length c = c .before .heap .given
 
 returns : tie.Need-returns
 unfolding agrees withBinding bindingOf
 returns c = rw (← c .before .before .before .before .before .before .at .ensures, eq-eqb _ _ (c .before .before .before .before .if1 .taken), ← c .before .before .before .before .before .plus .ensures) (refl, c .before .before .set-binding .ensures)
-
-same-length-2 : tie.Need-same-length-2
-same-length-2 c = refl
 
 returns-2 : tie.Need-returns-2
 unfolding agrees withBinding bindingOf
@@ -35,12 +20,4 @@ returns-2 c = rw (← c .before .before .at .ensures, ne-eqb _ _ (c .if1 .left),
 pub match-variable-spec : {M : Type 1} → statement M
 match-variable-spec =
     tie.close
-    (tie.spec
-    add-at
-    at-requires
-    plus-requires
-    set-binding-requires
-    same-length
-    returns
-    same-length-2
-    returns-2)
+    (tie.spec (λ c. search needs) (λ c κs. tt) (λ c κs. tt) (λ c κs. tt) same-length returns (λ c. refl) returns-2)

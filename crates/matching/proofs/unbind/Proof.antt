@@ -16,15 +16,6 @@ abbrev μ-loop : tie.MeasureT-loop
 loop-holds : tie.Need-loop-holds Inv-loop μ-loop
 loop-holds c = (refl, refl)
 
-sub-v : tie.Need-sub-v Inv-loop μ-loop
-sub-v c = search needs
-
-set-binding-requires : tie.Need-set-binding-requires Inv-loop μ-loop
-set-binding-requires c κs = tt
-
-loop-less : tie.Need-loop-less Inv-loop μ-loop
-loop-less c = search needs
-
 loop-again : tie.Need-loop-again Inv-loop μ-loop
 loop-again c = (c .before .before .before .before .before .loop .inv .0 ∙ unbound-on _ _ (c .before .before .before .before .loop-test .taken) ∙ rw (← c .before .before .set-binding .ensures), c .before .heap .given ∙ c .before .before .before .before .before .loop .inv .1)
 
@@ -37,13 +28,4 @@ returns c = sym (c .before .loop .inv .0 ∙ unbound-end _ _ (c .loop-test .left
 pub unbind-spec : {M : Type 1} → statement M
 unbind-spec =
     tie.close
-    (tie.spec
-    Inv-loop
-    μ-loop
-    loop-holds
-    sub-v
-    set-binding-requires
-    loop-less
-    loop-again
-    same-length
-    returns)
+    (tie.spec Inv-loop μ-loop loop-holds (λ c. search needs) (λ c κs. tt) (λ c. search needs) loop-again same-length returns)

@@ -5,12 +5,6 @@ use borrow.Author.Needs.{needs}
 use Rattle.names.proofs.link.Statement.{statement}
 use Rattle.names.proofs.link.Tie as tie
 
-add-at : tie.Need-add-at
-add-at c = search needs
-
-at-requires : tie.Need-at-requires
-at-requires c κs = search needs
-
 returns : tie.Need-returns
 returns c = c .before .at .ensures ∙ sym (before-link (c .before .before .before .args .area .now) (c .before .before .before .args .e) (search needs))
 
@@ -18,4 +12,4 @@ returns-2 : tie.Need-returns-2
 returns-2 c = sym (before-none (c .before .before .before .args .area .now) (c .before .before .before .args .e) (search needs))
 
 pub link-spec : {M : Type 1} → statement M
-link-spec = tie.close (tie.spec add-at at-requires returns returns-2)
+link-spec = tie.close (tie.spec (λ c. search needs) (λ c κs. search needs) returns returns-2)

@@ -21,38 +21,14 @@ returns c = sym (digits-none _ _ (search needs))
 loop-holds : tie.Need-loop-holds Inv-loop μ-loop
 loop-holds c = (digits-some _ _ (search needs), search needs, search needs)
 
-shared-slice-read-b : tie.Need-shared-slice-read-b Inv-loop μ-loop
-shared-slice-read-b c = search needs
-
 returns-2 : tie.Need-returns-2 Inv-loop μ-loop
 returns-2 c = sym (c .before .before .before .loop .inv .0 ∙ digit-low (c .before .before .before .before .before .args .name .now) (c .before .before .before .loop .i) (c .before .before .before .loop .n) (search needs) (search needs))
 
 returns-3 : tie.Need-returns-3 Inv-loop μ-loop
 returns-3 c = sym (c .before .before .before .before .loop .inv .0 ∙ digit-high (c .before .before .before .before .before .before .args .name .now) (c .before .before .before .before .loop .i) (c .before .before .before .before .loop .n) (search needs) (search needs))
 
-cast-d : tie.Need-cast-d Inv-loop μ-loop
-cast-d c = search needs
-
-sub-d : tie.Need-sub-d Inv-loop μ-loop
-sub-d c = search needs
-
-sub-if4 : tie.Need-sub-if4 Inv-loop μ-loop
-sub-if4 c = search needs
-
 returns-4 : tie.Need-returns-4 Inv-loop μ-loop
 returns-4 c = sym (c .before .before .before .before .before .loop .inv .0 ∙ digit-over (c .before .before .before .before .before .before .before .args .name .now) (c .before .before .before .before .before .loop .i) (c .before .before .before .before .before .loop .n) (search needs) (search needs) (search needs) (search needs))
-
-mul-n : tie.Need-mul-n Inv-loop μ-loop
-mul-n c = search needs
-
-add-n : tie.Need-add-n Inv-loop μ-loop
-add-n c = search needs
-
-add-i : tie.Need-add-i Inv-loop μ-loop
-add-i c = search needs
-
-loop-less : tie.Need-loop-less Inv-loop μ-loop
-loop-less c = search needs
 
 loop-again : tie.Need-loop-again Inv-loop μ-loop
 loop-again c = (c .before .before .before .before .before .loop .inv .0 ∙ digit-on (c .before .before .before .before .before .before .before .args .name .now) (c .before .before .before .before .before .loop .i) (c .before .before .before .before .before .loop .n) (search needs) (search needs) (search needs), search needs, small-enough 18446744073709551615 _ _ (search needs) (search needs) (search needs))
@@ -63,21 +39,5 @@ returns-5 c = sym (c .before .loop .inv .0 ∙ digits-end (c .before .before .be
 pub digits-spec : {M : Type 1} → statement M
 digits-spec =
     tie.close
-    (tie.spec
-    Inv-loop
-    μ-loop
-    returns
-    loop-holds
-    shared-slice-read-b
-    returns-2
-    returns-3
-    cast-d
-    sub-d
-    sub-if4
-    returns-4
-    mul-n
-    add-n
-    add-i
-    loop-less
-    loop-again
-    returns-5)
+    (tie.spec Inv-loop μ-loop returns loop-holds (λ c. search needs) returns-2 returns-3 (λ c. search needs) (λ c. search needs)
+    (λ c. search needs) returns-4 (λ c. search needs) (λ c. search needs) (λ c. search needs) (λ c. search needs) loop-again returns-5)

@@ -4,9 +4,6 @@ use borrow.Author.Needs.{needs}
 use Rattle.numerals.proofs.saturate.Statement.{statement}
 use Rattle.numerals.proofs.saturate.Tie as tie
 
-cast-result : tie.Need-cast-result
-cast-result c = search needs
-
 returns : tie.Need-returns
 returns c = kept-small _ (search needs)
 
@@ -14,4 +11,4 @@ returns-2 : tie.Need-returns-2
 returns-2 c = kept-large _ (search needs)
 
 pub saturate-spec : {M : Type 1} → statement M
-saturate-spec = tie.close (tie.spec cast-result returns returns-2)
+saturate-spec = tie.close (tie.spec (λ c. search needs) returns returns-2)

@@ -4,27 +4,12 @@ use Rattle.references.specs.References.{countedReferences}
 use Rattle.references.proofs.counted_references.Statement.{statement}
 use Rattle.references.proofs.counted_references.Tie as tie
 
-references-requires : tie.Need-references-requires
-references-requires c κs = tt
-
-enum-known-a : tie.Need-enum-known-a
-enum-known-a c = c .match .keys1
-
-enum-told : tie.Need-enum-told
-enum-told c = c .match .keys2
-
-numbered-refusal-requires : tie.Need-numbered-refusal-requires
-numbered-refusal-requires c κs = tt
-
 same-length : tie.Need-same-length
 same-length c = c .before .before .before .before .stack .given
 
 returns : tie.Need-returns
 unfolding countedReferences
 returns c = rw (← c .before .before .before .before .before .references .ensures, c .numbered-refusal .ensures, c .before .enum-told .given .1)
-
-premise-count-requires : tie.Need-premise-count-requires
-premise-count-requires c κs = tt
 
 same-length-2 : tie.Need-same-length-2
 same-length-2 c = c .before .before .before .before .before .before .stack .given
@@ -43,15 +28,5 @@ returns-3 c = rw (← c .before .before .before .before .before .before .before 
 pub counted-references-spec : {M : Type 1} → statement M
 counted-references-spec =
     tie.close
-    (tie.spec
-    references-requires
-    enum-known-a
-    enum-told
-    numbered-refusal-requires
-    same-length
-    returns
-    premise-count-requires
-    same-length-2
-    returns-2
-    same-length-3
-    returns-3)
+    (tie.spec (λ c κs. tt) (λ c. c .match .keys1) (λ c. c .match .keys2) (λ c κs. tt) same-length returns (λ c κs. tt) same-length-2
+    returns-2 same-length-3 returns-3)

@@ -16,17 +16,8 @@ Inv-loop text stack₀ r₀ n₀ fuel₀ stack r n fuel =
 abbrev μ-loop : tie.MeasureT-loop
 μ-loop text stack₀ r₀ n₀ fuel₀ stack r n fuel = fuel
 
-add-fuel : tie.Need-add-fuel Inv-loop μ-loop
-add-fuel c = search needs
-
 loop-holds : tie.Need-loop-holds Inv-loop μ-loop
 loop-holds c = (refl, refl)
-
-closing-next-requires : tie.Need-closing-next-requires Inv-loop μ-loop
-closing-next-requires c κs = tt
-
-enum-known-next : tie.Need-enum-known-next Inv-loop μ-loop
-enum-known-next c = c .match .keys1
 
 same-length : tie.Need-same-length Inv-loop μ-loop
 same-length c = c .before .before .before .before .before .loop .inv .1
@@ -35,9 +26,6 @@ returns : tie.Need-returns Inv-loop μ-loop
 unfolding references
 returns c = sym (c .before .before .before .before .before .loop .inv .0 ∙ references-bad _ _ _ _ _ (c .before .before .before .before .loop-test .taken) (rw (← c .before .before .before .closing-next .ensures, c .before .next .given .1)))
 
-enum-known-next-2 : tie.Need-enum-known-next-2 Inv-loop μ-loop
-enum-known-next-2 c = c .match .keys2
-
 same-length-2 : tie.Need-same-length-2 Inv-loop μ-loop
 same-length-2 c = c .before .before .before .before .before .loop .inv .1
 
@@ -45,39 +33,12 @@ returns-2 : tie.Need-returns-2 Inv-loop μ-loop
 unfolding references
 returns-2 c = sym (c .before .before .before .before .before .loop .inv .0 ∙ references-closed _ _ _ _ _ (c .before .before .before .before .loop-test .taken) (rw (← c .before .before .before .closing-next .ensures, c .before .next2 .given .1)))
 
-enum-known-next-3 : tie.Need-enum-known-next-3 Inv-loop μ-loop
-enum-known-next-3 c = c .match .keys3
-
-number-due-requires : tie.Need-number-due-requires Inv-loop μ-loop
-number-due-requires c κs = tt
-
-enum-known-a : tie.Need-enum-known-a Inv-loop μ-loop
-enum-known-a c = c .match2 .keys1
-
-enum-told : tie.Need-enum-told Inv-loop μ-loop
-enum-told c = c .match2 .keys2
-
-indexed-refusal-requires : tie.Need-indexed-refusal-requires Inv-loop μ-loop
-indexed-refusal-requires c κs = tt
-
 same-length-3 : tie.Need-same-length-3 Inv-loop μ-loop
 same-length-3 c = c .before .before .before .before .before .before .before .before .before .loop .inv .1
 
 returns-3 : tie.Need-returns-3 Inv-loop μ-loop
 unfolding references
 returns-3 c = sym (c .before .before .before .before .before .before .before .before .before .loop .inv .0 ∙ reference-refused _ _ _ _ _ (c .before .before .before .before .before .before .before .before .loop-test .taken) (sym (c .before .before .before .before .before .before .before .closing-next .ensures) ∙ ap looked (c .before .before .before .before .before .next3 .given .1)) (rw (← c .before .before .before .number-due .ensures, c .indexed-refusal .ensures, c .before .enum-told .given .1)))
-
-saturate-requires : tie.Need-saturate-requires Inv-loop μ-loop
-saturate-requires c κs = tt
-
-push-requires : tie.Need-push-requires Inv-loop μ-loop
-push-requires c κs = tt
-
-sub-fuel : tie.Need-sub-fuel Inv-loop μ-loop
-sub-fuel c = search needs
-
-loop-less : tie.Need-loop-less Inv-loop μ-loop
-loop-less c = search needs
 
 loop-again : tie.Need-loop-again Inv-loop μ-loop
 loop-again c = (c .before .before .before .before .before .before .before .before .before .before .before .before .before .before .loop .inv .0 ∙ references-on _ _ _ _ _ (c .before .before .before .before .before .before .before .before .before .before .before .before .before .loop-test .taken) (sym (c .before .before .before .before .before .before .before .before .before .before .before .before .closing-next .ensures) ∙ ap looked (c .before .before .before .before .before .before .before .before .before .before .next3 .given .1)) (sym (c .before .before .before .before .before .before .before .before .number-due .ensures) ∙ ap indexed (c .before .before .before .before .before .before .a .given .1)) (c .before .before .before .saturate .ensures) (c .before .before .push .ensures .0) (c .before .before .push .ensures .1), c .before .stack .given ∙ c .before .before .before .before .before .before .before .before .before .before .before .before .before .before .loop .inv .1)
@@ -92,29 +53,6 @@ returns-4 c = sym (c .before .loop .inv .0 ∙ references-none _ _ _ _ _ (c .loo
 pub references-spec : {M : Type 1} → statement M
 references-spec =
     tie.close
-    (tie.spec
-    Inv-loop
-    μ-loop
-    add-fuel
-    loop-holds
-    closing-next-requires
-    enum-known-next
-    same-length
-    returns
-    enum-known-next-2
-    same-length-2
-    returns-2
-    enum-known-next-3
-    number-due-requires
-    enum-known-a
-    enum-told
-    indexed-refusal-requires
-    same-length-3
-    returns-3
-    saturate-requires
-    push-requires
-    sub-fuel
-    loop-less
-    loop-again
-    same-length-4
-    returns-4)
+    (tie.spec Inv-loop μ-loop (λ c. search needs) loop-holds (λ c κs. tt) (λ c. c .match .keys1) same-length returns (λ c. c .match .keys2)
+    same-length-2 returns-2 (λ c. c .match .keys3) (λ c κs. tt) (λ c. c .match2 .keys1) (λ c. c .match2 .keys2) (λ c κs. tt) same-length-3
+    returns-3 (λ c κs. tt) (λ c κs. tt) (λ c. search needs) (λ c. search needs) loop-again same-length-4 returns-4)

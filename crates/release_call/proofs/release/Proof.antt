@@ -3,41 +3,23 @@ use mathlib.Core.Path.{sym, _∙_}
 use lib.Seq.{length-take-le}
 use denote.Ref.{now}
 use borrow.Author.Tests.{not-true, not-false}
-use Rattle.reports.proofs.Areas.{long}
+use Rattle.clearing.proofs.Areas.{long}
 use Rattle.release_call.proofs.Call.{area-short, rulebook-long, goals-long, certificate-long, release-judged}
 use borrow.Author.Needs.{needs}
 use Rattle.release_call.proofs.release.Statement.{statement}
 use Rattle.release_call.proofs.release.Tie as tie
 
-long-enough-requires : tie.Need-long-enough-requires
-long-enough-requires c κs = tt
-
-unreleased-requires : tie.Need-unreleased-requires
-unreleased-requires c κs = tt
-
 returns : tie.Need-returns
 returns c = area-short _ _ _ _ _ _ _ _ (sym (c .before .before .long-enough .ensures) ∙ not-true _ (c .before .if1 .taken)) (c .unreleased .ensures)
-
-unreleased-requires-2 : tie.Need-unreleased-requires-2
-unreleased-requires-2 c κs = tt
 
 returns-2 : tie.Need-returns-2
 returns-2 c = rulebook-long _ _ _ _ _ _ _ (sym (c .before .before .before .long-enough .ensures) ∙ not-false _ (c .before .before .if1 .left)) _ (c .before .if2 .taken) (c .unreleased2 .ensures)
 
-unreleased-requires-3 : tie.Need-unreleased-requires-3
-unreleased-requires-3 c κs = tt
-
 returns-3 : tie.Need-returns-3
 returns-3 c = goals-long _ _ _ _ _ _ _ (sym (c .before .before .before .before .long-enough .ensures) ∙ not-false _ (c .before .before .before .if1 .left)) (c .before .before .if2 .left) _ (c .before .if3 .taken) (c .unreleased3 .ensures)
 
-unreleased-requires-4 : tie.Need-unreleased-requires-4
-unreleased-requires-4 c κs = tt
-
 returns-4 : tie.Need-returns-4
 returns-4 c = certificate-long _ _ _ _ _ _ _ (sym (c .before .before .before .before .before .long-enough .ensures) ∙ not-false _ (c .before .before .before .before .if1 .left)) (c .before .before .before .if2 .left) (c .before .before .if3 .left) _ (c .before .if4 .taken) (c .unreleased4 .ensures)
-
-cast-check : tie.Need-cast-check
-cast-check c = search needs
 
 slice-relend-prefix-check : tie.Need-slice-relend-prefix-check
 slice-relend-prefix-check c = long _ _ _ _ (sym (c .before .before .before .before .long-enough .ensures) ∙ not-false _ (c .before .before .before .if1 .left)) .first
@@ -63,21 +45,6 @@ slice-relend-prefix-check-4 c = long _ _ _ _ (sym (c .before .before .before .be
 slice-aggregate-check-4 : tie.Need-slice-aggregate-check-4
 slice-aggregate-check-4 c = sym (length-take-le 16384 (now (c .before .before .before .before .before .before .before .before .before .before .before .before .before .before .before .before .args .d)) (long _ _ _ _ (sym (c .before .before .before .before .before .before .before .before .long-enough .ensures) ∙ not-false _ (c .before .before .before .before .before .before .before .if1 .left)) .fourth))
 
-check-requires : tie.Need-check-requires
-check-requires c κs = tt
-
-same-length : tie.Need-same-length
-same-length c = search needs
-
-same-length-2 : tie.Need-same-length-2
-same-length-2 c = search needs
-
-same-length-3 : tie.Need-same-length-3
-same-length-3 c = search needs
-
-same-length-4 : tie.Need-same-length-4
-same-length-4 c = search needs
-
 returns-5 : tie.Need-returns-5
 returns-5 c =
     release-judged _ _ _ _ _ _ _ _ _ _ _ _ (sym (c .before .before .before .before .before .before .before .before .before .before .before .before .before .before .before .before .before .long-enough .ensures) ∙ not-false _ (c .before .before .before .before .before .before .before .before .before .before .before .before .before .before .before .before .if1 .left)) (long _ _ _ _ (sym (c .before .before .before .before .before .before .before .before .before .before .before .before .before .before .before .before .before .long-enough .ensures) ∙ not-false _ (c .before .before .before .before .before .before .before .before .before .before .before .before .before .before .before .before .if1 .left))) (c .before .before .before .before .before .before .before .before .before .before .before .before .before .before .before .if2 .left) (c .before .before .before .before .before .before .before .before .before .before .before .before .before .before .if3 .left) (c .before .before .before .before .before .before .before .before .before .before .before .before .before .if4 .left) (c .before .before .before .before .before .before .before .before .check .ensures .0)
@@ -86,28 +53,7 @@ returns-5 c =
 pub release-spec : {M : Type 1} → statement M
 release-spec =
     tie.close
-    (tie.spec
-    long-enough-requires
-    unreleased-requires
-    returns
-    unreleased-requires-2
-    returns-2
-    unreleased-requires-3
-    returns-3
-    unreleased-requires-4
-    returns-4
-    cast-check
-    slice-relend-prefix-check
-    slice-aggregate-check
-    slice-relend-prefix-check-2
-    slice-aggregate-check-2
-    slice-relend-prefix-check-3
-    slice-aggregate-check-3
-    slice-relend-prefix-check-4
-    slice-aggregate-check-4
-    check-requires
-    same-length
-    same-length-2
-    same-length-3
-    same-length-4
-    returns-5)
+    (tie.spec (λ c κs. tt) (λ c κs. tt) returns (λ c κs. tt) returns-2 (λ c κs. tt) returns-3 (λ c κs. tt) returns-4 (λ c. search needs)
+    slice-relend-prefix-check slice-aggregate-check slice-relend-prefix-check-2 slice-aggregate-check-2 slice-relend-prefix-check-3
+    slice-aggregate-check-3 slice-relend-prefix-check-4 slice-aggregate-check-4 (λ c κs. tt) (λ c. search needs) (λ c. search needs)
+    (λ c. search needs) (λ c. search needs) returns-5)

@@ -5,32 +5,14 @@ use borrow.Author.Needs.{needs}
 use Rattle.report_line.proofs.field.Statement.{statement}
 use Rattle.report_line.proofs.field.Tie as tie
 
-decimal-requires : tie.Need-decimal-requires
-decimal-requires c κs = search needs
-
-array-share-prefix-text : tie.Need-array-share-prefix-text
-array-share-prefix-text c = search needs
-
-slice-aggregate-push : tie.Need-slice-aggregate-push
-slice-aggregate-push c = search needs
-
-push-requires : tie.Need-push-requires
-push-requires c κs = search needs
-
 add-put : tie.Need-add-put
 add-put c = search (needs, at-most-ten _ _ (search needs) (c .before .before .before .before .before .before .decimal .ensures .1 .0))
-
-put-requires : tie.Need-put-requires
-put-requires c κs = search needs
 
 cast-result : tie.Need-cast-result
 cast-result c = search (needs, at-most-ten _ _ (search needs) (c .before .before .before .before .before .before .before .before .before .decimal .ensures .1 .0))
 
 add-result : tie.Need-add-result
 add-result c = search (needs, at-most-ten _ _ (search needs) (c .before .before .before .before .before .before .before .before .before .decimal .ensures .1 .0))
-
-same-length : tie.Need-same-length
-same-length c = search needs
 
 returns : tie.Need-returns
 returns c = (
@@ -41,14 +23,5 @@ returns c = (
 pub field-spec : {M : Type 1} → statement M
 field-spec =
     tie.close
-    (tie.spec
-    decimal-requires
-    array-share-prefix-text
-    slice-aggregate-push
-    push-requires
-    add-put
-    put-requires
-    cast-result
-    add-result
-    same-length
-    returns)
+    (tie.spec (λ c κs. search needs) (λ c. search needs) (λ c. search needs) (λ c κs. search needs) add-put (λ c κs. search needs)
+    cast-result add-result (λ c. search needs) returns)

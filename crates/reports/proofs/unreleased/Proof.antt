@@ -3,8 +3,5 @@ use mathlib.Core.Path.{refl}
 use Rattle.reports.proofs.unreleased.Statement.{statement}
 use Rattle.reports.proofs.unreleased.Tie as tie
 
-returns : tie.Need-returns
-returns c = refl
-
 pub unreleased-spec : {M : Type 1} → statement M
-unreleased-spec = tie.close (tie.spec returns)
+unreleased-spec = tie.close (tie.spec (λ c. refl))

@@ -3,23 +3,14 @@ use mathlib.Core.Path.{sym, _∙_}
 use lib.Seq.{length-take-le}
 use denote.Ref.{now}
 use borrow.Author.Tests.{not-true, not-false}
-use Rattle.reports.proofs.Areas.{long}
+use Rattle.clearing.proofs.Areas.{long}
 use Rattle.rulebook_call.proofs.Call.{area-short, text-long, rulebook-judged}
 use borrow.Author.Needs.{needs}
 use Rattle.rulebook_call.proofs.rulebook.Statement.{statement}
 use Rattle.rulebook_call.proofs.rulebook.Tie as tie
 
-long-enough-requires : tie.Need-long-enough-requires
-long-enough-requires c κs = tt
-
-refused-requires : tie.Need-refused-requires
-refused-requires c κs = tt
-
 returns : tie.Need-returns
 returns c = area-short _ _ _ _ _ _ (sym (c .before .before .long-enough .ensures) ∙ not-true _ (c .before .if1 .taken)) (c .refused .ensures)
-
-refused-requires-2 : tie.Need-refused-requires-2
-refused-requires-2 c κs = tt
 
 returns-2 : tie.Need-returns-2
 returns-2 c = text-long _ _ _ _ _ (sym (c .before .before .before .long-enough .ensures) ∙ not-false _ (c .before .before .if1 .left)) _ (c .before .if2 .taken) (c .refused2 .ensures)
@@ -48,21 +39,6 @@ slice-relend-prefix-judge-4 c = long _ _ _ _ (sym (c .before .before .before .be
 slice-aggregate-judge-4 : tie.Need-slice-aggregate-judge-4
 slice-aggregate-judge-4 c = sym (length-take-le 16384 (now (c .before .before .before .before .before .before .before .before .before .before .before .before .args .d)) (long _ _ _ _ (sym (c .before .before .before .before .before .before .long-enough .ensures) ∙ not-false _ (c .before .before .before .before .before .if1 .left)) .fourth))
 
-judge-requires : tie.Need-judge-requires
-judge-requires c κs = tt
-
-same-length : tie.Need-same-length
-same-length c = search needs
-
-same-length-2 : tie.Need-same-length-2
-same-length-2 c = search needs
-
-same-length-3 : tie.Need-same-length-3
-same-length-3 c = search needs
-
-same-length-4 : tie.Need-same-length-4
-same-length-4 c = search needs
-
 returns-3 : tie.Need-returns-3
 returns-3 c =
     rulebook-judged _ _ _ _ _ _ _ _ _ _ (sym (c .before .before .before .before .before .before .before .before .before .before .before .before .before .before .before .long-enough .ensures) ∙ not-false _ (c .before .before .before .before .before .before .before .before .before .before .before .before .before .before .if1 .left)) (long _ _ _ _ (sym (c .before .before .before .before .before .before .before .before .before .before .before .before .before .before .before .long-enough .ensures) ∙ not-false _ (c .before .before .before .before .before .before .before .before .before .before .before .before .before .before .if1 .left))) (c .before .before .before .before .before .before .before .before .before .before .before .before .before .if2 .left) (c .before .before .before .before .before .before .before .before .judge .ensures .0)
@@ -71,23 +47,6 @@ returns-3 c =
 pub rulebook-spec : {M : Type 1} → statement M
 rulebook-spec =
     tie.close
-    (tie.spec
-    long-enough-requires
-    refused-requires
-    returns
-    refused-requires-2
-    returns-2
-    slice-relend-prefix-judge
-    slice-aggregate-judge
-    slice-relend-prefix-judge-2
-    slice-aggregate-judge-2
-    slice-relend-prefix-judge-3
-    slice-aggregate-judge-3
-    slice-relend-prefix-judge-4
-    slice-aggregate-judge-4
-    judge-requires
-    same-length
-    same-length-2
-    same-length-3
-    same-length-4
-    returns-3)
+    (tie.spec (λ c κs. tt) (λ c κs. tt) returns (λ c κs. tt) returns-2 slice-relend-prefix-judge slice-aggregate-judge
+    slice-relend-prefix-judge-2 slice-aggregate-judge-2 slice-relend-prefix-judge-3 slice-aggregate-judge-3 slice-relend-prefix-judge-4
+    slice-aggregate-judge-4 (λ c κs. tt) (λ c. search needs) (λ c. search needs) (λ c. search needs) (λ c. search needs) returns-3)

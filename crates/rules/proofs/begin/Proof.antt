@@ -3,12 +3,9 @@ use Rattle.rules.specs.Rules.{begun}
 use Rattle.rules.proofs.begin.Statement.{statement}
 use Rattle.rules.proofs.begin.Tie as tie
 
-plus-requires : tie.Need-plus-requires
-plus-requires c κs = tt
-
 returns : tie.Need-returns
 unfolding begun
 returns c = rw (c .plus .ensures)
 
 pub begin-spec : {M : Type 1} → statement M
-begin-spec = tie.close (tie.spec plus-requires returns)
+begin-spec = tie.close (tie.spec (λ c κs. tt) returns)

@@ -5,36 +5,21 @@ use Rattle.rules.proofs.Firings.{name-last}
 use Rattle.rules.proofs.declare_rule.Statement.{statement}
 use Rattle.rules.proofs.declare_rule.Tie as tie
 
-keep-name-requires : tie.Need-keep-name-requires
-keep-name-requires c κs = tt
-
 enum-known-k : tie.Need-enum-known-k
 enum-known-k c = c .match .keys1
 
 enum-told : tie.Need-enum-told
 enum-told c = c .match .keys2
 
-kept-refusal-requires : tie.Need-kept-refusal-requires
-kept-refusal-requires c κs = tt
-
 returns : tie.Need-returns
 unfolding ruleDeclared
 returns c = rw (c .kept-refusal .ensures, ← c .before .before .before .keep-name .ensures, c .before .enum-told .given .1)
-
-begin-requires : tie.Need-begin-requires
-begin-requires c κs = tt
-
-read-body-requires : tie.Need-read-body-requires
-read-body-requires c κs = tt
 
 enum-known-b : tie.Need-enum-known-b
 enum-known-b c = c .match2 .keys1
 
 enum-told-2 : tie.Need-enum-told-2
 enum-told-2 c = c .match2 .keys2
-
-body-refusal-requires : tie.Need-body-refusal-requires
-body-refusal-requires c κs = tt
 
 same-length : tie.Need-same-length
 same-length c = c .before .before .before .before .before .before .vars .given
@@ -62,9 +47,6 @@ returns-3 : tie.Need-returns-3
 unfolding ruleDeclared
 returns-3 c = rw (← c .before .before .before .before .before .before .before .before .before .before .before .before .before .before .before .before .keep-name .ensures, c .before .before .before .before .before .before .before .before .before .before .before .before .before .before .k .given .1, ← c .before .before .before .before .before .before .before .before .before .before .begin .ensures, ← c .before .before .before .before .before .before .before .before .before .read-body .ensures, c .before .before .before .b .given .1, c .enum-told3 .given .1)
 
-is-question-requires : tie.Need-is-question-requires
-is-question-requires c κs = tt
-
 same-length-5 : tie.Need-same-length-5
 same-length-5 c = c .before .before .before .before .before .before .before .before .before .before .before .vars .given
 
@@ -74,9 +56,6 @@ same-length-6 c = c .before .before .before .before .before .before .before .bef
 returns-4 : tie.Need-returns-4
 unfolding ruleDeclared
 returns-4 c = rw (← c .before .before .before .before .before .before .before .before .before .before .before .before .before .before .before .before .before .before .before .keep-name .ensures, c .before .before .before .before .before .before .before .before .before .before .before .before .before .before .before .before .before .k .given .1, ← c .before .before .before .before .before .before .before .before .before .before .before .before .before .begin .ensures, ← c .before .before .before .before .before .before .before .before .before .before .before .before .read-body .ensures, c .before .before .before .before .before .before .b .given .1, c .before .before .before .name .given .1, ← c .before .is-question .ensures, c .if1 .taken)
-
-enter-rule-requires : tie.Need-enter-rule-requires
-enter-rule-requires c κs = tt
 
 same-length-7 : tie.Need-same-length-7
 same-length-7 c = c .before .before .before .before .before .before .before .before .before .before .before .before .before .before .before .before .vars .given
@@ -91,30 +70,6 @@ returns-5 c = rw (← c .before .before .before .before .before .before .before 
 pub declare-rule-spec : {M : Type 1} → statement M
 declare-rule-spec =
     tie.close
-    (tie.spec
-    keep-name-requires
-    enum-known-k
-    enum-told
-    kept-refusal-requires
-    returns
-    begin-requires
-    read-body-requires
-    enum-known-b
-    enum-told-2
-    body-refusal-requires
-    same-length
-    same-length-2
-    returns-2
-    enum-known-name
-    enum-told-3
-    same-length-3
-    same-length-4
-    returns-3
-    is-question-requires
-    same-length-5
-    same-length-6
-    returns-4
-    enter-rule-requires
-    same-length-7
-    same-length-8
-    returns-5)
+    (tie.spec (λ c κs. tt) enum-known-k enum-told (λ c κs. tt) returns (λ c κs. tt) (λ c κs. tt) enum-known-b enum-told-2 (λ c κs. tt)
+    same-length same-length-2 returns-2 enum-known-name enum-told-3 same-length-3 same-length-4 returns-3 (λ c κs. tt) same-length-5
+    same-length-6 returns-4 (λ c κs. tt) same-length-7 same-length-8 returns-5)

@@ -4,17 +4,11 @@ use Rattle.rules.specs.Rules.{ruleEntered}
 use Rattle.rules.proofs.enter_rule.Statement.{statement}
 use Rattle.rules.proofs.enter_rule.Tie as tie
 
-enter-requires : tie.Need-enter-requires
-enter-requires c κs = tt
-
 enum-known-m : tie.Need-enum-known-m
 enum-known-m c = c .match .keys1
 
 enum-told : tie.Need-enum-told
 enum-told c = c .match .keys2
-
-walked-refusal-requires : tie.Need-walked-refusal-requires
-walked-refusal-requires c κs = tt
 
 same-length : tie.Need-same-length
 same-length c = c .before .before .before .before .heap .given
@@ -22,15 +16,6 @@ same-length c = c .before .before .before .before .heap .given
 returns : tie.Need-returns
 unfolding ruleEntered
 returns c = rw (c .walked-refusal .ensures, ← c .before .before .before .before .before .enter .ensures, c .before .enum-told .given .1)
-
-describe-rule-requires : tie.Need-describe-rule-requires
-describe-rule-requires c κs = tt
-
-store-variables-requires : tie.Need-store-variables-requires
-store-variables-requires c κs = tt
-
-close-requires : tie.Need-close-requires
-close-requires c κs = tt
 
 same-length-2 : tie.Need-same-length-2
 same-length-2 c = c .before .before .heap3 .given ∙ c .before .before .before .before .before .before .heap2 .given ∙ c .before .before .before .before .before .before .before .before .before .before .before .before .before .heap .given
@@ -42,15 +27,5 @@ returns-2 c = rw (← c .before .before .before .before .before .before .before 
 pub enter-rule-spec : {M : Type 1} → statement M
 enter-rule-spec =
     tie.close
-    (tie.spec
-    enter-requires
-    enum-known-m
-    enum-told
-    walked-refusal-requires
-    same-length
-    returns
-    describe-rule-requires
-    store-variables-requires
-    close-requires
-    same-length-2
+    (tie.spec (λ c κs. tt) enum-known-m enum-told (λ c κs. tt) same-length returns (λ c κs. tt) (λ c κs. tt) (λ c κs. tt) same-length-2
     returns-2)

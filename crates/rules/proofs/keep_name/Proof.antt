@@ -3,9 +3,6 @@ use Rattle.rules.specs.Rules.{nameKept}
 use Rattle.rules.proofs.keep_name.Statement.{statement}
 use Rattle.rules.proofs.keep_name.Tie as tie
 
-next-item-requires : tie.Need-next-item-requires
-next-item-requires c κs = tt
-
 enum-known-i : tie.Need-enum-known-i
 enum-known-i c = c .match .keys1
 
@@ -14,9 +11,6 @@ enum-known-i-2 c = c .match .keys2
 
 enum-known-i-3 : tie.Need-enum-known-i-3
 enum-known-i-3 c = c .match .keys3
-
-skip-requires : tie.Need-skip-requires
-skip-requires c κs = tt
 
 enum-known-p : tie.Need-enum-known-p
 enum-known-p c = c .match2 .keys1
@@ -43,15 +37,5 @@ returns-4 c = rw (← c .before .before .before .before .before .before .before 
 pub keep-name-spec : {M : Type 1} → statement M
 keep-name-spec =
     tie.close
-    (tie.spec
-    next-item-requires
-    enum-known-i
-    enum-known-i-2
-    enum-known-i-3
-    skip-requires
-    enum-known-p
-    enum-known-p-2
-    returns
-    returns-2
-    returns-3
+    (tie.spec (λ c κs. tt) enum-known-i enum-known-i-2 enum-known-i-3 (λ c κs. tt) enum-known-p enum-known-p-2 returns returns-2 returns-3
     returns-4)

@@ -5,9 +5,6 @@ use Rattle.horn.specs.Refusals.{number}
 use Rattle.rules.proofs.pass.Statement.{statement}
 use Rattle.rules.proofs.pass.Tie as tie
 
-token-requires : tie.Need-token-requires
-token-requires c κs = tt
-
 enum-told : tie.Need-enum-told
 enum-told c = c .match .keys1
 
@@ -19,9 +16,6 @@ enum-known-read c = c .match .keys3
 
 enum-told-3 : tie.Need-enum-told-3
 enum-told-3 c = c .match2 .keys1
-
-plus-requires : tie.Need-plus-requires
-plus-requires c κs = tt
 
 enum-told-4 : tie.Need-enum-told-4
 enum-told-4 c = c .match2 .keys2
@@ -52,17 +46,5 @@ returns-5 c = rw (← c .before .before .before .before .before .token .ensures,
 pub pass-spec : {M : Type 1} → statement M
 pass-spec =
     tie.close
-    (tie.spec
-    token-requires
-    enum-told
-    enum-told-2
-    enum-known-read
-    enum-told-3
-    plus-requires
-    enum-told-4
-    enum-told-5
-    returns
-    returns-2
-    returns-3
-    returns-4
-    returns-5)
+    (tie.spec (λ c κs. tt) enum-told enum-told-2 enum-known-read enum-told-3 (λ c κs. tt) enum-told-4 enum-told-5 returns returns-2
+    returns-3 returns-4 returns-5)

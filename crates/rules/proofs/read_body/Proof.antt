@@ -4,33 +4,21 @@ use Rattle.rules.specs.Rules.{bodyRead}
 use Rattle.rules.proofs.read_body.Statement.{statement}
 use Rattle.rules.proofs.read_body.Tie as tie
 
-next-list-requires : tie.Need-next-list-requires
-next-list-requires c κs = tt
-
 enum-known-l : tie.Need-enum-known-l
 enum-known-l c = c .match .keys1
 
 enum-told : tie.Need-enum-told
 enum-told c = c .match .keys2
 
-numbered-refusal-requires : tie.Need-numbered-refusal-requires
-numbered-refusal-requires c κs = tt
-
 returns : tie.Need-returns
 unfolding bodyRead
 returns c = rw (c .numbered-refusal .ensures, ← c .before .before .before .next-list .ensures, c .before .enum-told .given .1)
-
-judgments-requires : tie.Need-judgments-requires
-judgments-requires c κs = tt
 
 enum-known-j : tie.Need-enum-known-j
 enum-known-j c = c .match2 .keys1
 
 enum-told-2 : tie.Need-enum-told-2
 enum-told-2 c = c .match2 .keys2
-
-walked-refusal-requires : tie.Need-walked-refusal-requires
-walked-refusal-requires c κs = tt
 
 same-length : tie.Need-same-length
 same-length c = c .before .before .before .before .before .before .vars .given
@@ -42,17 +30,11 @@ returns-2 : tie.Need-returns-2
 unfolding bodyRead
 returns-2 c = rw (c .walked-refusal .ensures, ← c .before .before .before .before .before .before .before .before .before .before .before .before .before .next-list .ensures, c .before .before .before .before .before .before .before .before .before .before .before .l .given .1, ← c .before .before .before .before .before .before .before .judgments .ensures, c .before .enum-told2 .given .1)
 
-judgment-requires : tie.Need-judgment-requires
-judgment-requires c κs = tt
-
 enum-known-k : tie.Need-enum-known-k
 enum-known-k c = c .match3 .keys1
 
 enum-told-3 : tie.Need-enum-told-3
 enum-told-3 c = c .match3 .keys2
-
-walked-refusal-requires-2 : tie.Need-walked-refusal-requires-2
-walked-refusal-requires-2 c κs = tt
 
 same-length-3 : tie.Need-same-length-3
 same-length-3 c = c .before .before .before .before .before .before .vars2 .given ∙ c .before .before .before .before .before .before .before .before .before .before .before .before .before .before .before .before .vars .given
@@ -77,26 +59,6 @@ returns-4 c = rw (← c .before .before .before .before .before .before .before 
 pub read-body-spec : {M : Type 1} → statement M
 read-body-spec =
     tie.close
-    (tie.spec
-    next-list-requires
-    enum-known-l
-    enum-told
-    numbered-refusal-requires
-    returns
-    judgments-requires
-    enum-known-j
-    enum-told-2
-    walked-refusal-requires
-    same-length
-    same-length-2
-    returns-2
-    judgment-requires
-    enum-known-k
-    enum-told-3
-    walked-refusal-requires-2
-    same-length-3
-    same-length-4
-    returns-3
-    same-length-5
-    same-length-6
-    returns-4)
+    (tie.spec (λ c κs. tt) enum-known-l enum-told (λ c κs. tt) returns (λ c κs. tt) enum-known-j enum-told-2 (λ c κs. tt) same-length
+    same-length-2 returns-2 (λ c κs. tt) enum-known-k enum-told-3 (λ c κs. tt) same-length-3 same-length-4 returns-3 same-length-5
+    same-length-6 returns-4)

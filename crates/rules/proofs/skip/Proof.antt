@@ -19,32 +19,14 @@ loop-holds c = refl
 returns : tie.Need-returns Inv-loop μ-loop
 returns c = sym (c .before .before .loop .inv ∙ skip-short _ _ _ _ (c .before .loop-test .taken) (c .if1 .taken))
 
-pass-requires : tie.Need-pass-requires Inv-loop μ-loop
-pass-requires c κs = tt
-
 enum-known-p : tie.Need-enum-known-p Inv-loop μ-loop
 enum-known-p c = c .match .keys1
 
 enum-told : tie.Need-enum-told Inv-loop μ-loop
 enum-told c = c .match .keys2
 
-numbered-refusal-requires : tie.Need-numbered-refusal-requires Inv-loop μ-loop
-numbered-refusal-requires c κs = tt
-
 returns-2 : tie.Need-returns-2 Inv-loop μ-loop
 returns-2 c = sym (c .before .before .before .before .before .before .loop .inv ∙ skip-refused _ _ _ _ (c .before .before .before .before .before .loop-test .taken) (c .before .before .before .before .if1 .left) (rw (c .numbered-refusal .ensures, ← c .before .before .before .pass .ensures, c .before .enum-told .given .1)))
-
-sub-plus : tie.Need-sub-plus Inv-loop μ-loop
-sub-plus c = search needs
-
-plus-requires : tie.Need-plus-requires Inv-loop μ-loop
-plus-requires c κs = tt
-
-sub-fuel : tie.Need-sub-fuel Inv-loop μ-loop
-sub-fuel c = search needs
-
-loop-less : tie.Need-loop-less Inv-loop μ-loop
-loop-less c = search needs
 
 loop-again : tie.Need-loop-again Inv-loop μ-loop
 loop-again c = rw (c .plus .ensures) (c .before .before .before .before .before .before .before .loop .inv ∙ skip-on _ _ _ _ (c .before .before .before .before .before .before .loop-test .taken) (c .before .before .before .before .before .if1 .left) (rw (← c .before .before .before .before .pass .ensures, c .before .before .p .given .1)))
@@ -55,19 +37,5 @@ returns-3 c = sym (c .before .loop .inv ∙ skip-done _ _ _ _ (c .loop-test .lef
 pub skip-spec : {M : Type 1} → statement M
 skip-spec =
     tie.close
-    (tie.spec
-    Inv-loop
-    μ-loop
-    loop-holds
-    returns
-    pass-requires
-    enum-known-p
-    enum-told
-    numbered-refusal-requires
-    returns-2
-    sub-plus
-    plus-requires
-    sub-fuel
-    loop-less
-    loop-again
-    returns-3)
+    (tie.spec Inv-loop μ-loop loop-holds returns (λ c κs. tt) enum-known-p enum-told (λ c κs. tt) returns-2 (λ c. search needs) (λ c κs. tt)
+    (λ c. search needs) (λ c. search needs) loop-again returns-3)

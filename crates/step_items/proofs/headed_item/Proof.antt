@@ -4,21 +4,6 @@ use Rattle.step_items.specs.StepItems.{headedItem}
 use Rattle.step_items.proofs.headed_item.Statement.{statement}
 use Rattle.step_items.proofs.headed_item.Tie as tie
 
-is-question-requires : tie.Need-is-question-requires
-is-question-requires c κs = tt
-
-binding-requires : tie.Need-binding-requires
-binding-requires c κs = tt
-
-enum-known-b : tie.Need-enum-known-b
-enum-known-b c = c .match .keys1
-
-enum-told : tie.Need-enum-told
-enum-told c = c .match .keys2
-
-passed-refusal-requires : tie.Need-passed-refusal-requires
-passed-refusal-requires c κs = tt
-
 same-length : tie.Need-same-length
 same-length c = c .before .before .before .before .before .before .before .before .store .given
 
@@ -45,17 +30,11 @@ returns-2 : tie.Need-returns-2
 unfolding headedItem
 returns-2 c = rw (← c .before .before .before .before .before .before .before .before .before .before .before .before .before .before .is-question .ensures, c .before .before .before .before .before .before .before .before .before .before .before .before .before .if1 .taken, ← c .before .before .before .before .before .before .before .before .before .binding .ensures, c .before .b .given .1)
 
-stated-requires : tie.Need-stated-requires
-stated-requires c κs = tt
-
 same-length-7 : tie.Need-same-length-7
 same-length-7 c = c .before .before .before .store2 .given
 
 same-length-8 : tie.Need-same-length-8
 same-length-8 c = c .before .stack2 .given
-
-same-length-9 : tie.Need-same-length-9
-same-length-9 c = refl
 
 returns-3 : tie.Need-returns-3
 unfolding headedItem
@@ -64,22 +43,5 @@ returns-3 c = rw (← c .before .before .before .before .before .before .before 
 pub headed-item-spec : {M : Type 1} → statement M
 headed-item-spec =
     tie.close
-    (tie.spec
-    is-question-requires
-    binding-requires
-    enum-known-b
-    enum-told
-    passed-refusal-requires
-    same-length
-    same-length-2
-    same-length-3
-    returns
-    same-length-4
-    same-length-5
-    same-length-6
-    returns-2
-    stated-requires
-    same-length-7
-    same-length-8
-    same-length-9
-    returns-3)
+    (tie.spec (λ c κs. tt) (λ c κs. tt) (λ c. c .match .keys1) (λ c. c .match .keys2) (λ c κs. tt) same-length same-length-2 same-length-3
+    returns same-length-4 same-length-5 same-length-6 returns-2 (λ c κs. tt) same-length-7 same-length-8 (λ c. refl) returns-3)

@@ -18,17 +18,8 @@ Inv-loop text rules table store₀ stack₀ heap₀ rule top r₀ word₀ fuel�
 abbrev μ-loop : tie.MeasureT-loop
 μ-loop text rules table store₀ stack₀ heap₀ rule top r₀ word₀ fuel₀ store stack heap r word fuel = fuel
 
-add-fuel : tie.Need-add-fuel Inv-loop μ-loop
-add-fuel c = search needs
-
 loop-holds : tie.Need-loop-holds Inv-loop μ-loop
 loop-holds c = (refl, refl, refl, refl)
-
-closing-next-requires : tie.Need-closing-next-requires Inv-loop μ-loop
-closing-next-requires c κs = tt
-
-enum-known-next : tie.Need-enum-known-next Inv-loop μ-loop
-enum-known-next c = c .match .keys1
 
 same-length : tie.Need-same-length Inv-loop μ-loop
 same-length c = c .before .before .before .before .before .loop .inv .1
@@ -43,9 +34,6 @@ returns : tie.Need-returns Inv-loop μ-loop
 unfolding items
 returns c = sym (c .before .before .before .before .before .loop .inv .0 ∙ items-bad _ _ _ _ _ _ _ _ _ _ _ (c .before .before .before .before .loop-test .taken) (rw (← c .before .before .before .closing-next .ensures, c .before .next .given .1)))
 
-enum-known-next-2 : tie.Need-enum-known-next-2 Inv-loop μ-loop
-enum-known-next-2 c = c .match .keys2
-
 same-length-4 : tie.Need-same-length-4 Inv-loop μ-loop
 same-length-4 c = c .before .before .before .before .before .loop .inv .1
 
@@ -59,21 +47,6 @@ returns-2 : tie.Need-returns-2 Inv-loop μ-loop
 unfolding items
 returns-2 c = sym (c .before .before .before .before .before .loop .inv .0 ∙ items-closed _ _ _ _ _ _ _ _ _ _ _ (c .before .before .before .before .loop-test .taken) (rw (← c .before .before .before .closing-next .ensures, c .before .next2 .given .1)))
 
-enum-known-next-3 : tie.Need-enum-known-next-3 Inv-loop μ-loop
-enum-known-next-3 c = c .match .keys3
-
-item-requires : tie.Need-item-requires Inv-loop μ-loop
-item-requires c κs = tt
-
-enum-known-a : tie.Need-enum-known-a Inv-loop μ-loop
-enum-known-a c = c .match2 .keys1
-
-enum-told : tie.Need-enum-told Inv-loop μ-loop
-enum-told c = c .match2 .keys2
-
-numbered-refusal-requires : tie.Need-numbered-refusal-requires Inv-loop μ-loop
-numbered-refusal-requires c κs = tt
-
 same-length-7 : tie.Need-same-length-7 Inv-loop μ-loop
 same-length-7 c = c .before .before .before .before .before .before .before .before .store .given ∙ c .before .before .before .before .before .before .before .before .before .before .before .before .before .before .before .before .before .before .loop .inv .1
 
@@ -86,12 +59,6 @@ same-length-9 c = c .before .before .before .before .heap .given ∙ c .before .
 returns-3 : tie.Need-returns-3 Inv-loop μ-loop
 unfolding items
 returns-3 c = sym (c .before .before .before .before .before .before .before .before .before .before .before .before .before .before .before .before .before .before .loop .inv .0 ∙ item-refused _ _ _ _ _ _ _ _ _ _ _ (c .before .before .before .before .before .before .before .before .before .before .before .before .before .before .before .before .before .loop-test .taken) (sym (c .before .before .before .before .before .before .before .before .before .before .before .before .before .before .before .before .closing-next .ensures) ∙ ap looked (c .before .before .before .before .before .before .before .before .before .before .before .before .before .before .next3 .given .1)) (rw (← c .before .before .before .before .before .before .before .before .before .item .ensures, c .numbered-refusal .ensures, c .before .enum-told .given .1)))
-
-sub-fuel : tie.Need-sub-fuel Inv-loop μ-loop
-sub-fuel c = search needs
-
-loop-less : tie.Need-loop-less Inv-loop μ-loop
-loop-less c = search needs
 
 loop-again : tie.Need-loop-again Inv-loop μ-loop
 loop-again c = (c .before .before .before .before .before .before .before .before .before .before .before .before .before .before .before .before .before .before .loop .inv .0 ∙ items-on _ _ _ _ _ _ _ _ _ _ _ (c .before .before .before .before .before .before .before .before .before .before .before .before .before .before .before .before .before .loop-test .taken) (sym (c .before .before .before .before .before .before .before .before .before .before .before .before .before .before .before .before .closing-next .ensures) ∙ ap looked (c .before .before .before .before .before .before .before .before .before .before .before .before .before .before .next3 .given .1)) (sym (c .before .before .before .before .before .before .before .before .before .item .ensures)) (ap numbered (c .before .a .given .1)), c .before .before .before .before .before .before .before .before .store .given ∙ c .before .before .before .before .before .before .before .before .before .before .before .before .before .before .before .before .before .before .loop .inv .1, c .before .before .before .before .before .before .stack .given ∙ c .before .before .before .before .before .before .before .before .before .before .before .before .before .before .before .before .before .before .loop .inv .2, c .before .before .before .before .heap .given ∙ c .before .before .before .before .before .before .before .before .before .before .before .before .before .before .before .before .before .before .loop .inv .3)
@@ -112,35 +79,7 @@ returns-4 c = sym (c .before .loop .inv .0 ∙ items-none _ _ _ _ _ _ _ _ _ _ _ 
 pub items-spec : {M : Type 1} → statement M
 items-spec =
     tie.close
-    (tie.spec
-    Inv-loop
-    μ-loop
-    add-fuel
-    loop-holds
-    closing-next-requires
-    enum-known-next
-    same-length
-    same-length-2
-    same-length-3
-    returns
-    enum-known-next-2
-    same-length-4
-    same-length-5
-    same-length-6
-    returns-2
-    enum-known-next-3
-    item-requires
-    enum-known-a
-    enum-told
-    numbered-refusal-requires
-    same-length-7
-    same-length-8
-    same-length-9
-    returns-3
-    sub-fuel
-    loop-less
-    loop-again
-    same-length-10
-    same-length-11
-    same-length-12
-    returns-4)
+    (tie.spec Inv-loop μ-loop (λ c. search needs) loop-holds (λ c κs. tt) (λ c. c .match .keys1) same-length same-length-2 same-length-3
+    returns (λ c. c .match .keys2) same-length-4 same-length-5 same-length-6 returns-2 (λ c. c .match .keys3) (λ c κs. tt)
+    (λ c. c .match2 .keys1) (λ c. c .match2 .keys2) (λ c κs. tt) same-length-7 same-length-8 same-length-9 returns-3 (λ c. search needs)
+    (λ c. search needs) loop-again same-length-10 same-length-11 same-length-12 returns-4)

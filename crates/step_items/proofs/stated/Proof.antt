@@ -4,18 +4,6 @@ use Rattle.step_items.specs.StepItems.{stated}
 use Rattle.step_items.proofs.stated.Statement.{statement}
 use Rattle.step_items.proofs.stated.Tie as tie
 
-headed-judgment-requires : tie.Need-headed-judgment-requires
-headed-judgment-requires c κs = tt
-
-enum-known-j : tie.Need-enum-known-j
-enum-known-j c = c .match .keys1
-
-enum-told : tie.Need-enum-told
-enum-told c = c .match .keys2
-
-numbered-refusal-requires : tie.Need-numbered-refusal-requires
-numbered-refusal-requires c κs = tt
-
 same-length : tie.Need-same-length
 same-length c = c .before .before .before .before .before .before .store .given
 
@@ -36,9 +24,6 @@ returns-2 : tie.Need-returns-2
 unfolding stated
 returns-2 c = rw (← c .before .before .before .before .before .before .before .before .headed-judgment .ensures, c .before .before .j .given .1, ne-eqb _ _ (c .if1 .taken))
 
-plus-requires : tie.Need-plus-requires
-plus-requires c κs = tt
-
 same-length-5 : tie.Need-same-length-5
 same-length-5 c = c .before .before .before .before .before .before .before .before .store .given
 
@@ -52,18 +37,5 @@ returns-3 c = rw (← c .before .before .before .before .before .before .before 
 pub stated-spec : {M : Type 1} → statement M
 stated-spec =
     tie.close
-    (tie.spec
-    headed-judgment-requires
-    enum-known-j
-    enum-told
-    numbered-refusal-requires
-    same-length
-    same-length-2
-    returns
-    same-length-3
-    same-length-4
-    returns-2
-    plus-requires
-    same-length-5
-    same-length-6
-    returns-3)
+    (tie.spec (λ c κs. tt) (λ c. c .match .keys1) (λ c. c .match .keys2) (λ c κs. tt) same-length same-length-2 returns same-length-3
+    same-length-4 returns-2 (λ c κs. tt) same-length-5 same-length-6 returns-3)

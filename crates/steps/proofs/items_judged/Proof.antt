@@ -4,24 +4,6 @@ use Rattle.steps.specs.Steps.{itemsJudged}
 use Rattle.steps.proofs.items_judged.Statement.{statement}
 use Rattle.steps.proofs.items_judged.Tie as tie
 
-variable-count-requires : tie.Need-variable-count-requires
-variable-count-requires c κs = tt
-
-unbind-requires : tie.Need-unbind-requires
-unbind-requires c κs = tt
-
-items-requires : tie.Need-items-requires
-items-requires c κs = tt
-
-enum-known-i : tie.Need-enum-known-i
-enum-known-i c = c .match .keys1
-
-enum-told : tie.Need-enum-told
-enum-told c = c .match .keys2
-
-numbered-refusal-requires : tie.Need-numbered-refusal-requires
-numbered-refusal-requires c κs = tt
-
 same-length : tie.Need-same-length
 same-length c = c .before .before .before .before .before .before .before .before .store .given
 
@@ -34,15 +16,6 @@ same-length-3 c = c .before .before .before .before .heap2 .given ∙ c .before 
 returns : tie.Need-returns
 unfolding itemsJudged
 returns c = rw (← c .before .before .before .before .before .before .before .before .before .before .before .before .before .before .before .before .before .variable-count .ensures, ← c .before .before .before .before .before .before .before .before .before .before .before .before .before .before .before .unbind .ensures, ← c .before .before .before .before .before .before .before .before .before .items .ensures, c .numbered-refusal .ensures, c .before .enum-told .given .1)
-
-conclude-requires : tie.Need-conclude-requires
-conclude-requires c κs = tt
-
-enum-known-c : tie.Need-enum-known-c
-enum-known-c c = c .match2 .keys1
-
-enum-known-c-2 : tie.Need-enum-known-c-2
-enum-known-c-2 c = c .match2 .keys2
 
 same-length-4 : tie.Need-same-length-4
 same-length-4 c = c .before .before .before .before .before .before .before .before .store2 .given ∙ c .before .before .before .before .before .before .before .before .before .before .before .before .before .before .before .before .before .before .before .before .before .store .given
@@ -73,25 +46,6 @@ returns-3 c = rw (← c .before .before .before .before .before .before .before 
 pub items-judged-spec : {M : Type 1} → statement M
 items-judged-spec =
     tie.close
-    (tie.spec
-    variable-count-requires
-    unbind-requires
-    items-requires
-    enum-known-i
-    enum-told
-    numbered-refusal-requires
-    same-length
-    same-length-2
-    same-length-3
-    returns
-    conclude-requires
-    enum-known-c
-    enum-known-c-2
-    same-length-4
-    same-length-5
-    same-length-6
-    returns-2
-    same-length-7
-    same-length-8
-    same-length-9
-    returns-3)
+    (tie.spec (λ c κs. tt) (λ c κs. tt) (λ c κs. tt) (λ c. c .match .keys1) (λ c. c .match .keys2) (λ c κs. tt) same-length same-length-2
+    same-length-3 returns (λ c κs. tt) (λ c. c .match2 .keys1) (λ c. c .match2 .keys2) same-length-4 same-length-5 same-length-6 returns-2
+    same-length-7 same-length-8 same-length-9 returns-3)

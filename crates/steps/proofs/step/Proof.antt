@@ -4,58 +4,16 @@ use Rattle.steps.specs.Steps.{step}
 use Rattle.steps.proofs.step.Statement.{statement}
 use Rattle.steps.proofs.step.Tie as tie
 
-rule-due-requires : tie.Need-rule-due-requires
-rule-due-requires c κs = tt
-
-enum-known-h : tie.Need-enum-known-h
-enum-known-h c = c .match .keys1
-
-enum-told : tie.Need-enum-told
-enum-told c = c .match .keys2
-
-numbered-refusal-requires : tie.Need-numbered-refusal-requires
-numbered-refusal-requires c κs = tt
-
-same-length : tie.Need-same-length
-same-length c = refl
-
 returns : tie.Need-returns
 unfolding step
 returns c = rw (← c .before .before .before .rule-due .ensures, c .numbered-refusal .ensures, c .before .enum-told .given .1)
 
-counted-references-requires : tie.Need-counted-references-requires
-counted-references-requires c κs = tt
-
-enum-known-c : tie.Need-enum-known-c
-enum-known-c c = c .match2 .keys1
-
-enum-told-2 : tie.Need-enum-told-2
-enum-told-2 c = c .match2 .keys2
-
-numbered-refusal-requires-2 : tie.Need-numbered-refusal-requires-2
-numbered-refusal-requires-2 c κs = tt
-
 same-length-2 : tie.Need-same-length-2
 same-length-2 c = c .before .before .before .before .stack .given
-
-same-length-3 : tie.Need-same-length-3
-same-length-3 c = refl
 
 returns-2 : tie.Need-returns-2
 unfolding step
 returns-2 c = rw (← c .before .before .before .before .before .before .before .before .before .before .before .rule-due .ensures, c .before .before .before .before .before .before .before .before .before .h .given .1, ← c .before .before .before .before .before .counted-references .ensures, c .numbered-refusal2 .ensures, c .before .enum-told2 .given .1)
-
-items-judged-requires : tie.Need-items-judged-requires
-items-judged-requires c κs = tt
-
-enum-known-i : tie.Need-enum-known-i
-enum-known-i c = c .match3 .keys1
-
-enum-told-3 : tie.Need-enum-told-3
-enum-told-3 c = c .match3 .keys2
-
-numbered-refusal-requires-3 : tie.Need-numbered-refusal-requires-3
-numbered-refusal-requires-3 c κs = tt
 
 same-length-4 : tie.Need-same-length-4
 same-length-4 c = c .before .before .before .before .before .before .before .before .store .given
@@ -86,29 +44,7 @@ returns-4 c = rw (← c .before .before .before .before .before .before .before 
 pub step-spec : {M : Type 1} → statement M
 step-spec =
     tie.close
-    (tie.spec
-    rule-due-requires
-    enum-known-h
-    enum-told
-    numbered-refusal-requires
-    same-length
-    returns
-    counted-references-requires
-    enum-known-c
-    enum-told-2
-    numbered-refusal-requires-2
-    same-length-2
-    same-length-3
-    returns-2
-    items-judged-requires
-    enum-known-i
-    enum-told-3
-    numbered-refusal-requires-3
-    same-length-4
-    same-length-5
-    same-length-6
-    returns-3
-    same-length-7
-    same-length-8
-    same-length-9
+    (tie.spec (λ c κs. tt) (λ c. c .match .keys1) (λ c. c .match .keys2) (λ c κs. tt) (λ c. refl) returns (λ c κs. tt)
+    (λ c. c .match2 .keys1) (λ c. c .match2 .keys2) (λ c κs. tt) same-length-2 (λ c. refl) returns-2 (λ c κs. tt) (λ c. c .match3 .keys1)
+    (λ c. c .match3 .keys2) (λ c κs. tt) same-length-4 same-length-5 same-length-6 returns-3 same-length-7 same-length-8 same-length-9
     returns-4)

@@ -4,17 +4,11 @@ use Rattle.symbols.specs.Symbols.{predicateDeclared}
 use Rattle.symbols.proofs.declare_predicate.Statement.{statement}
 use Rattle.symbols.proofs.declare_predicate.Tie as tie
 
-read-signature-requires : tie.Need-read-signature-requires
-read-signature-requires c κs = tt
-
 enum-known-g : tie.Need-enum-known-g
 enum-known-g c = c .match .keys1
 
 enum-told : tie.Need-enum-told
 enum-told c = c .match .keys2
-
-signature-refusal-requires : tie.Need-signature-refusal-requires
-signature-refusal-requires c κs = tt
 
 same-length : tie.Need-same-length
 same-length c = c .before .before .before .before .heap .given
@@ -22,9 +16,6 @@ same-length c = c .before .before .before .before .heap .given
 returns : tie.Need-returns
 unfolding predicateDeclared
 returns c = rw (c .signature-refusal .ensures, ← c .before .before .before .before .before .read-signature .ensures, c .before .enum-told .given .1)
-
-enter-symbol-requires : tie.Need-enter-symbol-requires
-enter-symbol-requires c κs = tt
 
 same-length-2 : tie.Need-same-length-2
 same-length-2 c = c .before .heap2 .given ∙ c .before .before .before .before .before .before .before .before .heap .given
@@ -36,13 +27,4 @@ returns-2 c = rw (← c .before .before .before .before .before .before .before 
 pub declare-predicate-spec : {M : Type 1} → statement M
 declare-predicate-spec =
     tie.close
-    (tie.spec
-    read-signature-requires
-    enum-known-g
-    enum-told
-    signature-refusal-requires
-    same-length
-    returns
-    enter-symbol-requires
-    same-length-2
-    returns-2)
+    (tie.spec (λ c κs. tt) enum-known-g enum-told (λ c κs. tt) same-length returns (λ c κs. tt) same-length-2 returns-2)

@@ -4,17 +4,11 @@ use Rattle.symbols.specs.Symbols.{entered}
 use Rattle.symbols.proofs.enter.Statement.{statement}
 use Rattle.symbols.proofs.enter.Tie as tie
 
-find-requires : tie.Need-find-requires
-find-requires c κs = tt
-
 enum-told : tie.Need-enum-told
 enum-told c = c .match .keys1
 
 enum-told-2 : tie.Need-enum-told-2
 enum-told-2 c = c .match .keys2
-
-add-requires : tie.Need-add-requires
-add-requires c κs = tt
 
 same-length : tie.Need-same-length
 same-length c = refl
@@ -31,14 +25,4 @@ unfolding entered
 returns-2 c = rw (← c .before .before .before .before .before .before .find .ensures, c .before .before .before .before .enum-told2 .given .1, c .before .before .add .ensures)
 
 pub enter-spec : {M : Type 1} → statement M
-enter-spec =
-    tie.close
-    (tie.spec
-    find-requires
-    enum-told
-    enum-told-2
-    add-requires
-    same-length
-    returns
-    same-length-2
-    returns-2)
+enter-spec = tie.close (tie.spec (λ c κs. tt) enum-told enum-told-2 (λ c κs. tt) same-length returns same-length-2 returns-2)

@@ -4,17 +4,11 @@ use Rattle.symbols.specs.Symbols.{symbolEntered}
 use Rattle.symbols.proofs.enter_symbol.Statement.{statement}
 use Rattle.symbols.proofs.enter_symbol.Tie as tie
 
-enter-requires : tie.Need-enter-requires
-enter-requires c κs = tt
-
 enum-known-m : tie.Need-enum-known-m
 enum-known-m c = c .match .keys1
 
 enum-told : tie.Need-enum-told
 enum-told c = c .match .keys2
-
-walked-refusal-requires : tie.Need-walked-refusal-requires
-walked-refusal-requires c κs = tt
 
 same-length : tie.Need-same-length
 same-length c = c .before .before .before .before .heap .given
@@ -22,12 +16,6 @@ same-length c = c .before .before .before .before .heap .given
 returns : tie.Need-returns
 unfolding symbolEntered
 returns c = rw (c .walked-refusal .ensures, ← c .before .before .before .before .before .enter .ensures, c .before .enum-told .given .1)
-
-describe-requires : tie.Need-describe-requires
-describe-requires c κs = tt
-
-close-requires : tie.Need-close-requires
-close-requires c κs = tt
 
 same-length-2 : tie.Need-same-length-2
 same-length-2 c = c .before .before .heap2 .given ∙ c .before .before .before .before .before .before .before .before .before .heap .given
@@ -39,14 +27,4 @@ returns-2 c = rw (← c .before .before .before .before .before .before .before 
 pub enter-symbol-spec : {M : Type 1} → statement M
 enter-symbol-spec =
     tie.close
-    (tie.spec
-    enter-requires
-    enum-known-m
-    enum-told
-    walked-refusal-requires
-    same-length
-    returns
-    describe-requires
-    close-requires
-    same-length-2
-    returns-2)
+    (tie.spec (λ c κs. tt) enum-known-m enum-told (λ c κs. tt) same-length returns (λ c κs. tt) (λ c κs. tt) same-length-2 returns-2)

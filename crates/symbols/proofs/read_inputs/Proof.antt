@@ -16,17 +16,11 @@ abbrev μ-loop : tie.MeasureT-loop
 loop-holds : tie.Need-loop-holds Inv-loop μ-loop
 loop-holds c = (refl, refl)
 
-sort-named-requires : tie.Need-sort-named-requires Inv-loop μ-loop
-sort-named-requires c κs = tt
-
 enum-known-s : tie.Need-enum-known-s Inv-loop μ-loop
 enum-known-s c = c .match .keys1
 
 enum-told : tie.Need-enum-told Inv-loop μ-loop
 enum-told c = c .match .keys2
-
-numbered-refusal-requires : tie.Need-numbered-refusal-requires Inv-loop μ-loop
-numbered-refusal-requires c κs = tt
 
 same-length : tie.Need-same-length Inv-loop μ-loop
 same-length c = c .before .before .before .before .before .before .loop .inv .1
@@ -34,20 +28,8 @@ same-length c = c .before .before .before .before .before .before .loop .inv .1
 returns : tie.Need-returns Inv-loop μ-loop
 returns c = sym (c .before .before .before .before .before .before .loop .inv .0 ∙ input-refused _ _ _ _ _ (c .before .before .before .before .before .loop-test .taken) (rw (c .numbered-refusal .ensures, ← c .before .before .before .sort-named .ensures, c .before .enum-told .given .1)))
 
-push-requires : tie.Need-push-requires Inv-loop μ-loop
-push-requires c κs = tt
-
-sub-left : tie.Need-sub-left Inv-loop μ-loop
-sub-left c = search needs
-
-loop-less : tie.Need-loop-less Inv-loop μ-loop
-loop-less c = search needs
-
 loop-again : tie.Need-loop-again Inv-loop μ-loop
 loop-again c = (c .before .before .before .before .before .before .before .before .before .before .loop .inv .0 ∙ inputs-on _ _ _ _ _ (c .before .before .before .before .before .before .before .before .before .loop-test .taken) (rw (← c .before .before .before .before .before .before .before .sort-named .ensures, c .before .before .before .before .before .s .given .1)) (sym (c .before .before .push .ensures)), c .before .heap .given ∙ c .before .before .before .before .before .before .before .before .before .before .loop .inv .1)
-
-close-requires : tie.Need-close-requires Inv-loop μ-loop
-close-requires c κs = tt
 
 same-length-2 : tie.Need-same-length-2 Inv-loop μ-loop
 same-length-2 c = c .before .before .loop .inv .1
@@ -58,20 +40,5 @@ returns-2 c = sym (c .before .before .loop .inv .0 ∙ inputs-end _ _ _ _ _ (c .
 pub read-inputs-spec : {M : Type 1} → statement M
 read-inputs-spec =
     tie.close
-    (tie.spec
-    Inv-loop
-    μ-loop
-    loop-holds
-    sort-named-requires
-    enum-known-s
-    enum-told
-    numbered-refusal-requires
-    same-length
-    returns
-    push-requires
-    sub-left
-    loop-less
-    loop-again
-    close-requires
-    same-length-2
-    returns-2)
+    (tie.spec Inv-loop μ-loop loop-holds (λ c κs. tt) enum-known-s enum-told (λ c κs. tt) same-length returns (λ c κs. tt)
+    (λ c. search needs) (λ c. search needs) loop-again (λ c κs. tt) same-length-2 returns-2)

@@ -3,12 +3,9 @@ use Rattle.symbols.specs.Symbols.{reserved}
 use Rattle.symbols.proofs.reserve.Statement.{statement}
 use Rattle.symbols.proofs.reserve.Tie as tie
 
-plus-requires : tie.Need-plus-requires
-plus-requires c κs = tt
-
 returns : tie.Need-returns
 unfolding reserved
 returns c = rw (c .plus .ensures)
 
 pub reserve-spec : {M : Type 1} → statement M
-reserve-spec = tie.close (tie.spec plus-requires returns)
+reserve-spec = tie.close (tie.spec (λ c κs. tt) returns)

@@ -3,24 +3,15 @@ use Rattle.symbols.specs.Symbols.{sortNamed, sortFrom}
 use Rattle.symbols.proofs.sort_named.Statement.{statement}
 use Rattle.symbols.proofs.sort_named.Tie as tie
 
-declared-name-requires : tie.Need-declared-name-requires
-declared-name-requires c κs = tt
-
 enum-known-a : tie.Need-enum-known-a
 enum-known-a c = c .match .keys1
 
 enum-told : tie.Need-enum-told
 enum-told c = c .match .keys2
 
-named-refusal-requires : tie.Need-named-refusal-requires
-named-refusal-requires c κs = tt
-
 returns : tie.Need-returns
 unfolding sortNamed sortFrom
 returns c = rw (c .named-refusal .ensures, ← c .before .before .before .declared-name .ensures, c .before .enum-told .given .1)
-
-find-requires : tie.Need-find-requires
-find-requires c κs = tt
 
 enum-known-found : tie.Need-enum-known-found
 enum-known-found c = c .match2 .keys1
@@ -39,14 +30,4 @@ returns-3 c = rw (← c .before .before .before .before .before .before .declare
 pub sort-named-spec : {M : Type 1} → statement M
 sort-named-spec =
     tie.close
-    (tie.spec
-    declared-name-requires
-    enum-known-a
-    enum-told
-    named-refusal-requires
-    returns
-    find-requires
-    enum-known-found
-    enum-told-2
-    returns-2
-    returns-3)
+    (tie.spec (λ c κs. tt) enum-known-a enum-told (λ c κs. tt) returns (λ c κs. tt) enum-known-found enum-told-2 returns-2 returns-3)

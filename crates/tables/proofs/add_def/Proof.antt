@@ -4,18 +4,9 @@ use borrow.Author.Needs.{needs}
 use Rattle.tables.proofs.add_def.Statement.{statement}
 use Rattle.tables.proofs.add_def.Tie as tie
 
-enter-requires : tie.Need-enter-requires
-enter-requires c κs = search needs
-
-plus-requires : tie.Need-plus-requires
-plus-requires c κs = search needs
-
-same-length : tie.Need-same-length
-same-length c = search needs
-
 returns : tie.Need-returns
 unfolding defCounted defAdded
 returns c = (rw (← c .plus .ensures), c .before .before .before .enter .ensures)
 
 pub add-def-spec : {M : Type 1} → statement M
-add-def-spec = tie.close (tie.spec enter-requires plus-requires same-length returns)
+add-def-spec = tie.close (tie.spec (λ c κs. search needs) (λ c κs. search needs) (λ c. search needs) returns)

@@ -4,12 +4,9 @@ use borrow.Author.Needs.{needs}
 use Rattle.tables.proofs.find_def.Statement.{statement}
 use Rattle.tables.proofs.find_def.Tie as tie
 
-find-requires : tie.Need-find-requires
-find-requires c κs = search needs
-
 returns : tie.Need-returns
 unfolding defFound
 returns c = c .find .ensures
 
 pub find-def-spec : {M : Type 1} → statement M
-find-def-spec = tie.close (tie.spec find-requires returns)
+find-def-spec = tie.close (tie.spec (λ c κs. search needs) returns)

@@ -4,12 +4,9 @@ use borrow.Author.Needs.{needs}
 use Rattle.tables.proofs.find_goal.Statement.{statement}
 use Rattle.tables.proofs.find_goal.Tie as tie
 
-find-requires : tie.Need-find-requires
-find-requires c κs = search needs
-
 returns : tie.Need-returns
 unfolding goalFound
 returns c = c .find .ensures
 
 pub find-goal-spec : {M : Type 1} → statement M
-find-goal-spec = tie.close (tie.spec find-requires returns)
+find-goal-spec = tie.close (tie.spec (λ c κs. search needs) returns)

@@ -4,24 +4,6 @@ use borrow.Author.Needs.{needs}
 use Rattle.tables.proofs.meaning.Statement.{statement}
 use Rattle.tables.proofs.meaning.Tie as tie
 
-find-def-requires : tie.Need-find-def-requires
-find-def-requires c κs = search needs
-
-enum-known-found : tie.Need-enum-known-found
-enum-known-found c = search needs
-
-cast-at : tie.Need-cast-at
-cast-at c = search needs
-
-add-at : tie.Need-add-at
-add-at c = search needs
-
-at-requires : tie.Need-at-requires
-at-requires c κs = search needs
-
-enum-told : tie.Need-enum-told
-enum-told c = search needs
-
 returns : tie.Need-returns
 unfolding defMeaning
 returns c = rw (← c .before .before .before .before .find-def .ensures, defMeaning, c .before .before .found .given .1, c .at .ensures)
@@ -33,12 +15,5 @@ returns-2 c = rw (← c .before .before .find-def .ensures, defMeaning, c .enum-
 pub meaning-spec : {M : Type 1} → statement M
 meaning-spec =
     tie.close
-    (tie.spec
-    find-def-requires
-    enum-known-found
-    cast-at
-    add-at
-    at-requires
-    enum-told
-    returns
-    returns-2)
+    (tie.spec (λ c κs. search needs) (λ c. search needs) (λ c. search needs) (λ c. search needs) (λ c κs. search needs) (λ c. search needs)
+    returns returns-2)

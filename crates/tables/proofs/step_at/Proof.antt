@@ -4,12 +4,6 @@ use borrow.Author.Needs.{needs}
 use Rattle.tables.proofs.step_at.Statement.{statement}
 use Rattle.tables.proofs.step_at.Tie as tie
 
-add-back : tie.Need-add-back
-add-back c = search needs
-
-mul-back : tie.Need-mul-back
-mul-back c = search needs
-
 returns : tie.Need-returns
 unfolding stepAt
 returns c = search needs
@@ -19,4 +13,4 @@ unfolding stepAt
 returns-2 c = search needs
 
 pub step-at-spec : {M : Type 1} → statement M
-step-at-spec = tie.close (tie.spec add-back mul-back returns returns-2)
+step-at-spec = tie.close (tie.spec (λ c. search needs) (λ c. search needs) returns returns-2)

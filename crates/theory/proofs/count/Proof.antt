@@ -5,26 +5,14 @@ use Rattle.theory.proofs.count.Tie as tie
 enum-told : tie.Need-enum-told
 enum-told c = c .match .keys1
 
-plus-requires : tie.Need-plus-requires
-plus-requires c κs = tt
-
 enum-told-2 : tie.Need-enum-told-2
 enum-told-2 c = c .match .keys2
-
-plus-requires-2 : tie.Need-plus-requires-2
-plus-requires-2 c κs = tt
 
 enum-told-3 : tie.Need-enum-told-3
 enum-told-3 c = c .match .keys3
 
-plus-requires-3 : tie.Need-plus-requires-3
-plus-requires-3 c κs = tt
-
 enum-told-4 : tie.Need-enum-told-4
 enum-told-4 c = c .match .keys4
-
-plus-requires-4 : tie.Need-plus-requires-4
-plus-requires-4 c κs = tt
 
 enum-told-5 : tie.Need-enum-told-5
 enum-told-5 c = c .match .keys5
@@ -47,18 +35,5 @@ returns-5 c = rw (c .enum-told5 .given .1)
 pub count-spec : {M : Type 1} → statement M
 count-spec =
     tie.close
-    (tie.spec
-    enum-told
-    plus-requires
-    enum-told-2
-    plus-requires-2
-    enum-told-3
-    plus-requires-3
-    enum-told-4
-    plus-requires-4
-    enum-told-5
-    returns
-    returns-2
-    returns-3
-    returns-4
-    returns-5)
+    (tie.spec enum-told (λ c κs. tt) enum-told-2 (λ c κs. tt) enum-told-3 (λ c κs. tt) enum-told-4 (λ c κs. tt) enum-told-5 returns
+    returns-2 returns-3 returns-4 returns-5)

@@ -13,20 +13,8 @@ Inv-loop text vars₀ counts heap₀ w₀ c₀ fuel₀ vars heap w c fuel = (dec
 abbrev μ-loop : tie.MeasureT-loop
 μ-loop text vars₀ counts heap₀ w₀ c₀ fuel₀ vars heap w c fuel = fuel
 
-begin-walk-requires : tie.Need-begin-walk-requires Inv-loop μ-loop
-begin-walk-requires c κs = tt
-
-no-counts-requires : tie.Need-no-counts-requires Inv-loop μ-loop
-no-counts-requires c κs = tt
-
-add-fuel : tie.Need-add-fuel Inv-loop μ-loop
-add-fuel c = search needs
-
 loop-holds : tie.Need-loop-holds Inv-loop μ-loop
 loop-holds c = (refl, refl, refl)
-
-look-requires : tie.Need-look-requires Inv-loop μ-loop
-look-requires c κs = tt
 
 enum-known-m : tie.Need-enum-known-m Inv-loop μ-loop
 enum-known-m c = c .match .keys1
@@ -57,17 +45,11 @@ returns-2 c = rw (← c .before .before .before .before .before .no-counts .ensu
 enum-known-m-2 : tie.Need-enum-known-m-2 Inv-loop μ-loop
 enum-known-m-2 c = c .match .keys3
 
-judge-requires : tie.Need-judge-requires Inv-loop μ-loop
-judge-requires c κs = tt
-
 enum-known-d : tie.Need-enum-known-d Inv-loop μ-loop
 enum-known-d c = c .match2 .keys1
 
 enum-told-2 : tie.Need-enum-told-2 Inv-loop μ-loop
 enum-told-2 c = c .match2 .keys2
-
-declared-refusal-requires : tie.Need-declared-refusal-requires Inv-loop μ-loop
-declared-refusal-requires c κs = tt
 
 same-length-5 : tie.Need-same-length-5 Inv-loop μ-loop
 same-length-5 c = c .before .before .before .before .before .before .vars .given ∙ c .before .before .before .before .before .before .before .before .before .before .before .before .before .before .before .loop .inv .1
@@ -78,15 +60,6 @@ same-length-6 c = c .before .before .before .before .heap .given ∙ c .before .
 returns-3 : tie.Need-returns-3 Inv-loop μ-loop
 unfolding declarations
 returns-3 c = rw (← c .before .before .before .before .before .before .before .before .before .before .before .before .before .before .before .before .no-counts .ensures, ← c .before .before .before .before .before .before .before .before .before .before .before .before .before .before .before .before .before .begin-walk .ensures) (sym (c .before .before .before .before .before .before .before .before .before .before .before .before .before .before .before .loop .inv .0 ∙ declaration-refused _ _ _ _ _ _ _ {v = c .before .before .before .before .before .before .before .before .before .before .before .m2 .given .0 .0} (c .before .before .before .before .before .before .before .before .before .before .before .before .before .before .loop-test .taken) (rw (← c .before .before .before .before .before .before .before .before .before .before .before .before .before .look .ensures, c .before .before .before .before .before .before .before .before .before .before .before .m2 .given .1)) (rw (c .declared-refusal .ensures, ← c .before .before .before .before .before .before .before .judge .ensures, c .before .enum-told2 .given .1))))
-
-count-requires : tie.Need-count-requires Inv-loop μ-loop
-count-requires c κs = tt
-
-sub-fuel : tie.Need-sub-fuel Inv-loop μ-loop
-sub-fuel c = search needs
-
-loop-less : tie.Need-loop-less Inv-loop μ-loop
-loop-less c = search needs
 
 loop-again : tie.Need-loop-again Inv-loop μ-loop
 loop-again c = (rw (c .count .ensures) (c .before .before .before .before .before .before .before .before .before .before .before .before .before .before .before .before .loop .inv .0 ∙ declarations-on _ _ _ _ _ _ _ {v = c .before .before .before .before .before .before .before .before .before .before .before .before .m2 .given .0 .0} {form = c .before .before .d .given .0 .0} (c .before .before .before .before .before .before .before .before .before .before .before .before .before .before .before .loop-test .taken) (rw (← c .before .before .before .before .before .before .before .before .before .before .before .before .before .before .look .ensures, c .before .before .before .before .before .before .before .before .before .before .before .before .m2 .given .1)) (rw (← c .before .before .before .before .before .before .before .before .judge .ensures, c .before .before .d .given .1))), c .before .before .before .before .before .before .before .vars .given ∙ c .before .before .before .before .before .before .before .before .before .before .before .before .before .before .before .before .loop .inv .1, c .before .before .before .before .before .heap .given ∙ c .before .before .before .before .before .before .before .before .before .before .before .before .before .before .before .before .loop .inv .2)
@@ -104,34 +77,6 @@ returns-4 c = rw (← c .before .before .no-counts .ensures, ← c .before .befo
 pub declarations-spec : {M : Type 1} → statement M
 declarations-spec =
     tie.close
-    (tie.spec
-    Inv-loop
-    μ-loop
-    begin-walk-requires
-    no-counts-requires
-    add-fuel
-    loop-holds
-    look-requires
-    enum-known-m
-    same-length
-    same-length-2
-    returns
-    enum-told
-    same-length-3
-    same-length-4
-    returns-2
-    enum-known-m-2
-    judge-requires
-    enum-known-d
-    enum-told-2
-    declared-refusal-requires
-    same-length-5
-    same-length-6
-    returns-3
-    count-requires
-    sub-fuel
-    loop-less
-    loop-again
-    same-length-7
-    same-length-8
-    returns-4)
+    (tie.spec Inv-loop μ-loop (λ c κs. tt) (λ c κs. tt) (λ c. search needs) loop-holds (λ c κs. tt) enum-known-m same-length same-length-2
+    returns enum-told same-length-3 same-length-4 returns-2 enum-known-m-2 (λ c κs. tt) enum-known-d enum-told-2 (λ c κs. tt) same-length-5
+    same-length-6 returns-3 (λ c κs. tt) (λ c. search needs) (λ c. search needs) loop-again same-length-7 same-length-8 returns-4)

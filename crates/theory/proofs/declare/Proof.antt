@@ -5,26 +5,14 @@ use Rattle.theory.proofs.declare.Tie as tie
 enum-told : tie.Need-enum-told
 enum-told c = c .match .keys1
 
-declare-sort-requires : tie.Need-declare-sort-requires
-declare-sort-requires c κs = tt
-
 enum-told-2 : tie.Need-enum-told-2
 enum-told-2 c = c .match .keys2
-
-declare-constructor-requires : tie.Need-declare-constructor-requires
-declare-constructor-requires c κs = tt
 
 enum-told-3 : tie.Need-enum-told-3
 enum-told-3 c = c .match .keys3
 
-declare-predicate-requires : tie.Need-declare-predicate-requires
-declare-predicate-requires c κs = tt
-
 enum-told-4 : tie.Need-enum-told-4
 enum-told-4 c = c .match .keys4
-
-declare-rule-requires : tie.Need-declare-rule-requires
-declare-rule-requires c κs = tt
 
 enum-told-5 : tie.Need-enum-told-5
 enum-told-5 c = c .match .keys5
@@ -62,23 +50,5 @@ returns-5 c = rw (c .enum-told5 .given .1)
 pub declare-spec : {M : Type 1} → statement M
 declare-spec =
     tie.close
-    (tie.spec
-    enum-told
-    declare-sort-requires
-    enum-told-2
-    declare-constructor-requires
-    enum-told-3
-    declare-predicate-requires
-    enum-told-4
-    declare-rule-requires
-    enum-told-5
-    same-length
-    returns
-    same-length-2
-    returns-2
-    same-length-3
-    returns-3
-    same-length-4
-    same-length-5
-    returns-4
-    returns-5)
+    (tie.spec enum-told (λ c κs. tt) enum-told-2 (λ c κs. tt) enum-told-3 (λ c κs. tt) enum-told-4 (λ c κs. tt) enum-told-5 same-length
+    returns same-length-2 returns-2 same-length-3 returns-3 same-length-4 same-length-5 returns-4 returns-5)

@@ -6,12 +6,6 @@ use Rattle.words.specs.Parts.{part}
 use Rattle.theory.proofs.form_of.Statement.{statement}
 use Rattle.theory.proofs.form_of.Tie as tie
 
-slice-aggregate-same-bytes : tie.Need-slice-aggregate-same-bytes
-slice-aggregate-same-bytes c = search needs
-
-same-bytes-requires : tie.Need-same-bytes-requires
-same-bytes-requires c κs = tt
-
 returns : tie.Need-returns
 unfolding formOf formNamed part
 returns c = rw (← c .before .before .same-bytes .ensures, c .before .if1 .taken, eq-eqb _ _ (c .if2 .taken))
@@ -19,12 +13,6 @@ returns c = rw (← c .before .before .same-bytes .ensures, c .before .if1 .take
 returns-2 : tie.Need-returns-2
 unfolding formOf formNamed part
 returns-2 c = rw (← c .before .before .same-bytes .ensures, c .before .if1 .taken, ne-eqb _ _ (c .if2 .left))
-
-slice-aggregate-same-bytes-2 : tie.Need-slice-aggregate-same-bytes-2
-slice-aggregate-same-bytes-2 c = search needs
-
-same-bytes-requires-2 : tie.Need-same-bytes-requires-2
-same-bytes-requires-2 c κs = tt
 
 returns-3 : tie.Need-returns-3
 unfolding formOf formNamed part
@@ -34,12 +22,6 @@ returns-4 : tie.Need-returns-4
 unfolding formOf formNamed part
 returns-4 c = rw (← c .before .before .before .before .before .same-bytes .ensures, c .before .before .before .before .if1 .left, ← c .before .before .same-bytes2 .ensures, c .before .if3 .taken, ne-eqb _ _ (c .if4 .left))
 
-slice-aggregate-same-bytes-3 : tie.Need-slice-aggregate-same-bytes-3
-slice-aggregate-same-bytes-3 c = search needs
-
-same-bytes-requires-3 : tie.Need-same-bytes-requires-3
-same-bytes-requires-3 c κs = tt
-
 returns-5 : tie.Need-returns-5
 unfolding formOf formNamed part
 returns-5 c = rw (← c .before .before .before .before .before .before .before .before .same-bytes .ensures, c .before .before .before .before .before .before .before .if1 .left, ← c .before .before .before .before .before .same-bytes2 .ensures, c .before .before .before .before .if3 .left, ← c .before .before .same-bytes3 .ensures, c .before .if5 .taken, eq-eqb _ _ (c .if6 .taken))
@@ -47,12 +29,6 @@ returns-5 c = rw (← c .before .before .before .before .before .before .before 
 returns-6 : tie.Need-returns-6
 unfolding formOf formNamed part
 returns-6 c = rw (← c .before .before .before .before .before .before .before .before .same-bytes .ensures, c .before .before .before .before .before .before .before .if1 .left, ← c .before .before .before .before .before .same-bytes2 .ensures, c .before .before .before .before .if3 .left, ← c .before .before .same-bytes3 .ensures, c .before .if5 .taken, ne-eqb _ _ (c .if6 .left))
-
-slice-aggregate-same-bytes-4 : tie.Need-slice-aggregate-same-bytes-4
-slice-aggregate-same-bytes-4 c = search needs
-
-same-bytes-requires-4 : tie.Need-same-bytes-requires-4
-same-bytes-requires-4 c κs = tt
 
 returns-7 : tie.Need-returns-7
 unfolding formOf formNamed part
@@ -69,21 +45,5 @@ returns-9 c = rw (← c .before .before .before .before .before .before .before 
 pub form-of-spec : {M : Type 1} → statement M
 form-of-spec =
     tie.close
-    (tie.spec
-    slice-aggregate-same-bytes
-    same-bytes-requires
-    returns
-    returns-2
-    slice-aggregate-same-bytes-2
-    same-bytes-requires-2
-    returns-3
-    returns-4
-    slice-aggregate-same-bytes-3
-    same-bytes-requires-3
-    returns-5
-    returns-6
-    slice-aggregate-same-bytes-4
-    same-bytes-requires-4
-    returns-7
-    returns-8
-    returns-9)
+    (tie.spec (λ c. search needs) (λ c κs. tt) returns returns-2 (λ c. search needs) (λ c κs. tt) returns-3 returns-4 (λ c. search needs)
+    (λ c κs. tt) returns-5 returns-6 (λ c. search needs) (λ c κs. tt) returns-7 returns-8 returns-9)

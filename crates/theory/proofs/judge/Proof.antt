@@ -3,24 +3,15 @@ use Rattle.theory.specs.Declarations.{declaration}
 use Rattle.theory.proofs.judge.Statement.{statement}
 use Rattle.theory.proofs.judge.Tie as tie
 
-next-list-requires : tie.Need-next-list-requires
-next-list-requires c κs = tt
-
 enum-known-l : tie.Need-enum-known-l
 enum-known-l c = c .match .keys1
 
 enum-told : tie.Need-enum-told
 enum-told c = c .match .keys2
 
-numbered-refusal-requires : tie.Need-numbered-refusal-requires
-numbered-refusal-requires c κs = tt
-
 returns : tie.Need-returns
 unfolding declaration
 returns c = rw (c .numbered-refusal .ensures, ← c .before .before .before .next-list .ensures, c .before .enum-told .given .1)
-
-head-requires : tie.Need-head-requires
-head-requires c κs = tt
 
 enum-known-h : tie.Need-enum-known-h
 enum-known-h c = c .match2 .keys1
@@ -28,27 +19,15 @@ enum-known-h c = c .match2 .keys1
 enum-told-2 : tie.Need-enum-told-2
 enum-told-2 c = c .match2 .keys2
 
-named-refusal-requires : tie.Need-named-refusal-requires
-named-refusal-requires c κs = tt
-
 returns-2 : tie.Need-returns-2
 unfolding declaration
 returns-2 c = rw (c .named-refusal .ensures, ← c .before .before .before .before .before .before .before .next-list .ensures, c .before .before .before .before .before .l .given .1, ← c .before .before .before .head .ensures, c .before .enum-told2 .given .1)
-
-form-of-requires : tie.Need-form-of-requires
-form-of-requires c κs = tt
-
-declare-requires : tie.Need-declare-requires
-declare-requires c κs = tt
 
 enum-known-d : tie.Need-enum-known-d
 enum-known-d c = c .match3 .keys1
 
 enum-told-3 : tie.Need-enum-told-3
 enum-told-3 c = c .match3 .keys2
-
-walked-refusal-requires : tie.Need-walked-refusal-requires
-walked-refusal-requires c κs = tt
 
 same-length : tie.Need-same-length
 same-length c = c .before .before .before .before .before .before .vars .given
@@ -73,25 +52,6 @@ returns-4 c = rw (← c .before .before .before .before .before .before .before 
 pub judge-spec : {M : Type 1} → statement M
 judge-spec =
     tie.close
-    (tie.spec
-    next-list-requires
-    enum-known-l
-    enum-told
-    numbered-refusal-requires
-    returns
-    head-requires
-    enum-known-h
-    enum-told-2
-    named-refusal-requires
-    returns-2
-    form-of-requires
-    declare-requires
-    enum-known-d
-    enum-told-3
-    walked-refusal-requires
-    same-length
-    same-length-2
-    returns-3
-    same-length-3
-    same-length-4
+    (tie.spec (λ c κs. tt) enum-known-l enum-told (λ c κs. tt) returns (λ c κs. tt) enum-known-h enum-told-2 (λ c κs. tt) returns-2
+    (λ c κs. tt) (λ c κs. tt) enum-known-d enum-told-3 (λ c κs. tt) same-length same-length-2 returns-3 same-length-3 same-length-4
     returns-4)

@@ -5,9 +5,6 @@ use Rattle.horn.specs.Refusals.{number}
 use Rattle.theory.proofs.look.Statement.{statement}
 use Rattle.theory.proofs.look.Tie as tie
 
-peek-requires : tie.Need-peek-requires
-peek-requires c κs = tt
-
 enum-told : tie.Need-enum-told
 enum-told c = c .match .keys1
 
@@ -30,6 +27,4 @@ unfolding moreDue answer
 returns-3 c = rw (← c .before .before .before .peek .ensures, c .before .read .given .1)
 
 pub look-spec : {M : Type 1} → statement M
-look-spec =
-    tie.close
-    (tie.spec peek-requires enum-told enum-told-2 enum-known-read returns returns-2 returns-3)
+look-spec = tie.close (tie.spec (λ c κs. tt) enum-told enum-told-2 enum-known-read returns returns-2 returns-3)

@@ -6,20 +6,11 @@ use Rattle.theory.proofs.Turns.{second-walk}
 use Rattle.theory.proofs.theory.Statement.{statement}
 use Rattle.theory.proofs.theory.Tie as tie
 
-count-members-requires : tie.Need-count-members-requires
-count-members-requires c κs = tt
-
 enum-known-first : tie.Need-enum-known-first
 enum-known-first c = c .match .keys1
 
 enum-told : tie.Need-enum-told
 enum-told c = c .match .keys2
-
-clear-requires : tie.Need-clear-requires
-clear-requires c κs = tt
-
-declarations-requires : tie.Need-declarations-requires
-declarations-requires c κs = tt
 
 same-length : tie.Need-same-length
 same-length c = c .before .before .before .before .counts .given
@@ -43,15 +34,5 @@ returns-2 c = second-walk _ _ _ _ (c .before .before .before .before .before .be
 pub theory-spec : {M : Type 1} → statement M
 theory-spec =
     tie.close
-    (tie.spec
-    count-members-requires
-    enum-known-first
-    enum-told
-    clear-requires
-    declarations-requires
-    same-length
-    returns
-    same-length-2
-    same-length-3
-    same-length-4
-    returns-2)
+    (tie.spec (λ c κs. tt) enum-known-first enum-told (λ c κs. tt) (λ c κs. tt) same-length returns same-length-2 same-length-3
+    same-length-4 returns-2)

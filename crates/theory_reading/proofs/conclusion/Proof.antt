@@ -4,15 +4,9 @@ use Rattle.theory_reading.specs.Reading.{conclusionPlace}
 use Rattle.theory_reading.proofs.conclusion.Statement.{statement}
 use Rattle.theory_reading.proofs.conclusion.Tie as tie
 
-add-at : tie.Need-add-at
-add-at c = search needs
-
-at-requires : tie.Need-at-requires
-at-requires c κs = search needs
-
 returns : tie.Need-returns
 unfolding conclusionPlace
 returns c = c .at .ensures
 
 pub conclusion-spec : {M : Type 1} → statement M
-conclusion-spec = tie.close (tie.spec add-at at-requires returns)
+conclusion-spec = tie.close (tie.spec (λ c. search needs) (λ c κs. search needs) returns)

@@ -4,12 +4,9 @@ use Rattle.theory_reading.specs.Reading.{constructorFound}
 use Rattle.theory_reading.proofs.find_constructor.Statement.{statement}
 use Rattle.theory_reading.proofs.find_constructor.Tie as tie
 
-find-requires : tie.Need-find-requires
-find-requires c κs = search needs
-
 returns : tie.Need-returns
 unfolding constructorFound
 returns c = c .find .ensures
 
 pub find-constructor-spec : {M : Type 1} → statement M
-find-constructor-spec = tie.close (tie.spec find-requires returns)
+find-constructor-spec = tie.close (tie.spec (λ c κs. search needs) returns)

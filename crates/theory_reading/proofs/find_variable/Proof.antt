@@ -15,54 +15,12 @@ Inv-loop heap r text from start end count place i₀ i =
 abbrev μ-loop : tie.MeasureT-loop
 μ-loop heap r text from start end count place i₀ i = count - i
 
-variable-count-requires : tie.Need-variable-count-requires Inv-loop μ-loop
-variable-count-requires c κs = search needs
-
-variables-requires : tie.Need-variables-requires Inv-loop μ-loop
-variables-requires c κs = search needs
-
 loop-holds : tie.Need-loop-holds Inv-loop μ-loop
 loop-holds c = (search needs, variable-first _ _ _ _ (c .before .variable-count .ensures) (c .variables .ensures))
-
-cast-v : tie.Need-cast-v Inv-loop μ-loop
-cast-v c = search needs
-
-cast-v-2 : tie.Need-cast-v-2 Inv-loop μ-loop
-cast-v-2 c = search needs
-
-mul-v : tie.Need-mul-v Inv-loop μ-loop
-mul-v c = search needs
-
-add-v : tie.Need-add-v Inv-loop μ-loop
-add-v c = search needs
-
-at-requires : tie.Need-at-requires Inv-loop μ-loop
-at-requires c κs = search needs
-
-add-at : tie.Need-add-at Inv-loop μ-loop
-add-at c = search needs
-
-at-requires-2 : tie.Need-at-requires-2 Inv-loop μ-loop
-at-requires-2 c κs = search needs
-
-cast-same-bytes : tie.Need-cast-same-bytes Inv-loop μ-loop
-cast-same-bytes c = search needs
-
-cast-same-bytes-2 : tie.Need-cast-same-bytes-2 Inv-loop μ-loop
-cast-same-bytes-2 c = search needs
-
-same-bytes-requires : tie.Need-same-bytes-requires Inv-loop μ-loop
-same-bytes-requires c κs = search needs
 
 returns : tie.Need-returns Inv-loop μ-loop
 unfolding nameOfVariable
 returns c = sym (c .before .before .before .before .before .loop .inv .1 ∙ variable-here _ _ _ _ _ _ (c .before .before .before .before .loop-test .taken) (rw (← c .before .before .before .at .ensures, ← c .before .before .at2 .ensures, ← c .before .same-bytes .ensures) (c .if1 .taken)))
-
-add-i : tie.Need-add-i Inv-loop μ-loop
-add-i c = search needs
-
-loop-less : tie.Need-loop-less Inv-loop μ-loop
-loop-less c = search needs
 
 loop-again : tie.Need-loop-again Inv-loop μ-loop
 unfolding nameOfVariable
@@ -74,24 +32,6 @@ returns-2 c = sym (c .before .loop .inv .1 ∙ variable-nowhere _ _ _ _ _ _ (c .
 pub find-variable-spec : {M : Type 1} → statement M
 find-variable-spec =
     tie.close
-    (tie.spec
-    Inv-loop
-    μ-loop
-    variable-count-requires
-    variables-requires
-    loop-holds
-    cast-v
-    cast-v-2
-    mul-v
-    add-v
-    at-requires
-    add-at
-    at-requires-2
-    cast-same-bytes
-    cast-same-bytes-2
-    same-bytes-requires
-    returns
-    add-i
-    loop-less
-    loop-again
-    returns-2)
+    (tie.spec Inv-loop μ-loop (λ c κs. search needs) (λ c κs. search needs) loop-holds (λ c. search needs) (λ c. search needs)
+    (λ c. search needs) (λ c. search needs) (λ c κs. search needs) (λ c. search needs) (λ c κs. search needs) (λ c. search needs)
+    (λ c. search needs) (λ c κs. search needs) returns (λ c. search needs) (λ c. search needs) loop-again returns-2)

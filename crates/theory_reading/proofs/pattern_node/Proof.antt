@@ -6,9 +6,6 @@ use Rattle.theory_reading.proofs.Turns.{node-symbol, node-variable}
 use Rattle.theory_reading.proofs.pattern_node.Statement.{statement}
 use Rattle.theory_reading.proofs.pattern_node.Tie as tie
 
-at-requires : tie.Need-at-requires
-at-requires c κs = search needs
-
 returns : tie.Need-returns
 unfolding nodeAt
 returns c = rw (← c .before .at .ensures) (sym (node-symbol _ (c .if1 .taken)))
@@ -18,4 +15,4 @@ unfolding nodeAt
 returns-2 c = rw (← c .before .at .ensures) (sym (node-variable _ (c .if1 .left)))
 
 pub pattern-node-spec : {M : Type 1} → statement M
-pattern-node-spec = tie.close (tie.spec at-requires returns returns-2)
+pattern-node-spec = tie.close (tie.spec (λ c κs. search needs) returns returns-2)

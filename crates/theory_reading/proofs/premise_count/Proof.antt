@@ -4,15 +4,9 @@ use Rattle.theory_reading.specs.Reading.{premiseCount}
 use Rattle.theory_reading.proofs.premise_count.Statement.{statement}
 use Rattle.theory_reading.proofs.premise_count.Tie as tie
 
-add-at : tie.Need-add-at
-add-at c = search needs
-
-at-requires : tie.Need-at-requires
-at-requires c κs = search needs
-
 returns : tie.Need-returns
 unfolding premiseCount
 returns c = c .at .ensures
 
 pub premise-count-spec : {M : Type 1} → statement M
-premise-count-spec = tie.close (tie.spec add-at at-requires returns)
+premise-count-spec = tie.close (tie.spec (λ c. search needs) (λ c κs. search needs) returns)

@@ -4,12 +4,9 @@ use Rattle.theory_reading.specs.Reading.{premisesPlace}
 use Rattle.theory_reading.proofs.premises.Statement.{statement}
 use Rattle.theory_reading.proofs.premises.Tie as tie
 
-plus-requires : tie.Need-plus-requires
-plus-requires c κs = search needs
-
 returns : tie.Need-returns
 unfolding premisesPlace
 returns c = c .plus .ensures
 
 pub premises-spec : {M : Type 1} → statement M
-premises-spec = tie.close (tie.spec plus-requires returns)
+premises-spec = tie.close (tie.spec (λ c κs. search needs) returns)

@@ -4,15 +4,9 @@ use Rattle.theory_reading.specs.Reading.{variableCount}
 use Rattle.theory_reading.proofs.variable_count.Statement.{statement}
 use Rattle.theory_reading.proofs.variable_count.Tie as tie
 
-add-at : tie.Need-add-at
-add-at c = search needs
-
-at-requires : tie.Need-at-requires
-at-requires c κs = search needs
-
 returns : tie.Need-returns
 unfolding variableCount
 returns c = c .at .ensures
 
 pub variable-count-spec : {M : Type 1} → statement M
-variable-count-spec = tie.close (tie.spec add-at at-requires returns)
+variable-count-spec = tie.close (tie.spec (λ c. search needs) (λ c κs. search needs) returns)

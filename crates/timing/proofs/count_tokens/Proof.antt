@@ -17,40 +17,19 @@ Inv-loop text r₀ left₀ n₀ r left n = (counted (length text) text start 0 �
 abbrev μ-loop : tie.MeasureT-loop
 μ-loop text r₀ left₀ n₀ r left n = left
 
-new-requires : tie.Need-new-requires Inv-loop μ-loop
-new-requires c κs = search needs
-
 loop-holds : tie.Need-loop-holds Inv-loop μ-loop
 loop-holds c = (rw (c .new .ensures), omega arith)
 
-token-requires : tie.Need-token-requires Inv-loop μ-loop
-token-requires c κs = search needs
-
-enum-known-read : tie.Need-enum-known-read Inv-loop μ-loop
-enum-known-read c = search needs
-
 add-n : tie.Need-add-n Inv-loop μ-loop
 add-n c = record { fits = omega arith }
-
-sub-left : tie.Need-sub-left Inv-loop μ-loop
-sub-left c = search needs
-
-loop-less : tie.Need-loop-less Inv-loop μ-loop
-loop-less c = search needs
 
 loop-again : tie.Need-loop-again Inv-loop μ-loop
 unfolding answer
 loop-again c = (c .before .before .before .before .before .loop .inv .0 ∙ count-on (c .before .before .before .before .before .before .before .before .args .text .now) (c .before .before .before .before .before .loop .r) (c .before .before .before .before .before .loop .n) (c .before .before .before .before .before .loop .left) (c .before .read .given .0 .0) (c .before .read .given .0 .1 .0) (c .before .before .before .before .loop-test .taken) (ap answer (sym (c .before .read .given .1)) ∙ c .before .before .before .token .ensures), omega arith)
 
-enum-told : tie.Need-enum-told Inv-loop μ-loop
-enum-told c = search needs
-
 returns : tie.Need-returns Inv-loop μ-loop
 unfolding answer
 returns c = sym (c .before .before .before .before .loop .inv .0 ∙ count-ended (c .before .before .before .before .before .before .before .args .text .now) (c .before .before .before .before .loop .r) (c .before .before .before .before .loop .n) (c .before .before .before .before .loop .left) (c .before .before .before .loop-test .taken) (ap answer (sym (c .enum-told .given .1)) ∙ c .before .before .token .ensures))
-
-enum-told-2 : tie.Need-enum-told-2 Inv-loop μ-loop
-enum-told-2 c = search needs
 
 returns-2 : tie.Need-returns-2 Inv-loop μ-loop
 unfolding answer
@@ -62,19 +41,5 @@ returns-3 c = sym (c .before .loop .inv .0 ∙ count-out (c .before .before .bef
 pub count-tokens-spec : {M : Type 1} → statement M
 count-tokens-spec =
     tie.close
-    (tie.spec
-    Inv-loop
-    μ-loop
-    new-requires
-    loop-holds
-    token-requires
-    enum-known-read
-    add-n
-    sub-left
-    loop-less
-    loop-again
-    enum-told
-    returns
-    enum-told-2
-    returns-2
-    returns-3)
+    (tie.spec Inv-loop μ-loop (λ c κs. search needs) loop-holds (λ c κs. search needs) (λ c. search needs) add-n (λ c. search needs)
+    (λ c. search needs) loop-again (λ c. search needs) returns (λ c. search needs) returns-2 returns-3)

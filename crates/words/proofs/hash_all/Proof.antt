@@ -17,21 +17,6 @@ abbrev μ-loop : tie.MeasureT-loop
 loop-holds : tie.Need-loop-holds Inv-loop μ-loop
 loop-holds c = (refl, search needs)
 
-mul-hash-word : tie.Need-mul-hash-word Inv-loop μ-loop
-mul-hash-word c = search needs
-
-shared-slice-read-hash-word : tie.Need-shared-slice-read-hash-word Inv-loop μ-loop
-shared-slice-read-hash-word c = search needs
-
-hash-word-requires : tie.Need-hash-word-requires Inv-loop μ-loop
-hash-word-requires c κs = search needs
-
-add-i : tie.Need-add-i Inv-loop μ-loop
-add-i c = search needs
-
-loop-less : tie.Need-loop-less Inv-loop μ-loop
-loop-less c = search needs
-
 loop-again : tie.Need-loop-again Inv-loop μ-loop
 loop-again c = (rw (c .hash-word .ensures) (c .before .before .before .loop .inv .0 ∙ hash-on (c .before .before .before .before .before .args .s .now) (c .before .before .before .loop .i) (c .before .before .before .loop .h) (search needs)), search needs)
 
@@ -42,14 +27,5 @@ returns c = sym (c .before .loop .inv .0 ∙ hash-end (c .before .before .before
 pub hash-all-spec : {M : Type 1} → statement M
 hash-all-spec =
     tie.close
-    (tie.spec
-    Inv-loop
-    μ-loop
-    loop-holds
-    mul-hash-word
-    shared-slice-read-hash-word
-    hash-word-requires
-    add-i
-    loop-less
-    loop-again
-    returns)
+    (tie.spec Inv-loop μ-loop loop-holds (λ c. search needs) (λ c. search needs) (λ c κs. search needs) (λ c. search needs)
+    (λ c. search needs) loop-again returns)

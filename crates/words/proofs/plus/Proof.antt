@@ -4,15 +4,9 @@ use Rattle.words.specs.Sums.{sum32}
 use Rattle.words.proofs.plus.Statement.{statement}
 use Rattle.words.proofs.plus.Tie as tie
 
-add-result : tie.Need-add-result
-add-result c = search needs
-
-cast-result : tie.Need-cast-result
-cast-result c = search needs
-
 returns : tie.Need-returns
 unfolding sum32
 returns c = search needs
 
 pub plus-spec : {M : Type 1} → statement M
-plus-spec = tie.close (tie.spec add-result cast-result returns)
+plus-spec = tie.close (tie.spec (λ c. search needs) (λ c. search needs) returns)

@@ -6,9 +6,6 @@ use borrow.Author.Needs.{needs}
 use Rattle.words.proofs.rotate_left_5.Statement.{statement}
 use Rattle.words.proofs.rotate_left_5.Tie as tie
 
-mul-result : tie.Need-mul-result
-mul-result c = search needs
-
 add-result : tie.Need-add-result
 add-result c = record { fits = halves-turned 576460752303423488 32 (c .args .h) (search needs) (search needs) }
 
@@ -17,4 +14,4 @@ unfolding rotated
 returns c = refl
 
 pub rotate-left-5-spec : {M : Type 1} → statement M
-rotate-left-5-spec = tie.close (tie.spec mul-result add-result returns)
+rotate-left-5-spec = tie.close (tie.spec (λ c. search needs) add-result returns)

@@ -14,26 +14,8 @@ mul-left c = record { fits = below-square 4294967296 _ _ (search needs) (search 
 mul-right : tie.Need-mul-right
 mul-right c = record { fits = below-square 4294967296 _ _ (search needs) (search needs) }
 
-add-high : tie.Need-add-high
-add-high c = search needs
-
-mul-wrapping-add-u64 : tie.Need-mul-wrapping-add-u64
-mul-wrapping-add-u64 c = search needs
-
-wrapping-add-u64-requires : tie.Need-wrapping-add-u64-requires
-wrapping-add-u64-requires c κs = search needs
-
 returns : tie.Need-returns
 returns c = c .wrapping-add-u64 .ensures ∙ product-by-halves 4294967296 (c .before .args .a) (c .before .args .b)
 
 pub wrapping-mul-spec : {M : Type 1} → statement M
-wrapping-mul-spec =
-    tie.close
-    (tie.spec
-    mul-low
-    mul-left
-    mul-right
-    add-high
-    mul-wrapping-add-u64
-    wrapping-add-u64-requires
-    returns)
+wrapping-mul-spec = tie.close (tie.spec mul-low mul-left mul-right (λ c. search needs) (λ c. search needs) (λ c κs. search needs) returns)

@@ -14,9 +14,6 @@ returns c = rw (c .before .ahead .given .1)
 enum-told : tie.Need-enum-told
 enum-told c = c .match .keys2
 
-scan-requires : tie.Need-scan-requires
-scan-requires c κs = tt
-
 enum-known-read : tie.Need-enum-known-read
 enum-known-read c = c .match2 .keys1
 
@@ -41,14 +38,4 @@ returns-4 c = peek-scanned _ _ _ (c .before .before .before .enum-told .given .1
 pub peek-spec : {M : Type 1} → statement M
 peek-spec =
     tie.close
-    (tie.spec
-    enum-known-ahead
-    returns
-    enum-told
-    scan-requires
-    enum-known-read
-    enum-told-2
-    enum-told-3
-    returns-2
-    returns-3
-    returns-4)
+    (tie.spec enum-known-ahead returns enum-told (λ c κs. tt) enum-known-read enum-told-2 enum-told-3 returns-2 returns-3 returns-4)

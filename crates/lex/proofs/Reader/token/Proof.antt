@@ -14,12 +14,9 @@ returns c = rw (c .before .ahead .given .1)
 enum-told : tie.Need-enum-told
 enum-told c = c .match .keys2
 
-scan-requires : tie.Need-scan-requires
-scan-requires c κs = tt
-
 returns-2 : tie.Need-returns-2
 unfolding taken takenBy
 returns-2 c = rw (c .before .enum-told .given .1) (c .scan .ensures)
 
 pub token-spec : {M : Type 1} → statement M
-token-spec = tie.close (tie.spec enum-known-ahead returns enum-told scan-requires returns-2)
+token-spec = tie.close (tie.spec enum-known-ahead returns enum-told (λ c κs. tt) returns-2)

@@ -8,71 +8,41 @@ use Rattle.lex.proofs.utf8.is_white.Tie as tie
 returns : tie.Need-returns
 returns c = sym (white-above (c .before .args .v) (c .if1 .taken))
 
-between-requires : tie.Need-between-requires
-between-requires c κs = tt
-
 returns-2 : tie.Need-returns-2
 unfolding white whiteRanges inSome
 returns-2 c = sym (in-later 0 whiteRanges _ (first-of _ _ (sym (c .before .between .ensures) ∙ c .if2 .taken)))
-
-between-requires-2 : tie.Need-between-requires-2
-between-requires-2 c κs = tt
 
 returns-3 : tie.Need-returns-3
 unfolding white whiteRanges inSome
 returns-3 c = sym (in-later 1 whiteRanges _ (first-of _ _ (sym (c .before .between2 .ensures) ∙ c .if3 .taken)))
 
-between-requires-3 : tie.Need-between-requires-3
-between-requires-3 c κs = tt
-
 returns-4 : tie.Need-returns-4
 unfolding white whiteRanges inSome
 returns-4 c = sym (in-later 2 whiteRanges _ (first-of _ _ (sym (c .before .between3 .ensures) ∙ c .if4 .taken)))
-
-between-requires-4 : tie.Need-between-requires-4
-between-requires-4 c κs = tt
 
 returns-5 : tie.Need-returns-5
 unfolding white whiteRanges inSome
 returns-5 c = sym (in-later 3 whiteRanges _ (first-of _ _ (sym (c .before .between4 .ensures) ∙ c .if5 .taken)))
 
-between-requires-5 : tie.Need-between-requires-5
-between-requires-5 c κs = tt
-
 returns-6 : tie.Need-returns-6
 unfolding white whiteRanges inSome
 returns-6 c = sym (in-later 4 whiteRanges _ (first-of _ _ (sym (c .before .between5 .ensures) ∙ c .if6 .taken)))
-
-between-requires-6 : tie.Need-between-requires-6
-between-requires-6 c κs = tt
 
 returns-7 : tie.Need-returns-7
 unfolding white whiteRanges inSome
 returns-7 c = sym (in-later 5 whiteRanges _ (first-of _ _ (sym (c .before .between6 .ensures) ∙ c .if7 .taken)))
 
-between-requires-7 : tie.Need-between-requires-7
-between-requires-7 c κs = tt
-
 returns-8 : tie.Need-returns-8
 unfolding white whiteRanges inSome
 returns-8 c = sym (in-later 6 whiteRanges _ (first-of _ _ (sym (c .before .between7 .ensures) ∙ c .if8 .taken)))
-
-between-requires-8 : tie.Need-between-requires-8
-between-requires-8 c κs = tt
 
 returns-9 : tie.Need-returns-9
 unfolding white whiteRanges inSome
 returns-9 c = sym (in-later 7 whiteRanges _ (first-of _ _ (sym (c .before .between8 .ensures) ∙ c .if9 .taken)))
 
-between-requires-9 : tie.Need-between-requires-9
-between-requires-9 c κs = tt
-
 returns-10 : tie.Need-returns-10
 unfolding white whiteRanges inSome
 returns-10 c = sym (in-later 8 whiteRanges _ (first-of _ _ (sym (c .before .between9 .ensures) ∙ c .if10 .taken)))
-
-between-requires-10 : tie.Need-between-requires-10
-between-requires-10 c κs = tt
 
 returns-11 : tie.Need-returns-11
 unfolding white whiteRanges inSome
@@ -81,25 +51,5 @@ returns-11 c = rw (← c .before .before .before .before .before .before .before
 pub is-white-spec : {M : Type 1} → statement M
 is-white-spec =
     tie.close
-    (tie.spec
-    returns
-    between-requires
-    returns-2
-    between-requires-2
-    returns-3
-    between-requires-3
-    returns-4
-    between-requires-4
-    returns-5
-    between-requires-5
-    returns-6
-    between-requires-6
-    returns-7
-    between-requires-7
-    returns-8
-    between-requires-8
-    returns-9
-    between-requires-9
-    returns-10
-    between-requires-10
-    returns-11)
+    (tie.spec returns (λ c κs. tt) returns-2 (λ c κs. tt) returns-3 (λ c κs. tt) returns-4 (λ c κs. tt) returns-5 (λ c κs. tt) returns-6
+    (λ c κs. tt) returns-7 (λ c κs. tt) returns-8 (λ c κs. tt) returns-9 (λ c κs. tt) returns-10 (λ c κs. tt) returns-11)

@@ -5,9 +5,6 @@ use borrow.Author.Tests.{eq-eqb, ne-eqb}
 use Rattle.lex.proofs.utf8.kind_of.Statement.{statement}
 use Rattle.lex.proofs.utf8.kind_of.Tie as tie
 
-is-white-requires : tie.Need-is-white-requires
-is-white-requires c κs = tt
-
 returns : tie.Need-returns
 unfolding kind kindNumber
 returns c = rw (← c .before .is-white .ensures, c .if1 .taken, kind)
@@ -29,5 +26,4 @@ unfolding kind kindNumber
 returns-5 c = rw (← c .before .before .before .before .is-white .ensures, c .before .before .before .if1 .left, ne-eqb _ _ (c .before .before .if2 .left), ne-eqb _ _ (c .before .if3 .left), ne-eqb _ _ (c .if4 .left), kind)
 
 pub kind-of-spec : {M : Type 1} → statement M
-kind-of-spec =
-    tie.close (tie.spec is-white-requires returns returns-2 returns-3 returns-4 returns-5)
+kind-of-spec = tie.close (tie.spec (λ c κs. tt) returns returns-2 returns-3 returns-4 returns-5)

@@ -1,22 +1,13 @@
--- `reports::judge` meets its contract. Assumes nothing.
+-- `clearing::judge` meets its contract. Assumes nothing.
 use Prim.Native.Nat.{ℕ}
 use mathlib.Core.Path.{ap, _∙_}
 use lib.ListN.{replicate}
 use Rattle.outcomes.specs.Leaving.{Did}
 use Rattle.theory.specs.Walks.{AllAreas}
 use Rattle.theory.specs.declared.Counts.{Counts}
 use Rattle.reports.specs.Rulebook.{reportedBy}
-use Rattle.reports.proofs.judge.Statement.{statement}
-use Rattle.reports.proofs.judge.Tie as tie
-
-theory-requires : tie.Need-theory-requires
-theory-requires c κs = tt
-
-clear-all-requires : tie.Need-clear-all-requires
-clear-all-requires c κs = tt
-
-declared-requires : tie.Need-declared-requires
-declared-requires c κs = tt
+use Rattle.clearing.proofs.judge.Statement.{statement}
+use Rattle.clearing.proofs.judge.Tie as tie
 
 same-length : tie.Need-same-length
 same-length c = c .before .before .before .before .before .before .before .before .a .given
@@ -43,14 +34,4 @@ returns c = (
 )
 
 pub judge-spec : {M : Type 1} → statement M
-judge-spec =
-    tie.close
-    (tie.spec
-    theory-requires
-    clear-all-requires
-    declared-requires
-    same-length
-    same-length-2
-    same-length-3
-    same-length-4
-    returns)
+judge-spec = tie.close (tie.spec (λ c κs. tt) (λ c κs. tt) (λ c κs. tt) same-length same-length-2 same-length-3 same-length-4 returns)

@@ -1,18 +1,6 @@
--- `reports::clear_all` meets its contract. Assumes nothing.
-use Rattle.reports.proofs.clear_all.Statement.{statement}
-use Rattle.reports.proofs.clear_all.Tie as tie
-
-clear-requires : tie.Need-clear-requires
-clear-requires c κs = tt
-
-clear-requires-2 : tie.Need-clear-requires-2
-clear-requires-2 c κs = tt
-
-clear-requires-3 : tie.Need-clear-requires-3
-clear-requires-3 c κs = tt
-
-clear-requires-4 : tie.Need-clear-requires-4
-clear-requires-4 c κs = tt
+-- `clearing::clear_all` meets its contract. Assumes nothing.
+use Rattle.clearing.proofs.clear_all.Statement.{statement}
+use Rattle.clearing.proofs.clear_all.Tie as tie
 
 same-length : tie.Need-same-length
 same-length c = c .before .before .before .before .before .before .before .before .before .before .before .before .before .a .given
@@ -32,13 +20,4 @@ returns c = (c .before .before .before .before .before .before .before .before .
 pub clear-all-spec : {M : Type 1} → statement M
 clear-all-spec =
     tie.close
-    (tie.spec
-    clear-requires
-    clear-requires-2
-    clear-requires-3
-    clear-requires-4
-    same-length
-    same-length-2
-    same-length-3
-    same-length-4
-    returns)
+    (tie.spec (λ c κs. tt) (λ c κs. tt) (λ c κs. tt) (λ c κs. tt) same-length same-length-2 same-length-3 same-length-4 returns)

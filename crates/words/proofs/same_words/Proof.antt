@@ -1,12 +1,12 @@
--- `arena::same_words` meets its contract. Assumes nothing.
+-- `words::same_words` meets its contract. Assumes nothing.
 use Prim.Native.Nat.{_≤_, _-_}
 use mathlib.Core.Path.{_≡_, refl, sym, _∙_}
 use lib.ListN.{length, drop}
 use Rattle.words.specs.Parts.{sameBytes}
 use Rattle.words.proofs.Laws.{lengths-differ, same-on, same-off, same-end}
 use borrow.Author.Needs.{needs}
-use Rattle.arena.proofs.same_words.Statement.{statement}
-use Rattle.arena.proofs.same_words.Tie as tie
+use Rattle.words.proofs.same_words.Statement.{statement}
+use Rattle.words.proofs.same_words.Tie as tie
 
 abbrev Inv-loop : tie.InvT-loop
 Inv-loop a b i₀ i = (sameBytes a b ≡ sameBytes (drop i a) (drop i b)) × (length a ≡ length b) × (i ≤ length a)
@@ -20,26 +20,8 @@ returns c = sym (lengths-differ (c .before .args .a .now) (c .before .args .b .n
 loop-holds : tie.Need-loop-holds Inv-loop μ-loop
 loop-holds c = (refl, search needs, search needs)
 
-mul-if2 : tie.Need-mul-if2 Inv-loop μ-loop
-mul-if2 c = search needs
-
-shared-slice-read-if2 : tie.Need-shared-slice-read-if2 Inv-loop μ-loop
-shared-slice-read-if2 c = search needs
-
-mul-if2-2 : tie.Need-mul-if2-2 Inv-loop μ-loop
-mul-if2-2 c = search needs
-
-shared-slice-read-if2-2 : tie.Need-shared-slice-read-if2-2 Inv-loop μ-loop
-shared-slice-read-if2-2 c = search needs
-
 returns-2 : tie.Need-returns-2 Inv-loop μ-loop
 returns-2 c = sym (c .before .before .before .before .loop .inv .0 ∙ same-off (c .before .before .before .before .before .before .args .a .now) (c .before .before .before .before .before .before .args .b .now) (c .before .before .before .before .loop .i) (search needs) (search needs) (c .if2 .taken))
-
-add-i : tie.Need-add-i Inv-loop μ-loop
-add-i c = search needs
-
-loop-less : tie.Need-loop-less Inv-loop μ-loop
-loop-less c = search needs
 
 loop-again : tie.Need-loop-again Inv-loop μ-loop
 loop-again c = (c .before .before .before .before .loop .inv .0 ∙ same-on (c .before .before .before .before .before .before .args .a .now) (c .before .before .before .before .before .before .args .b .now) (c .before .before .before .before .loop .i) (search needs) (search needs) (c .if2 .left), search needs, search needs)
@@ -50,17 +32,5 @@ returns-3 c = sym (c .before .loop .inv .0 ∙ same-end (c .before .before .befo
 pub same-words-spec : {M : Type 1} → statement M
 same-words-spec =
     tie.close
-    (tie.spec
-    Inv-loop
-    μ-loop
-    returns
-    loop-holds
-    mul-if2
-    shared-slice-read-if2
-    mul-if2-2
-    shared-slice-read-if2-2
-    returns-2
-    add-i
-    loop-less
-    loop-again
-    returns-3)
+    (tie.spec Inv-loop μ-loop returns loop-holds (λ c. search needs) (λ c. search needs) (λ c. search needs) (λ c. search needs) returns-2
+    (λ c. search needs) (λ c. search needs) loop-again returns-3)

@@ -3,6 +3,10 @@ use Prim.Native.Nat.{ℕ}
 use mathlib.Core.Bool.{Bool, _&&_}
 use lib.Dec.{leb}
 
+-- The words of each area that a call reads and writes.
+abbrev pub areaWords : ℕ
+areaWords = 16384
+
 -- Whether the areas are long enough.
 unfoldable pub longEnough : ℕ → ℕ → ℕ → ℕ → Bool
-longEnough a b c d = leb 16384 a && (leb 16384 b && (leb 16384 c && leb 16384 d))
+longEnough a b c d = leb areaWords a && (leb areaWords b && (leb areaWords c && leb areaWords d))

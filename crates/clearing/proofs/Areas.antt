@@ -12,7 +12,7 @@ use Rattle.horn.specs.Refusals.{need, _>>=_, areaShort}
 use Rattle.horn.specs.Setting.{document01}
 use Rattle.horn.specs.Calls.{areasLong, areaAfter, called, leaving}
 use Rattle.horn.proofs.Equality.{case, both}
-use Rattle.reports.specs.Lengths.{longEnough}
+use Rattle.clearing.specs.Lengths.{longEnough}
 
 -- Four tests with one refusal are one.
 pub areas-long : (a b c d : ℕ) → areasLong document01 a b c d ≡ need (longEnough a b c d) areaShort

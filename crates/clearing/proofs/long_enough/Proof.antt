@@ -1,8 +1,8 @@
--- `reports::long_enough` meets its contract. Assumes nothing.
+-- `clearing::long_enough` meets its contract. Assumes nothing.
 use borrow.Author.Tests.{le-leb, lt-leb}
-use Rattle.reports.specs.Lengths.{longEnough}
-use Rattle.reports.proofs.long_enough.Statement.{statement}
-use Rattle.reports.proofs.long_enough.Tie as tie
+use Rattle.clearing.specs.Lengths.{longEnough}
+use Rattle.clearing.proofs.long_enough.Statement.{statement}
+use Rattle.clearing.proofs.long_enough.Tie as tie
 
 returns : tie.Need-returns
 unfolding longEnough

@@ -1,22 +1,13 @@
--- `reports::check` meets its contract. Assumes nothing.
+-- `clearing::check` meets its contract. Assumes nothing.
 use Prim.Native.Nat.{ℕ}
 use mathlib.Core.Path.{ap, _∙_}
 use lib.ListN.{replicate}
 use Rattle.outcomes.specs.Leaving.{Did}
 use Rattle.certificates.specs.Certificates.{AllAreas}
 use Rattle.checker.specs.declared.Counts.{Counts}
 use Rattle.reports.specs.Release.{releasedBy}
-use Rattle.reports.proofs.check.Statement.{statement}
-use Rattle.reports.proofs.check.Tie as tie
-
-check-requires : tie.Need-check-requires
-check-requires c κs = tt
-
-clear-all-requires : tie.Need-clear-all-requires
-clear-all-requires c κs = tt
-
-accepted-requires : tie.Need-accepted-requires
-accepted-requires c κs = tt
+use Rattle.clearing.proofs.check.Statement.{statement}
+use Rattle.clearing.proofs.check.Tie as tie
 
 same-length : tie.Need-same-length
 same-length c = c .before .before .before .before .before .before .before .before .a2 .given ∙ c .before .before .before .before .before .before .before .before .before .before .before .before .before .before .before .before .before .before .before .before .before .a .given
@@ -43,14 +34,4 @@ returns c = (
 )
 
 pub check-spec : {M : Type 1} → statement M
-check-spec =
-    tie.close
-    (tie.spec
-    check-requires
-    clear-all-requires
-    accepted-requires
-    same-length
-    same-length-2
-    same-length-3
-    same-length-4
-    returns)
+check-spec = tie.close (tie.spec (λ c κs. tt) (λ c κs. tt) (λ c κs. tt) same-length same-length-2 same-length-3 same-length-4 returns)
