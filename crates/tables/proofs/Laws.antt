@@ -8,7 +8,7 @@ use borrow.Author.Tests.{ne-eqb}
 use lib.Dec.{eqb}
 use lib.ListN.{length, set, getElem?, length-set}
 use Rattle.words.specs.Parts.{part, cleared}
-use Rattle.horn.specs.Names.{Name, first, some-of}
+use Rattle.horn.specs.Names.{Name, first, someOf}
 use Rattle.horn.specs.StoredTerms.{Term}
 use Rattle.horn.specs.Checker.{Def, def, isDef, meaning, Goal, goal, isGoal, isEmptyList}
 use Rattle.horn.specs.Matching.{Step}
@@ -82,13 +82,13 @@ module _ {goalsText certificate table : List ℕ} {buckets : ℕ} {Means : ℕ �
     {goals openGoals : List Goal} {defs : List Def} {steps : List Step}
     (h : Tables goalsText certificate table buckets Means Recorded tally goals openGoals defs steps) where
   -- What is asked: a duplicate goal, a goal still open, a duplicate abbreviation, what one stands for, a step, whether a goal is left open.
-  pub known-goal : (key : Name) → present (goalFound goalsText key table) ≡ some-of (isGoal key) goals
+  pub known-goal : (key : Name) → present (goalFound goalsText key table) ≡ someOf (isGoal key) goals
   known-goal key = goal-known (h .goal-part) key
 
   pub open-goal : (key : Name) → OpenAgree table (128 + buckets) Means goals key (goalOpen goalsText key table) (first (isGoal key) openGoals)
   open-goal key = open-agrees (h .goal-part) key
 
-  pub known-def : (key : Name) → present (defFound buckets certificate key table) ≡ some-of (isDef key) defs
+  pub known-def : (key : Name) → present (defFound buckets certificate key table) ≡ someOf (isDef key) defs
   known-def key = def-known key (h .def-part)
 
   pub meaning-of : (key : Name) → Agree (λ w d. Means w (meaning d)) (defMeaning buckets certificate key table) (first (isDef key) defs)
@@ -106,7 +106,7 @@ module _ {goalsText certificate table : List ℕ} {buckets : ℕ} {Means : ℕ �
       → s < 4294967296
       → t < 4294967296
       → Means w u
-      → some-of (isDef (part s t certificate)) defs ≡ false
+      → someOf (isDef (part s t certificate)) defs ≡ false
       → Tables goalsText certificate (defAdded buckets certificate s t w tally table) buckets Means Recorded (defCounted tally)
       goals openGoals (defs ++ (def (part s t certificate) u ∷ [])) steps
   unfolding defAdded defCounted
@@ -250,7 +250,7 @@ pub add-goal : {goalsText certificate table : List ℕ} {buckets : ℕ} {Means :
     → t < 4294967296
     → w + 1 < 4294967296
     → Means w j
-    → some-of (isGoal (part s t goalsText)) goals ≡ false
+    → someOf (isGoal (part s t goalsText)) goals ≡ false
     → Tables goalsText certificate (goalAdded goalsText s t w tally table) buckets Means Recorded (goalCounted tally)
     (goals ++ (goal (part s t goalsText) j ∷ [])) (openGoals ++ (goal (part s t goalsText) j ∷ [])) [] steps
 unfolding goalAdded goalCounted

@@ -94,7 +94,7 @@ module _ (text : List ℕ) (table : List ℕ) {rules heap : List ℕ} {es : Entr
       → Ready es th text ts₀ (Left is K) top spent ts r store stack
       → Simulates (TermRead es th (At text K (spent + 2)) top stack ts)
       (termOf (walk.term left text rules heap table) left text rules heap table top (asked.list r) store stack)
-      (definition.compound document01 th defs depth is ts)
+      (definition.compoundTerm document01 th defs depth is ts)
 
   abbrev pub ArgumentsLaw : Items → Type 1
   ArgumentsLaw is = (left depth top n place spent fuel : ℕ) (K : Stream Token → Type 0) (ts : List Term) (r : Reader) (store stack : List ℕ) → depth + left ≡ 257
@@ -144,7 +144,7 @@ module _ (text : List ℕ) (table : List ℕ) {rules heap : List ℕ} {es : Entr
       term-step (group inner) left depth top spent K rest ts r store stack e ready (λ l m f q. by l f q) where
         by : (l : ℕ) {m : Met} → left ≡ suc l → ItemMet text K spent m (group inner, rest)
             → Simulates (TermRead es th (At text (Left rest K) (spent + 2)) top stack ts)
-            (termOf (walk.term l text rules heap table) l text rules heap table top m store stack) (definition.compound document01 th defs (suc depth) inner ts)
+            (termOf (walk.term l text rules heap table) l text rules heap table top m store stack) (definition.compoundTerm document01 th defs (suc depth) inner ts)
         by l f (list-met {r = q} there) =
             law l (suc depth) top spent (Left rest K) ts q store stack (omega arith)
             record { reader = there; room = ready .room; stored = ready .stored; grown = ready .grown; long = ready .long }
@@ -212,35 +212,35 @@ module _ (text : List ℕ) (table : List ℕ) {rules heap : List ℕ} {es : Entr
     no-head (both-refuse e) = refuse e
 
   compound-closed : CompoundLaw closed
-  unfolding definition.compound definition._>>=_ definition.lift definition.askWord definition.ask absent refusals._>>=_ headDue
+  unfolding definition.compoundTerm definition._>>=_ definition.lift definition.askWord definition.ask absent refusals._>>=_ headDue
   compound-closed zero depth top spent K ts r store stack e ready =
       rw (asked-no depth e) (no-head top spent zero K ts store stack _ (rw (asked-no depth e) at (word-law text K spent closed zero depth e (ready .reader))))
   compound-closed (suc l) depth top spent K ts r store stack e ready =
       rw (asked-yes l depth e) (no-head top spent (suc l) K ts store stack _ (rw (asked-yes l depth e) at (word-law text K spent closed (suc l) depth e (ready .reader))))
 
   compound-ended : CompoundLaw ended
-  unfolding definition.compound definition._>>=_ definition.lift definition.askWord definition.ask absent refusals._>>=_ headDue
+  unfolding definition.compoundTerm definition._>>=_ definition.lift definition.askWord definition.ask absent refusals._>>=_ headDue
   compound-ended zero depth top spent K ts r store stack e ready =
       rw (asked-no depth e) (no-head top spent zero K ts store stack _ (rw (asked-no depth e) at (word-law text K spent ended zero depth e (ready .reader))))
   compound-ended (suc l) depth top spent K ts r store stack e ready =
       rw (asked-yes l depth e) (no-head top spent (suc l) K ts store stack _ (rw (asked-yes l depth e) at (word-law text K spent ended (suc l) depth e (ready .reader))))
 
   compound-bad : CompoundLaw badLine
-  unfolding definition.compound definition._>>=_ definition.lift definition.askWord definition.ask absent refusals._>>=_ headDue
+  unfolding definition.compoundTerm definition._>>=_ definition.lift definition.askWord definition.ask absent refusals._>>=_ headDue
   compound-bad zero depth top spent K ts r store stack e ready =
       rw (asked-no depth e) (no-head top spent zero K ts store stack _ (rw (asked-no depth e) at (word-law text K spent badLine zero depth e (ready .reader))))
   compound-bad (suc l) depth top spent K ts r store stack e ready =
       rw (asked-yes l depth e) (no-head top spent (suc l) K ts store stack _ (rw (asked-yes l depth e) at (word-law text K spent badLine (suc l) depth e (ready .reader))))
 
   compound-group : (inner rest : Items) → CompoundLaw (group inner then rest)
-  unfolding definition.compound definition._>>=_ definition.lift definition.askWord definition.ask definition.wordDue absent refusals._>>=_ headDue
+  unfolding definition.compoundTerm definition._>>=_ definition.lift definition.askWord definition.ask definition.wordDue absent refusals._>>=_ headDue
   compound-group inner rest zero depth top spent K ts r store stack e ready =
       rw (asked-no depth e) (no-head top spent zero K ts store stack _ (rw (asked-no depth e) at (word-law text K spent (group inner then rest) zero depth e (ready .reader))))
   compound-group inner rest (suc l) depth top spent K ts r store stack e ready =
       rw (asked-yes l depth e) (no-head top spent (suc l) K ts store stack _ (rw (asked-yes l depth e) at (word-law text K spent (group inner then rest) (suc l) depth e (ready .reader))))
 
   compound-word : (name : Name) (rest : Items) → ArgumentsLaw rest → CompoundLaw (word name then rest)
-  unfolding definition.compound definition._>>=_ definition.lift definition.askWord definition.ask definition.wordDue refusals._>>=_ headDue
+  unfolding definition.compoundTerm definition._>>=_ definition.lift definition.askWord definition.ask definition.wordDue refusals._>>=_ headDue
   compound-word name rest law zero depth top spent K ts r store stack e ready =
       rw (asked-no depth e) (no-head top spent zero K ts store stack _ (rw (asked-no depth e) at (word-law text K spent (word name then rest) zero depth e (ready .reader))))
   compound-word name rest law (suc l) depth top spent K ts r store stack e ready =

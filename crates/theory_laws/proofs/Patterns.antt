@@ -174,7 +174,7 @@ module _ (text counted : List ℕ) (Before : Reader → Stream Token → Type 0)
       → SortAt es a sortName
       → Was 0 (flat xs (closing ▹ ts)) (countsAll xs ks) vs w vars heap
       → Simulates (Left ts ks vs (w .top) heap) (walk.patternOf (walk.pattern left text counted) text counted a (items.list (size xs) w) vars heap)
-      (definition.compound th xs sortName vs)
+      (definition.compoundPattern th xs sortName vs)
 
   abbrev pub ArgumentsLaw : ℕ → Sexps → Type 0
   ArgumentsLaw left xs =
@@ -278,7 +278,7 @@ module _ (text counted : List ℕ) (Before : Reader → Stream Token → Type 0)
       (r .holds .constructors) (met .name) (ap suc (size-count xs)) (sort-output m)))
 
   compound-atom : (left : ℕ) (name : Name) (xs : Sexps) → ArgumentsLaw left xs → CompoundLaw left (leaf name ∷ₛ xs)
-  unfolding definition.compound definition.atomDue flat countsAll size _>>=_
+  unfolding definition.compoundPattern definition.atomDue flat countsAll size _>>=_
   compound-atom left name xs law sortName a ts ks vs w vars heap m r =
       tested-aside vars (not (isEmpty xs)) bracketedConstant (definition.constructor th name) (λ c. fits c (sort sortName) (count xs)) sortArity _ _
       (compound-head name sortName a xs met m ready)
@@ -290,12 +290,12 @@ module _ (text counted : List ℕ) (Before : Reader → Stream Token → Type 0)
         ready = less-credit text counted Before th es base spare (after-atom r met) 3 (omega arith)
 
   compound-list : (left : ℕ) (ys xs : Sexps) → CompoundLaw left (list ys ∷ₛ xs)
-  unfolding definition.compound definition.atomDue flat countsAll size _>>=_ compoundHead number
+  unfolding definition.compoundPattern definition.atomDue flat countsAll size _>>=_ compoundHead number
   compound-list left ys xs sortName a ts ks vs w vars heap m r =
       rw (head-list (size xs) (list-met text counted Before reads (r .walks))) (refuse refl)
 
   compound-none : (left : ℕ) → CompoundLaw left []ₛ
-  unfolding definition.compound size compoundHead headDue number
+  unfolding definition.compoundPattern size compoundHead headDue number
   compound-none left sortName a ts ks vs w vars heap m r = refuse refl
 
   -- An atom, and a list.
