@@ -2,7 +2,6 @@
 ghost use mathlib.Core.Path.{_≡_};
 ghost use Prim.Native.Nat.{suc, _≤_, _<_};
 ghost use lib.ListN.{length};
-ghost use Rattle.lex.specs.Classes.{table};
 ghost use Rattle.lex.specs.Scan.{blanks, atomEnd, lineEnd};
 ghost use Rattle.lex.specs.Answers.{answer, tokenAt, scanned, peeked, taken, start};
 
@@ -43,13 +42,26 @@ pub enum Line {
 }
 
 // Past white space and comments in a line that ends at `end`.
-fn skip_blanks(classes: &[u8; 256], text: &[u8], end: usize, p: usize) -> usize
-    requires { ⌜ now classes ≡ table ⌝ }
+fn skip_blanks(text: &[u8], end: usize, p: usize) -> usize
     ensures { λ r. ⌜ r ≡ blanks (suc (length (now (text .entry)))) (now (text .entry)) end p ⌝ }
 {
     let mut q = p;
     while q < end {
-        let seen = utf8::look(classes, text, q);
+        if text.len() <= q {
+            return q;
+        }
+        let c = classes::class(text[q]);
+        if c == 1 {
+            q += 1;
+            continue;
+        }
+        if c == 4 {
+            return end;
+        }
+        if c < 5 {
+            return q;
+        }
+        let seen = utf8::look_longer(text, q, c);
         let kind = seen.kind;
         if kind == 4 {
             return end;
@@ -63,13 +75,23 @@ fn skip_blanks(classes: &[u8; 256], text: &[u8], end: usize, p: usize) -> usize
 }
 
 // Past the characters of an atom.
-fn atom_end(classes: &[u8; 256], text: &[u8], end: usize, p: usize) -> usize
-    requires { ⌜ now classes ≡ table ⌝ }
+fn atom_end(text: &[u8], end: usize, p: usize) -> usize
     ensures { λ r. ⌜ r ≡ atomEnd (suc (length (now (text .entry)))) (now (text .entry)) end p ⌝ }
 {
     let mut q = p;
     while q < end {
-        let seen = utf8::look(classes, text, q);
+        if text.len() <= q {
+            return q;
+        }
+        let c = classes::class(text[q]);
+        if c == 0 {
+            q += 1;
+            continue;
+        }
+        if c < 5 {
+            return q;
+        }
+        let seen = utf8::look_longer(text, q, c);
         let kind = seen.kind;
         if kind != 0 {
             return q;
@@ -80,16 +102,20 @@ fn atom_end(classes: &[u8; 256], text: &[u8], end: usize, p: usize) -> usize
 }
 
 // The end of the line that starts at `p`, if it is UTF-8.
-fn line_end(classes: &[u8; 256], text: &[u8], p: usize) -> Line
-    requires { ⌜ now classes ≡ table ⌝ }
+fn line_end(text: &[u8], p: usize) -> Line
     ensures { λ r. ⌜ r ≡ lineEnd (suc (length (now (text .entry)))) (now (text .entry)) p ⌝ }
 {
     let mut q = p;
     while q < text.len() {
-        if text[q] == 0x0A {
+        let b = text[q];
+        if b == 0x0A {
             return Line::Good(q + 1);
         }
-        let found = utf8::first_of(classes, &text[q..]);
+        if b < 0x80 {
+            q += 1;
+            continue;
+        }
+        let found = utf8::first_of(&text[q..]);
         let width = found.width;
         if width == 0 {
             return Line::Bad;
@@ -100,15 +126,14 @@ fn line_end(classes: &[u8; 256], text: &[u8], p: usize) -> Line
 }
 
 // The token at a place where a character stands that is neither white nor `;`.
-fn token_at(classes: &[u8; 256], text: &[u8], end: usize, p: usize) -> Read
-    requires { ⌜ now classes ≡ table ⌝ }
+fn token_at(text: &[u8], end: usize, p: usize) -> Read
     ensures { λ r. ⌜ answer r ≡ tokenAt (now (text .entry)) end p ⌝ }
 {
-    let seen = utf8::look(classes, text, p);
+    let seen = utf8::look(text, p);
     let kind = seen.kind;
     let width = seen.width;
     if kind == 0 {
-        let q = atom_end(classes, text, end, p);
+        let q = atom_end(text, end, p);
         return Read::Got(
             Token::Atom(p, q),
             Reader {
@@ -145,21 +170,20 @@ fn token_at(classes: &[u8; 256], text: &[u8], end: usize, p: usize) -> Read
 fn scan(text: &[u8], end: usize, p: usize) -> Read
     ensures { λ r. ⌜ answer r ≡ scanned (suc (length (now (text .entry)))) (now (text .entry)) end p ⌝ }
 {
-    let classes = classes::classes();
     let mut e = end;
-    let mut q = skip_blanks(&classes, text, e, p);
+    let mut q = skip_blanks(text, e, p);
     while e <= q {
         if text.len() <= q {
             return Read::End;
         }
-        let line = line_end(&classes, text, q);
+        let line = line_end(text, q);
         let Line::Good(next) = line else {
             return Read::Bad;
         };
         e = next;
-        q = skip_blanks(&classes, text, e, q);
+        q = skip_blanks(text, e, q);
     }
-    token_at(&classes, text, e, q)
+    token_at(text, e, q)
 }
 
 impl Reader {

@@ -16,10 +16,10 @@ shared-slice-read-b : tie.Need-shared-slice-read-b
 shared-slice-read-b c = search needs
 
 class-requires : tie.Need-class-requires
-class-requires c κs = c .before .before .before .pre
+class-requires c κs = tt
 
-cast-t9 : tie.Need-cast-t9
-cast-t9 c = omega (arith, c .before .before .shared-slice-known2 .given 0)
+cast-t8 : tie.Need-cast-t8
+cast-t8 c = omega (arith, c .before .before .shared-slice-known2 .given 0)
 
 returns-2 : tie.Need-returns-2
 unfolding width value
@@ -42,7 +42,7 @@ first-of-spec =
     returns
     shared-slice-read-b
     class-requires
-    cast-t9
+    cast-t8
     returns-2
     returns-3
     longer-requires

@@ -1,5 +1,7 @@
 -- `lex::utf8::look` meets its contract. Assumes nothing.
-use Rattle.lex.proofs.Turns.{look-past, look-one, look-none, look-longer, rest-of}
+use Rattle.lex.specs.Characters.{width, kindAt}
+use Rattle.lex.proofs.Turns.{look-past, look-one, longer-is}
+use mathlib.Core.Path.{_∙_, ap}
 use borrow.Author.Needs.{needs}
 use Rattle.lex.proofs.utf8.look.Statement.{statement}
 use Rattle.lex.proofs.utf8.look.Tie as tie
@@ -11,31 +13,16 @@ shared-slice-read-class : tie.Need-shared-slice-read-class
 shared-slice-read-class c = search needs
 
 class-requires : tie.Need-class-requires
-class-requires c κs = c .before .before .before .pre
+class-requires c κs = tt
 
 returns-2 : tie.Need-returns-2
 returns-2 c = look-one (c .before .before .before .before .before .args .text .now) (c .before .before .before .before .before .args .p) (c .before .before .before .if1 .left) (c .before .before .shared-slice-known2 .given (c .before .before .before .before .before .args .p) .fits) (c .before .class .result) (c .before .class .ensures) (c .if2 .taken)
 
-sub-first-of : tie.Need-sub-first-of
-sub-first-of c = search needs
-
-part-first-of-start : tie.Need-part-first-of-start
-part-first-of-start c = search needs
-
-part-first-of-end : tie.Need-part-first-of-end
-part-first-of-end c = search needs
-
-first-of-requires : tie.Need-first-of-requires
-first-of-requires c κs = c .before .before .before .before .before .before .pre
+look-longer-requires : tie.Need-look-longer-requires
+look-longer-requires c κs = tt
 
 returns-3 : tie.Need-returns-3
-returns-3 c = look-none (c .before .before .before .before .before .before .before .before .before .args .text .now) (c .before .before .before .before .before .before .before .before .before .args .p) (c .before .before .first-of .result .width) (rw (rest-of (c .before .before .before .before .before .before .before .before .before .args .text .now) (c .before .before .before .before .before .before .before .before .before .args .p)) at (c .before .before .first-of .ensures .0)) (c .if3 .taken)
-
-kind-of-requires : tie.Need-kind-of-requires
-kind-of-requires c κs = tt
-
-returns-4 : tie.Need-returns-4
-returns-4 c = let e = rw (rest-of (c .before .before .before .before .before .before .before .before .before .before .args .text .now) (c .before .before .before .before .before .before .before .before .before .before .args .p)) at (c .before .before .before .first-of .ensures .0) in (look-longer (c .before .before .before .before .before .before .before .before .before .before .args .text .now) (c .before .before .before .before .before .before .before .before .before .before .args .p) (c .before .before .before .first-of .result .width) (c .before .before .before .first-of .result .value) (c .kind-of .result) e (rw (rest-of (c .before .before .before .before .before .before .before .before .before .before .args .text .now) (c .before .before .before .before .before .before .before .before .before .before .args .p)) at (c .before .before .before .first-of .ensures .1)) (c .before .if3 .left) (c .kind-of .ensures), e)
+returns-3 c = let f = longer-is (c .before .before .before .before .before .before .args .text .now) (c .before .before .before .before .before .before .args .p) (c .before .before .class .result) (c .before .before .before .before .if1 .left) (c .before .before .before .shared-slice-known2 .given (c .before .before .before .before .before .before .args .p) .fits) (c .before .before .class .ensures) (c .before .if2 .left) in (c .look-longer .ensures .0 ∙ ap kindAt f, c .look-longer .ensures .1 ∙ ap width f)
 
 pub look-spec : {M : Type 1} → statement M
 look-spec =
@@ -45,10 +32,5 @@ look-spec =
     shared-slice-read-class
     class-requires
     returns-2
-    sub-first-of
-    part-first-of-start
-    part-first-of-end
-    first-of-requires
-    returns-3
-    kind-of-requires
-    returns-4)
+    look-longer-requires
+    returns-3)
