@@ -14,7 +14,7 @@ use Rattle.horn.specs.Utf8.{Range, range, within, Sequence, sequence, sequences
 use Rattle.horn.specs.Tokens.{Kind, blank, opens, closes, comments, ordinary, kind}
 use Rattle.lex.specs.Classes.{kindNumber, classOf, lowOf, highOf}
 use Rattle.lex.specs.Characters.{First, broken, found, oneMore, rest, first, width, value, kindAt, inRange, longerBy, byClass}
-use Rattle.lex.specs.Scan.{blanks, atomEnd, lineEnd}
+use Rattle.lex.specs.Scan.{stopped, blanks, atomEnd, lineEnd}
 use Rattle.lex.specs.declared.Line.{Line}
 use Rattle.lex.specs.declared.Line.the-variants.{Good, Bad}
 use Rattle.lex.proofs.Table.{ascii-class}
@@ -206,6 +206,10 @@ module _ (text : List ℕ) (end q k : ℕ) (ek : k ≡ kindAt (first (drop q tex
   pub blank-stop : (f : ℕ) → (k ≡ 4 → ⊥) → (k ≡ 1 → ⊥) → blanks (suc f) text end q ≡ q
   unfolding blanks
   blank-stop f d e = rw (lt-ltb q end h, ← ek, ne-eqb k 1 e, ← ek, ne-eqb k 4 d, blanks)
+
+  pub blank-stopped : (f : ℕ) → (k ≡ 1 → ⊥) → blanks (suc f) text end q ≡ stopped k end q
+  unfolding blanks stopped
+  blank-stopped f e = rw (lt-ltb q end h, ← ek, ne-eqb k 1 e, ← ek, blanks)
 
   pub comment-stop : (f : ℕ) → k ≡ 4 → blanks (suc f) text end q ≡ end
   unfolding blanks

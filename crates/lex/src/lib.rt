@@ -2,7 +2,7 @@
 ghost use mathlib.Core.Path.{_≡_};
 ghost use Prim.Native.Nat.{suc, _≤_, _<_};
 ghost use lib.ListN.{length};
-ghost use Rattle.lex.specs.Scan.{blanks, atomEnd, lineEnd};
+ghost use Rattle.lex.specs.Scan.{stopped, blanks, atomEnd, lineEnd};
 ghost use Rattle.lex.specs.Answers.{answer, tokenAt, scanned, peeked, taken, start};
 
 mod classes;
@@ -41,6 +41,16 @@ pub enum Line {
     Bad,
 }
 
+// Where white space ends at a character of another kind: a comment runs to the end of its line.
+fn stop(kind: u8, end: usize, q: usize) -> usize
+    ensures { λ r. ⌜ r ≡ stopped kind end q ⌝ }
+{
+    if kind == 4 {
+        return end;
+    }
+    q
+}
+
 // Past white space and comments in a line that ends at `end`.
 fn skip_blanks(text: &[u8], end: usize, p: usize) -> usize
     ensures { λ r. ⌜ r ≡ blanks (suc (length (now (text .entry)))) (now (text .entry)) end p ⌝ }
@@ -63,11 +73,8 @@ fn skip_blanks(text: &[u8], end: usize, p: usize) -> usize
         }
         let seen = utf8::look_longer(text, q, c);
         let kind = seen.kind;
-        if kind == 4 {
-            return end;
-        }
         if kind != 1 {
-            return q;
+            return stop(kind, end, q);
         }
         q += seen.width;
     }

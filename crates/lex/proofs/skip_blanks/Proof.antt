@@ -1,5 +1,5 @@
 -- `lex::skip_blanks` meets its contract. Assumes nothing.
-use Rattle.lex.proofs.Turns.{look-past, look-one, longer-is, kind-steps, blank-on, blank-over, comment-stop, blank-stop}
+use Rattle.lex.proofs.Turns.{look-past, look-one, longer-is, kind-steps, blank-on, blank-over, comment-stop, blank-stop, blank-stopped}
 use Rattle.lex.specs.Characters.{width, kindAt}
 use Rattle.lex.specs.Scan.{blanks}
 use lib.ListN.{length}
@@ -46,23 +46,23 @@ returns-3 c = let s = look-one (c .before .before .before .before .before .befor
 look-longer-requires : tie.Need-look-longer-requires Inv-loop μ-loop
 look-longer-requires c κs = tt
 
-returns-4 : tie.Need-returns-4 Inv-loop μ-loop
-returns-4 c = let f = longer-is (c .before .before .before .before .before .before .before .before .before .before .before .args .text .now) (c .before .before .before .before .before .before .before .before .before .loop .q) (c .before .before .before .before .before .class .result) (c .before .before .before .before .before .before .before .if1 .left) (c .before .before .before .before .before .before .shared-slice-known2 .given (c .before .before .before .before .before .before .before .before .before .loop .q) .fits) (c .before .before .before .before .before .class .ensures) (c .before .before .if4 .left) in sym (c .before .before .before .before .before .before .before .before .before .loop .inv .1 .1 ∙ comment-stop (c .before .before .before .before .before .before .before .before .before .before .before .args .text .now) (c .before .before .before .before .before .before .before .before .before .before .before .args .end) (c .before .before .before .before .before .before .before .before .before .loop .q) (c .before .look-longer .result .kind) (c .before .look-longer .ensures .0 ∙ ap kindAt f) (c .before .before .before .before .before .before .before .before .loop-test .taken) (c .before .before .before .before .before .before .before .before .before .loop .inv .0) (c .if5 .taken))
+stop-requires : tie.Need-stop-requires Inv-loop μ-loop
+stop-requires c κs = tt
 
-returns-5 : tie.Need-returns-5 Inv-loop μ-loop
-returns-5 c = let f = longer-is (c .before .before .before .before .before .before .before .before .before .before .before .before .args .text .now) (c .before .before .before .before .before .before .before .before .before .before .loop .q) (c .before .before .before .before .before .before .class .result) (c .before .before .before .before .before .before .before .before .if1 .left) (c .before .before .before .before .before .before .before .shared-slice-known2 .given (c .before .before .before .before .before .before .before .before .before .before .loop .q) .fits) (c .before .before .before .before .before .before .class .ensures) (c .before .before .before .if4 .left) in sym (c .before .before .before .before .before .before .before .before .before .before .loop .inv .1 .1 ∙ blank-stop (c .before .before .before .before .before .before .before .before .before .before .before .before .args .text .now) (c .before .before .before .before .before .before .before .before .before .before .before .before .args .end) (c .before .before .before .before .before .before .before .before .before .before .loop .q) (c .before .before .look-longer .result .kind) (c .before .before .look-longer .ensures .0 ∙ ap kindAt f) (c .before .before .before .before .before .before .before .before .before .loop-test .taken) (c .before .before .before .before .before .before .before .before .before .before .loop .inv .0) (c .before .if5 .left) (c .if6 .taken))
+returns-4 : tie.Need-returns-4 Inv-loop μ-loop
+returns-4 c = let f = longer-is (c .before .before .before .before .before .before .before .before .before .before .before .before .args .text .now) (c .before .before .before .before .before .before .before .before .before .before .loop .q) (c .before .before .before .before .before .before .class .result) (c .before .before .before .before .before .before .before .before .if1 .left) (c .before .before .before .before .before .before .before .shared-slice-known2 .given (c .before .before .before .before .before .before .before .before .before .before .loop .q) .fits) (c .before .before .before .before .before .before .class .ensures) (c .before .before .before .if4 .left) in c .stop .ensures ∙ sym (c .before .before .before .before .before .before .before .before .before .before .loop .inv .1 .1 ∙ blank-stopped (c .before .before .before .before .before .before .before .before .before .before .before .before .args .text .now) (c .before .before .before .before .before .before .before .before .before .before .before .before .args .end) (c .before .before .before .before .before .before .before .before .before .before .loop .q) (c .before .before .look-longer .result .kind) (c .before .before .look-longer .ensures .0 ∙ ap kindAt f) (c .before .before .before .before .before .before .before .before .before .loop-test .taken) (c .before .before .before .before .before .before .before .before .before .before .loop .inv .0) (c .before .if5 .taken))
 
 add-q-2 : tie.Need-add-q-2 Inv-loop μ-loop
-add-q-2 c = let f = longer-is (c .before .before .before .before .before .before .before .before .before .before .before .before .before .args .text .now) (c .before .before .before .before .before .before .before .before .before .before .before .loop .q) (c .before .before .before .before .before .before .before .class .result) (c .before .before .before .before .before .before .before .before .before .if1 .left) (c .before .before .before .before .before .before .before .before .shared-slice-known2 .given (c .before .before .before .before .before .before .before .before .before .before .before .loop .q) .fits) (c .before .before .before .before .before .before .before .class .ensures) (c .before .before .before .before .if4 .left) in let s = kind-steps (c .before .before .before .before .before .before .before .before .before .before .before .before .before .args .text .now) (c .before .before .before .before .before .before .before .before .before .before .before .loop .q) (c .before .before .before .look-longer .result .width) (c .before .before .before .look-longer .ensures .1 ∙ ap width f) (c .before .before .before .look-longer .result .kind) (c .before .before .before .look-longer .ensures .0 ∙ ap kindAt f) (λ z. omega (arith, z, c .before .if6 .left)) in record { fits = omega arith }
+add-q-2 c = let f = longer-is (c .before .before .before .before .before .before .before .before .before .before .before .before .args .text .now) (c .before .before .before .before .before .before .before .before .before .before .loop .q) (c .before .before .before .before .before .before .class .result) (c .before .before .before .before .before .before .before .before .if1 .left) (c .before .before .before .before .before .before .before .shared-slice-known2 .given (c .before .before .before .before .before .before .before .before .before .before .loop .q) .fits) (c .before .before .before .before .before .before .class .ensures) (c .before .before .before .if4 .left) in let s = kind-steps (c .before .before .before .before .before .before .before .before .before .before .before .before .args .text .now) (c .before .before .before .before .before .before .before .before .before .before .loop .q) (c .before .before .look-longer .result .width) (c .before .before .look-longer .ensures .1 ∙ ap width f) (c .before .before .look-longer .result .kind) (c .before .before .look-longer .ensures .0 ∙ ap kindAt f) (λ z. omega (arith, z, c .before .if5 .left)) in record { fits = omega arith }
 
 loop-less-2 : tie.Need-loop-less-2 Inv-loop μ-loop
-loop-less-2 c = let f = longer-is (c .before .before .before .before .before .before .before .before .before .before .before .before .before .args .text .now) (c .before .before .before .before .before .before .before .before .before .before .before .loop .q) (c .before .before .before .before .before .before .before .class .result) (c .before .before .before .before .before .before .before .before .before .if1 .left) (c .before .before .before .before .before .before .before .before .shared-slice-known2 .given (c .before .before .before .before .before .before .before .before .before .before .before .loop .q) .fits) (c .before .before .before .before .before .before .before .class .ensures) (c .before .before .before .before .if4 .left) in let s = kind-steps (c .before .before .before .before .before .before .before .before .before .before .before .before .before .args .text .now) (c .before .before .before .before .before .before .before .before .before .before .before .loop .q) (c .before .before .before .look-longer .result .width) (c .before .before .before .look-longer .ensures .1 ∙ ap width f) (c .before .before .before .look-longer .result .kind) (c .before .before .before .look-longer .ensures .0 ∙ ap kindAt f) (λ z. omega (arith, z, c .before .if6 .left)) in omega arith
+loop-less-2 c = let f = longer-is (c .before .before .before .before .before .before .before .before .before .before .before .before .args .text .now) (c .before .before .before .before .before .before .before .before .before .before .loop .q) (c .before .before .before .before .before .before .class .result) (c .before .before .before .before .before .before .before .before .if1 .left) (c .before .before .before .before .before .before .before .shared-slice-known2 .given (c .before .before .before .before .before .before .before .before .before .before .loop .q) .fits) (c .before .before .before .before .before .before .class .ensures) (c .before .before .before .if4 .left) in let s = kind-steps (c .before .before .before .before .before .before .before .before .before .before .before .before .args .text .now) (c .before .before .before .before .before .before .before .before .before .before .loop .q) (c .before .before .look-longer .result .width) (c .before .before .look-longer .ensures .1 ∙ ap width f) (c .before .before .look-longer .result .kind) (c .before .before .look-longer .ensures .0 ∙ ap kindAt f) (λ z. omega (arith, z, c .before .if5 .left)) in omega arith
 
 loop-again-2 : tie.Need-loop-again-2 Inv-loop μ-loop
-loop-again-2 c = let f = longer-is (c .before .before .before .before .before .before .before .before .before .before .before .before .before .args .text .now) (c .before .before .before .before .before .before .before .before .before .before .before .loop .q) (c .before .before .before .before .before .before .before .class .result) (c .before .before .before .before .before .before .before .before .before .if1 .left) (c .before .before .before .before .before .before .before .before .shared-slice-known2 .given (c .before .before .before .before .before .before .before .before .before .before .before .loop .q) .fits) (c .before .before .before .before .before .before .before .class .ensures) (c .before .before .before .before .if4 .left) in let t = blank-on (c .before .before .before .before .before .before .before .before .before .before .before .before .before .args .text .now) (c .before .before .before .before .before .before .before .before .before .before .before .before .before .args .end) (c .before .before .before .before .before .before .before .before .before .before .before .loop .q) (c .before .before .before .look-longer .result .kind) (c .before .before .before .look-longer .ensures .0 ∙ ap kindAt f) (c .before .before .before .before .before .before .before .before .before .before .loop-test .taken) (c .before .before .before .look-longer .result .width) (c .before .before .before .look-longer .ensures .1 ∙ ap width f) (c .before .before .before .before .before .before .before .before .before .before .before .loop .inv .0) (c .before .before .before .before .before .before .before .before .before .before .before .loop .inv .1 .0) (c .before .if6 .left) in (t .0, (t .1 .0, c .before .before .before .before .before .before .before .before .before .before .before .loop .inv .1 .1 ∙ t .1 .1))
+loop-again-2 c = let f = longer-is (c .before .before .before .before .before .before .before .before .before .before .before .before .args .text .now) (c .before .before .before .before .before .before .before .before .before .before .loop .q) (c .before .before .before .before .before .before .class .result) (c .before .before .before .before .before .before .before .before .if1 .left) (c .before .before .before .before .before .before .before .shared-slice-known2 .given (c .before .before .before .before .before .before .before .before .before .before .loop .q) .fits) (c .before .before .before .before .before .before .class .ensures) (c .before .before .before .if4 .left) in let t = blank-on (c .before .before .before .before .before .before .before .before .before .before .before .before .args .text .now) (c .before .before .before .before .before .before .before .before .before .before .before .before .args .end) (c .before .before .before .before .before .before .before .before .before .before .loop .q) (c .before .before .look-longer .result .kind) (c .before .before .look-longer .ensures .0 ∙ ap kindAt f) (c .before .before .before .before .before .before .before .before .before .loop-test .taken) (c .before .before .look-longer .result .width) (c .before .before .look-longer .ensures .1 ∙ ap width f) (c .before .before .before .before .before .before .before .before .before .before .loop .inv .0) (c .before .before .before .before .before .before .before .before .before .before .loop .inv .1 .0) (c .before .if5 .left) in (t .0, (t .1 .0, c .before .before .before .before .before .before .before .before .before .before .loop .inv .1 .1 ∙ t .1 .1))
 
-returns-6 : tie.Need-returns-6 Inv-loop μ-loop
-returns-6 c = sym (c .before .loop .inv .1 .1 ∙ blank-over (c .before .before .before .args .text .now) (c .before .before .before .args .end) (c .before .loop .q) (c .before .loop .inv .0) (search needs))
+returns-5 : tie.Need-returns-5 Inv-loop μ-loop
+returns-5 c = sym (c .before .loop .inv .1 .1 ∙ blank-over (c .before .before .before .args .text .now) (c .before .before .before .args .end) (c .before .loop .q) (c .before .loop .inv .0) (search needs))
 
 pub skip-blanks-spec : {M : Type 1} → statement M
 skip-blanks-spec =
@@ -80,9 +80,9 @@ skip-blanks-spec =
     returns-2
     returns-3
     look-longer-requires
+    stop-requires
     returns-4
-    returns-5
     add-q-2
     loop-less-2
     loop-again-2
-    returns-6)
+    returns-5)
