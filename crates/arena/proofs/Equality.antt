@@ -8,7 +8,7 @@ use native.Mathlib.Nat.{le-of-suc-le-suc}
 use lib.Dec.{eqb}
 use lib.ListN.{length, getD}
 use Rattle.words.specs.Parts.{sameBytes}
-use Rattle.horn.specs.Names.{named, sameList, some-of}
+use Rattle.horn.specs.Names.{named, sameList, someOf}
 use Rattle.horn.specs.StoredTerms.{Term, sameTerm, holds}
 use Rattle.horn.proofs.Equality.{Decides, named-decides, sameTerm-decides}
 use Rattle.arena.proofs.Cases.{not-both}
@@ -29,22 +29,22 @@ words-decide =
 
 -- A term is held exactly when it stands at some place of the store.
 pub held-place : (t d : Term) (ts : List Term) → holds ts t ≡ true → (k : ℕ) × (k < length ts) × (getD ts k d ≡ t)
-unfolding holds some-of
+unfolding holds someOf
 held-place t d [] e = not-both e refl
 held-place t d (u ∷ ts) e = go (sameTerm t u) refl e (held-place t d ts)
   where
-    go : (b : Bool) → sameTerm t u ≡ b → elim b [ true ↦ true | false ↦ some-of (sameTerm t) ts ] ≡ true →
-        (some-of (sameTerm t) ts ≡ true → (k : ℕ) × (k < length ts) × (getD ts k d ≡ t)) →
+    go : (b : Bool) → sameTerm t u ≡ b → elim b [ true ↦ true | false ↦ someOf (sameTerm t) ts ] ≡ true →
+        (someOf (sameTerm t) ts ≡ true → (k : ℕ) × (k < length ts) × (getD ts k d ≡ t)) →
         (k : ℕ) × (k < length (u ∷ ts)) × (getD (u ∷ ts) k d ≡ t)
     go true p e ih = (0, omega arith, sym (sameTerm-decides .equal t u p))
     go false p e ih = let r = ih e in (suc (r .0), omega arith, r .2)
 
 pub place-held : (t d : Term) (ts : List Term) (k : ℕ) → k < length ts → getD ts k d ≡ t → holds ts t ≡ true
-unfolding holds some-of
+unfolding holds someOf
 place-held t d [] k h e = absurd (omega arith)
-place-held t d (u ∷ ts) zero h e = rw (ap (sameTerm t) e ∙ sameTerm-decides .same t, some-of)
+place-held t d (u ∷ ts) zero h e = rw (ap (sameTerm t) e ∙ sameTerm-decides .same t, someOf)
 place-held t d (u ∷ ts) (suc k) h e = go (sameTerm t u) refl (place-held t d ts k (le-of-suc-le-suc h) e)
   where
-    go : (b : Bool) → sameTerm t u ≡ b → some-of (sameTerm t) ts ≡ true → elim b [ true ↦ true | false ↦ some-of (sameTerm t) ts ] ≡ true
+    go : (b : Bool) → sameTerm t u ≡ b → someOf (sameTerm t) ts ≡ true → elim b [ true ↦ true | false ↦ someOf (sameTerm t) ts ] ≡ true
     go true p ih = refl
     go false p ih = ih

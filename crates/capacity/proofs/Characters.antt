@@ -7,7 +7,7 @@ use native.Mathlib.Omega.{arith}
 use lib.Dec.{eqb}
 use lib.ListN.{length, length-append}
 use Rattle.horn.specs.Utf8.{Range, Sequence, sequence, sequences, Char, char, within, startedBy, resumed, decoded}
-use Rattle.horn.specs.Tokens.{Stream, end, bad, _▹_, before, onto, lines, characters}
+use Rattle.horn.specs.Tokens.{Stream, end, bad, _▹_, before, ontoFirstLine, lines, characters}
 use Rattle.horn.proofs.Post.{either}
 use Rattle.capacity.specs.Costs.{wide}
 
@@ -78,8 +78,8 @@ lineBytes : List (List ℕ) → ℕ
 lineBytes [] = 0
 lineBytes (line ∷ rest) = length line + lineBytes rest
 
-bytes-onto : (b : ℕ) (ls : List (List ℕ)) → lineBytes (onto b ls) ≡ suc (lineBytes ls)
-unfolding lineBytes onto
+bytes-onto : (b : ℕ) (ls : List (List ℕ)) → lineBytes (ontoFirstLine b ls) ≡ suc (lineBytes ls)
+unfolding lineBytes ontoFirstLine
 bytes-onto b [] = omega arith
 bytes-onto b (line ∷ rest) = omega arith
 
@@ -88,7 +88,7 @@ unfolding lineBytes lines
 bytes-lines [] = refl
 bytes-lines (b ∷ bs) =
     let h = bytes-lines bs in
-    either (λ ls. lineBytes ls ≡ suc (length bs)) (eqb b 0x0A) {x = (b ∷ []) ∷ lines bs} {y = onto b (lines bs)} (omega arith) (bytes-onto b (lines bs) ∙ ap suc h)
+    either (λ ls. lineBytes ls ≡ suc (length bs)) (eqb b 0x0A) {x = (b ∷ []) ∷ lines bs} {y = ontoFirstLine b (lines bs)} (omega arith) (bytes-onto b (lines bs) ∙ ap suc h)
 
 few-bytes : (ls : List (List ℕ)) → streamBytes (characters ls) ≤ lineBytes ls
 unfolding streamBytes lineBytes characters

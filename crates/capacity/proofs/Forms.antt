@@ -18,10 +18,10 @@ use Rattle.horn.specs.Matching.{step}
 use Rattle.horn.specs.Checker as checker
 use Rattle.horn.specs.Checker.{Def, def, Goal, goal}
 use Rattle.horn.specs.Certificate as certificate
-use Rattle.horn.specs.Certificate.{Progress, Given, given, Keyword, stepWord, resultWord, defWord, otherWord}
+use Rattle.horn.specs.Certificate.{Progress, Given, given, FormWord, stepWord, resultWord, defWord, otherForm}
 use Rattle.horn.proofs.Equality.{case, both, not-true, named-decides}
-use Rattle.horn.proofs.Inversion.{not-ok, ok-equal, afterᵣ, after, given-is, afterₗ, afterNeed, afterFound}
-use Rattle.horn.proofs.SoundnessReading.{absent-not, lift-absent, lift-refused}
+use Rattle.horn.proofs.Inversion.{not-ok, ok-equal, afterᵣ, after, given-is, afterₗ, after-need, after-found}
+use Rattle.horn.proofs.Inversion.{absent-not, lift-absent, lift-refused}
 use Rattle.capacity.specs.Costs.{wide, isWord, wordFirst, itemCost, itemsCost, gap, atomBytes, itemBytes, itemsBytes}
 use Rattle.capacity.specs.Budgets.{GoalBudget, Budget}
 use Rattle.capacity.proofs.Characters.{wide-some}
@@ -112,7 +112,7 @@ module _ (limits : Setting) (th : Theory) where
   -- A term has two bytes at least where an atom stands before it, with the byte that parts them.
   pub term-two : (defs : List Def) (depth : ℕ) (item : Item) (b : Bool) (s : Store) {s′ : Store} {t : Term} → checker.term limits th defs depth item s ≡ ok (t, s′)
       → 2 ≤ gap (isWord item) + itemBytes item b
-  unfolding checker.term checker.compound itemCost isWord gap
+  unfolding checker.term checker.compoundTerm itemCost isWord gap
   term-two defs depth (word name) b s e = let h = item-some (word name) b in omega arith
   term-two defs depth (group closed) b s e = lift-absent _ _ _ e
   term-two defs depth (group ended) b s e = lift-absent _ _ _ e
@@ -167,43 +167,43 @@ wide-variable (b ∷ []) h =
 wide-variable (b ∷ c ∷ bs) h = omega arith
 
 -- Which head a form has.
-by-keyword {ℓ} : {C : Type ℓ} (name : Name) (k : Keyword) → certificate.keyword name ≡ k
+by-keyword {ℓ} : {C : Type ℓ} (name : Name) (k : FormWord) → certificate.formWord name ≡ k
     → (k ≡ stepWord → wide name ≡ 4 → C)
     → (k ≡ resultWord → C)
     → (k ≡ defWord → wide name ≡ 3 → C)
-    → (k ≡ otherWord → C)
+    → (k ≡ otherForm → C)
     → C
-unfolding certificate.keyword
+unfolding certificate.formWord
 by-keyword name k e a b c d =
     case (named name (codes "step"))
-    (λ p. a (sym (sym (rw (p, certificate.keyword)) ∙ e)) (wide-name name 4 (codes "step") p wide-step))
+    (λ p. a (sym (sym (rw (p, certificate.formWord)) ∙ e)) (wide-name name 4 (codes "step") p wide-step))
     (λ p. case (named name (codes "result"))
-    (λ q. b (sym (sym (rw (p, certificate.keyword, q)) ∙ e)))
+    (λ q. b (sym (sym (rw (p, certificate.formWord, q)) ∙ e)))
     (λ q. case (named name (codes "def"))
-    (λ r. c (sym (sym (rw (p, certificate.keyword, q, r)) ∙ e)) (wide-name name 3 (codes "def") r wide-def))
-    (λ r. d (sym (sym (rw (p, certificate.keyword, q, r)) ∙ e)))))
+    (λ r. c (sym (sym (rw (p, certificate.formWord, q, r)) ∙ e)) (wide-name name 3 (codes "def") r wide-def))
+    (λ r. d (sym (sym (rw (p, certificate.formWord, q, r)) ∙ e)))))
 
-other-keyword {ℓ} : {C : Type ℓ} (f : Keyword → Bool) {a b : Keyword} → a ≡ b → f a ≡ true → f b ≡ false → C
+other-keyword {ℓ} : {C : Type ℓ} (f : FormWord → Bool) {a b : FormWord} → a ≡ b → f a ≡ true → f b ≡ false → C
 other-keyword f e p q = absurd (true≢false (sym p ∙ ap f e ∙ q))
 
-isStep : Keyword → Bool
+isStep : FormWord → Bool
 isStep stepWord = true
 isStep resultWord = false
 isStep defWord = false
-isStep otherWord = false
+isStep otherForm = false
 
-isDef : Keyword → Bool
+isDef : FormWord → Bool
 isDef stepWord = false
 isDef resultWord = false
 isDef defWord = true
-isDef otherWord = false
+isDef otherForm = false
 
-pub is-step : (name : Name) → certificate.keyword name ≡ stepWord → wide name ≡ 4
+pub is-step : (name : Name) → certificate.formWord name ≡ stepWord → wide name ≡ 4
 unfolding isStep
 is-step name e =
     by-keyword name stepWord e (λ k w. w) (λ k. other-keyword isStep k refl refl) (λ k w. other-keyword isStep k refl refl) (λ k. other-keyword isStep k refl refl)
 
-pub is-def : (name : Name) → certificate.keyword name ≡ defWord → wide name ≡ 3
+pub is-def : (name : Name) → certificate.formWord name ≡ defWord → wide name ≡ 3
 unfolding isDef
 is-def name e =
     by-keyword name defWord e (λ k w. other-keyword isDef k refl refl) (λ k. other-keyword isDef k refl refl) (λ k w. w) (λ k. other-keyword isDef k refl refl)
@@ -235,12 +235,12 @@ module _ (limits : Setting) (th : Theory) where
   goal-takes goals item b s e =
       afterₗ _ _ _ e λ inner e₁ e₂.
       afterₗ _ _ _ e₂ λ p e₃ e₄.
-      afterNeed _ _ _ _ e₄ λ h e₅.
+      after-need _ _ _ _ e₄ λ h e₅.
       afterₗ _ _ _ e₅ λ p₁ e₆ e₇.
-      afterNeed _ _ _ _ e₇ λ h₁ e₈.
+      after-need _ _ _ _ e₇ λ h₁ e₈.
       after _ e₈ λ p₂ s₁ e₉ f.
       afterₗ _ _ _ f λ u f₁ f₂.
-      afterNeed _ _ _ _ f₂ λ new f₃.
+      after-need _ _ _ _ f₂ λ new f₃.
       given-is f₃ λ same q.
       group-due item e₁ λ i₀. asked-word 1 inner e₃ λ i₁. asked-word 1 (p .1) e₆ λ i₂.
       asked-judgment limits th [] 1 (p₁ .1) s e₉ λ j i₃ two. closing-due (p₂ .1) f₁ λ i₄.
@@ -254,9 +254,9 @@ module _ (limits : Setting) (th : Theory) where
   unfolding certificate.defForm itemCost itemsCost wordFirst isWord atomBytes gap
   def-takes now is s e =
       afterₗ _ _ _ e λ p e₁ e₂.
-      afterNeed _ _ _ _ e₂ λ h e₃.
+      after-need _ _ _ _ e₂ λ h e₃.
       after _ e₃ λ p₁ s₁ e₄ e₅.
-      afterNeed _ _ _ _ e₅ λ new e₆.
+      after-need _ _ _ _ e₅ λ new e₆.
       afterₗ _ _ _ e₆ λ u e₇ e₈.
       given-is e₈ λ same q.
       asked-word 1 is e₁ λ i₁. asked-term limits th (now .defs) 1 (p .1) s e₄ λ item i₂ two. closing-due (p₁ .1) e₇ λ i₃.
@@ -273,12 +273,12 @@ module _ (limits : Setting) (th : Theory) where
   unfolding certificate.stepForm itemCost itemsCost wordFirst isWord atomBytes gap
   step-takes now is s e =
       afterₗ _ _ _ e λ p e₁ e₂.
-      afterNeed _ _ _ _ e₂ λ h e₃.
+      after-need _ _ _ _ e₂ λ h e₃.
       afterₗ _ _ _ e₃ λ p₁ e₄ e₅.
       afterₗ _ _ _ e₅ λ r e₆ e₇.
       afterₗ _ _ _ e₇ λ p₂ e₈ e₉.
       afterₗ _ _ _ e₉ λ refs f f₁.
-      afterNeed _ _ _ _ f₁ λ n f₂.
+      after-need _ _ _ _ f₁ λ n f₂.
       after _ f₂ λ g s₁ f₃ f₄.
       after _ f₄ λ j s₂ f₅ f₆.
       given-is f₆ λ same q.
@@ -297,16 +297,16 @@ module _ (limits : Setting) (th : Theory) where
   unfolding certificate.resultForm
   result-takes now is s e =
       afterₗ _ _ _ e λ p e₁ e₂.
-      afterFound _ _ _ _ e₂ λ g f₁ e₃.
+      after-found _ _ _ _ e₂ λ g f₁ e₃.
       afterₗ _ _ _ e₃ λ n e₄ e₅.
-      afterFound _ _ _ _ e₅ λ st f₂ e₆.
-      afterNeed _ _ _ _ e₆ λ h e₇.
+      after-found _ _ _ _ e₅ λ st f₂ e₆.
+      after-need _ _ _ _ e₆ λ h e₇.
       afterₗ _ _ _ e₇ λ u e₈ e₉.
       given-is e₉ λ same q.
       (ap (λ (x : Progress). length (x .defs)) (sym same), ap (λ (x : Progress). length (x .steps)) (sym same))
 
   -- Any form of a certificate.
-  form-takes : (k : Keyword) (now : Progress) (name : Name) (is : Items) (s : Store) {s′ : Store} {next : Progress} → certificate.keyword name ≡ k
+  form-takes : (k : FormWord) (now : Progress) (name : Name) (is : Items) (s : Store) {s′ : Store} {next : Progress} → certificate.formWord name ≡ k
       → certificate.headedForm limits th k now is s ≡ ok (next, s′)
       → 10 * length (next .defs) + 12 * length (next .steps) ≤ 10 * length (now .defs) + 12 * length (now .steps) + (1 + (wide name + gap (wordFirst is) + itemsBytes is))
   unfolding certificate.headedForm
@@ -315,7 +315,7 @@ module _ (limits : Setting) (th : Theory) where
   form-takes defWord now name is s k e =
       let w = is-def name k in let (a, b, c) = def-takes now is s e in omega arith
   form-takes resultWord now name is s k e = let (a, b) = result-takes now is s e in omega arith
-  form-takes otherWord now name is s k e = lift-refused _ _ e
+  form-takes otherForm now name is s k e = lift-refused _ _ e
 
   pub certificate-takes : (now : Progress) (item : Item) (b : Bool) (s : Store) {s′ : Store} {next : Progress} → certificate.certificateForm limits th now item s ≡ ok (next, s′)
       → 10 * length (next .defs) + 12 * length (next .steps) ≤ 10 * length (now .defs) + 12 * length (now .steps) + itemBytes item b
@@ -324,7 +324,7 @@ module _ (limits : Setting) (th : Theory) where
       afterₗ _ _ _ e λ inner e₁ e₂.
       afterₗ _ _ _ e₂ λ p e₃ e₄.
       group-due item e₁ λ i₀. asked-word 1 inner e₃ λ i₁.
-      rw (i₀, i₁) (form-takes (certificate.keyword (p .0)) now (p .0) (p .1) s refl e₄)
+      rw (i₀, i₁) (form-takes (certificate.formWord (p .0)) now (p .0) (p .1) s refl e₄)
 
   -- So each form keeps the budget, whatever comes behind it.
   pub goal-keeps : {limit : ℕ} (goals : List Goal) (item : Item) (rest : Items) (s : Store) {s′ : Store} {more : List Goal}

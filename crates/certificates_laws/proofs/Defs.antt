@@ -7,7 +7,7 @@ use native.Mathlib.Omega.{arith}
 use lib.ListN.{length}
 use Rattle.horn.specs.Refusals.{Result, number, variableName, duplicate, ok}
 use Rattle.horn.specs.Setting.{document01}
-use Rattle.horn.specs.Names.{Name, questioned, bare, some-of}
+use Rattle.horn.specs.Names.{Name, questioned, bare, someOf}
 use Rattle.horn.specs.Tokens.{Stream, Token}
 use Rattle.horn.specs.NestedLists.{Item, Items, _then_}
 use Rattle.horn.specs.Rulebook.{Theory}
@@ -53,7 +53,7 @@ data DefRead (es : Entries) (th : Theory) (certificate table : List ℕ) (tally 
       → s < 4294967296
       → t < 4294967296
       → Means es th us k u
-      → some-of (isDef (part s t certificate)) (now .defs) ≡ false
+      → someOf (isDef (part s t certificate)) (now .defs) ≡ false
       → At certificate K 0 r
       → Stored es th document01 4096 store us
       → Longer ts us
@@ -64,7 +64,7 @@ data DefRead (es : Entries) (th : Theory) (certificate table : List ℕ) (tally 
 -- "Duplicate 13".
 known : {goalsText certificate table : List ℕ} {Means : ℕ → Term → Type 0} {Recorded : ℕ → ℕ → ℕ → Step → Type 0} {tally : Tally} {goals openGoals : List Goal} {defs : List Def}
     {steps : List Step} {key name : Name} → Tables goalsText certificate table 128 Means Recorded tally goals openGoals defs steps → key ≡ name
-    → present (defFound 128 certificate key table) ≡ some-of (isDef name) defs
+    → present (defFound 128 certificate key table) ≡ someOf (isDef name) defs
 known {name} t e = rw e (known-def t name)
 
 -- What leaves the store, the stack and the table, beside the theory's area.

@@ -57,7 +57,7 @@ module _ {rules heap : List ℕ} {es : Entries} {bound : ℕ} {th : Theory} (h :
   module _ (inner rest : Items) {tally : Tally} {r : Reader} {areas : AllAreas} {now : Progress} {ts : List Term}
       (s : Standing rules heap es bound th goalsText certificate goals (group inner then rest) (tally, r) areas (now, ts)) where
     -- The form by its head.
-    by-head : {k : walk-keyword.Keyword} {k′ : definition.Keyword} (is : Items) (q : Reader) → Headed k k′
+    by-head : {k : walk-keyword.Keyword} {k′ : definition.FormWord} (is : Items) (q : Reader) → Headed k k′
         → definition.certificateForm document01 th now (group inner) ts ≡ definition.headedForm document01 th k′ now is ts
         → At certificate (Left is (Left rest Any)) 0 q
         → Simulates (Standing rules heap es bound th goalsText certificate goals rest) (walk.headedForm k certificate goalsText rules tally q (areas .0 .0 .0) (areas .0 .0 .1) (areas .0 .1) (areas .1))

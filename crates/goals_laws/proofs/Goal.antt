@@ -8,7 +8,7 @@ use lib.ListN.{length}
 use Rattle.horn.specs.Refusals as refusals
 use Rattle.horn.specs.Refusals.{number, duplicate, form, variableName}
 use Rattle.horn.specs.Setting.{document01}
-use Rattle.horn.specs.Names.{codes, some-of}
+use Rattle.horn.specs.Names.{codes, someOf}
 use Rattle.horn.specs.Tokens.{Stream, Token}
 use Rattle.horn.specs.NestedLists.{Items, group, _then_}
 use Rattle.horn.specs.Rulebook.{Theory}
@@ -60,7 +60,7 @@ record GoalMet (es : Entries) (th : Theory) (goalsText : List ℕ) (K : Stream T
   pub before : s < t
   pub inside : t ≤ length goalsText
   pub means : Means es th (y .1) w j
-  pub fresh : some-of (isGoal (part s t goalsText)) goals ≡ false
+  pub fresh : someOf (isGoal (part s t goalsText)) goals ≡ false
   pub counted : x .0 ≡ goalCounted tally
   pub entered : left .1 ≡ goalAdded goalsText s t w tally table
   pub one-more : y .0 ≡ goals ++ (definition.goal (part s t goalsText) j ∷ [])

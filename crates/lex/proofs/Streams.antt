@@ -9,7 +9,7 @@ use borrow.Author.Tests.{eq-eqb, ne-eqb, eqb-true, eqb-false}
 use lib.Dec.{T, eqb, ltb, leb, eqb→eq, ltb→lt, leb→le}
 use lib.ListN.{length, getD, take, drop}
 use Rattle.horn.specs.Utf8.{Range, range, within, Sequence, sequence, sequences, startedBy, tail, Char, char, resumed, decoded}
-use Rattle.horn.specs.Tokens.{Stream, end, bad, _▹_, before, onto, lines, characters}
+use Rattle.horn.specs.Tokens.{Stream, end, bad, _▹_, before, ontoFirstLine, lines, characters}
 use Rattle.lex.specs.Characters.{First, broken, found, oneMore, rest, first}
 use Rattle.lex.proofs.Table.{and-left, and-right}
 use Rattle.lex.proofs.Grammar.{case}
@@ -35,13 +35,13 @@ by-top (l ∷ ls) = by (decoded l) where
   by none = refl
   by (some cs) = refl
 
-top-onto : (b : ℕ) (ls : List (List ℕ)) → topLine (onto b ls) ≡ b ∷ topLine ls
-unfolding onto topLine
+top-onto : (b : ℕ) (ls : List (List ℕ)) → topLine (ontoFirstLine b ls) ≡ b ∷ topLine ls
+unfolding ontoFirstLine topLine
 top-onto b [] = refl
 top-onto b (l ∷ ls) = refl
 
-others-onto : (b : ℕ) (ls : List (List ℕ)) → otherLines (onto b ls) ≡ otherLines ls
-unfolding onto otherLines
+others-onto : (b : ℕ) (ls : List (List ℕ)) → otherLines (ontoFirstLine b ls) ≡ otherLines ls
+unfolding ontoFirstLine otherLines
 others-onto b [] = refl
 others-onto b (l ∷ ls) = refl
 

@@ -4,7 +4,7 @@ use mathlib.Core.Bool.{Bool, true, false, true≢false}
 use mathlib.Core.List.{List, [], _∷_, _++_, List·Memᴰ, List·Memᴰ·head, List·Memᴰ·tail}
 use mathlib.Core.Option.{Option, none, some}
 use Prim.Native.Nat.{ℕ, _+_, _≤_}
-use Rattle.horn.specs.Names.{Name, named, first, some-of}
+use Rattle.horn.specs.Names.{Name, named, first, someOf}
 use Rattle.horn.proofs.Equality.{case, named-decides, apart, some-of-member, first-some}
 use Rattle.horn.proofs.Inversion.{none-some, some-equal}
 use Rattle.names.specs.Chains.{found}
@@ -80,18 +80,18 @@ module _ {A : Type 0} (test : A → Bool) (a : A) where
   first-before [] h = rw (h, first)
   first-before (x ∷ xs) h = case (test x) (λ p. rw (p, first)) (λ p. rw (p, first) (first-before xs h))
 
-first-nothing : {A : Type 0} (test : A → Bool) (xs : List A) → some-of test xs ≡ false → first test xs ≡ none
-unfolding first some-of
+first-nothing : {A : Type 0} (test : A → Bool) (xs : List A) → someOf test xs ≡ false → first test xs ≡ none
+unfolding first someOf
 first-nothing test [] h = refl
 first-nothing test (x ∷ xs) h =
     case (test x)
-    (λ p. absurd (true≢false (sym (rw (p, some-of)) ∙ h)))
-    (λ p. rw (p, first) (first-nothing test xs (rw (p, some-of) at h)))
+    (λ p. absurd (true≢false (sym (rw (p, someOf)) ∙ h)))
+    (λ p. rw (p, first) (first-nothing test xs (rw (p, someOf) at h)))
 
-first-of : {A : Type 0} (test : A → Bool) (xs : List A) → present (first test xs) ≡ some-of test xs
-unfolding first some-of
+first-of : {A : Type 0} (test : A → Bool) (xs : List A) → present (first test xs) ≡ someOf test xs
+unfolding first someOf
 first-of test [] = refl
-first-of test (x ∷ xs) = case (test x) (λ p. rw (p, first, some-of)) (λ p. rw (p, first, some-of) (first-of test xs))
+first-of test (x ∷ xs) = case (test x) (λ p. rw (p, first, someOf)) (λ p. rw (p, first, someOf) (first-of test xs))
 
 module _ {A : Type 0} (test : Name → A → Bool) (Means : ℕ → A → Type 0) where
   -- Where the words behind the entries change, so does what they mean.
@@ -138,7 +138,7 @@ module _ {A : Type 0} (test : Name → A → Bool) (Means : ℕ → A → Type 0
   pub find-present : {area : List ℕ} {buckets count base : ℕ} {text : List ℕ} {entries : List Entry} {things : List A} (key : Name)
       → Table area buckets count base text entries
       → Stands test Means entries things
-      → present (found area buckets count text key) ≡ some-of (test key) things
+      → present (found area buckets count text key) ≡ someOf (test key) things
   find-present {things} key t s = agree-present (find-agrees key t s) ∙ first-of (test key) things where
     agree-present : {o : Option ℕ} {p : Option A} → Agree Means o p → present o ≡ present p
     agree-present both-none = refl

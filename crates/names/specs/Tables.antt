@@ -6,7 +6,7 @@ use mathlib.Core.List.{List, [], _∷_, _++_, List·Memᴰ}
 use mathlib.Core.Option.{Option, none, some}
 use lib.Dec.{eqb}
 use lib.ListN.{length, getD}
-use Rattle.horn.specs.Names.{Name, named, some-of}
+use Rattle.horn.specs.Names.{Name, named, someOf}
 use Rattle.names.specs.Chains.{bucketOf, nameAt}
 
 -- Its address and its name. Entries are listed newest first.
@@ -64,7 +64,7 @@ pub data Stands {A : Type 0} (test : Name → A → Bool) (Means : ℕ → A →
       → things′ ≡ things ++ (a ∷ [])
       → ((key : Name) → test key a ≡ named key name)
       → Means e a
-      → some-of (test name) things ≡ false
+      → someOf (test name) things ≡ false
       → Stands test Means entries things
       → Stands test Means (entry e name ∷ entries) things′
 

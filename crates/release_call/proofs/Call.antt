@@ -13,7 +13,7 @@ use Rattle.horn.specs.Calls as calls
 use Rattle.horn.specs.Calls.{report, releaseJudged, releaseAnswer, releaseCall, called, leaving, releaseLeft}
 use Rattle.horn.specs.Demand3.{Sound, Complete}
 use Rattle.horn.proofs.Soundness.{sound}
-use Rattle.horn.proofs.Complete.{laid-out-accepted}
+use Rattle.horn.proofs.Complete.{complete-01}
 use Rattle.checker.specs.Checker as walk
 use Rattle.checker_laws.proofs.Whole.{judged}
 use Rattle.reports.proofs.ReleaseReported.{release-reported}
@@ -38,7 +38,7 @@ module _ (rulebook goals certificate a b c d : List ℕ) where
   unfolding releaseLeft
   is-called q a′ b′ c′ d′ e h = (
     rw e h,
-    rw (← e) (sound document01 (length a) (length b) (length c) (length d) rulebook goals certificate, laid-out-accepted (length a) (length b) (length c) (length d) rulebook goals certificate),
+    rw (← e) (sound document01 (length a) (length b) (length c) (length d) rulebook goals certificate, complete-01 (length a) (length b) (length c) (length d) rulebook goals certificate),
   )
 
   abbrev Refused : ℕ → Report → Type 0

@@ -6,7 +6,7 @@ use Prim.Native.Nat.{ℕ, _+_, _*_, _≤_, _<_}
 use native.Mathlib.Omega.{arith}
 use lib.ListN.{length}
 use Rattle.words.specs.Parts.{part}
-use Rattle.horn.specs.Names.{Name, first, some-of}
+use Rattle.horn.specs.Names.{Name, first, someOf}
 use Rattle.horn.specs.StoredTerms.{Term}
 use Rattle.horn.specs.Checker.{Def, def, isDef, meaning}
 use Rattle.names.specs.Tables.{Entry, entry, top, Table, no-entry, Stands, none-yet, other-kind, declared, Agree, both-none, both-some, present}
@@ -43,7 +43,7 @@ module _ {text table : List ℕ} {buckets base : ℕ} {Means : ℕ → Term → 
       → s < 4294967296
       → t < 4294967296
       → Means w u
-      → some-of (isDef (part s t text)) defs ≡ false
+      → someOf (isDef (part s t text)) defs ≡ false
       → Defs text (entered 128 buckets (base + 4 * length defs) text s t w table) buckets base Means (defs ++ (def (part s t text) u ∷ []))
   unfolding top isDef entered meaning
   defs-add s t w u d room x y m n =
@@ -70,7 +70,7 @@ module _ {text table : List ℕ} {buckets base : ℕ} {Means : ℕ → Term → 
       }
 
   -- The test for duplicates, and the search.
-  pub def-known : (key : Name) → Defs text table buckets base Means defs → present (defFound buckets text key table) ≡ some-of (isDef key) defs
+  pub def-known : (key : Name) → Defs text table buckets base Means defs → present (defFound buckets text key table) ≡ someOf (isDef key) defs
   unfolding defFound
   def-known key d = find-present isDef (DefAt table Means base (base + 4 * length defs)) key (d .names) (d .stands)
 

@@ -10,7 +10,7 @@ use lib.Dec.{eqb}
 use lib.ListN.{length, getD, set, length-set}
 use lib.Seq.{getD-set-same, getD-set-other}
 use Rattle.words.specs.Parts.{part}
-use Rattle.horn.specs.Names.{Name, named, first, some-of}
+use Rattle.horn.specs.Names.{Name, named, first, someOf}
 use Rattle.horn.specs.StoredTerms.{Term}
 use Rattle.horn.specs.Checker.{Goal, goal, isGoal}
 use Rattle.horn.specs.Certificate.{without}
@@ -43,22 +43,22 @@ other-name : (a b : Name) → named a b ≡ false → named b a ≡ false
 other-name a b h = apart named-decides b a (λ e. differ named-decides a b h (sym e))
 
 -- A test that some thing of a list passes.
-pub none-of-more : {A : Type 0} (test : A → Bool) (xs : List A) (a : A) → some-of test xs ≡ false → test a ≡ false → some-of test (xs ++ (a ∷ [])) ≡ false
-unfolding some-of
-none-of-more test [] a h k = rw (k, some-of)
+pub none-of-more : {A : Type 0} (test : A → Bool) (xs : List A) (a : A) → someOf test xs ≡ false → test a ≡ false → someOf test (xs ++ (a ∷ [])) ≡ false
+unfolding someOf
+none-of-more test [] a h k = rw (k, someOf)
 none-of-more test (x ∷ xs) a h k =
     case (test x)
-    (λ p. absurd (true≢false (sym (rw (p, some-of)) ∙ h)))
-    (λ p. rw (p, some-of) (none-of-more test xs a (rw (p, some-of) at h) k))
+    (λ p. absurd (true≢false (sym (rw (p, someOf)) ∙ h)))
+    (λ p. rw (p, someOf) (none-of-more test xs a (rw (p, someOf) at h) k))
 
-none-of-head : {A : Type 0} (test : A → Bool) (x : A) (xs : List A) → some-of test (x ∷ xs) ≡ false → (test x ≡ false) × (some-of test xs ≡ false)
-unfolding some-of
+none-of-head : {A : Type 0} (test : A → Bool) (x : A) (xs : List A) → someOf test (x ∷ xs) ≡ false → (test x ≡ false) × (someOf test xs ≡ false)
+unfolding someOf
 none-of-head test x xs h =
     case (test x)
-    (λ p. absurd (true≢false (sym (rw (p, some-of)) ∙ h)))
-    (λ p. (p, rw (p, some-of) at h))
+    (λ p. absurd (true≢false (sym (rw (p, someOf)) ∙ h)))
+    (λ p. (p, rw (p, someOf) at h))
 
-none-of-sitting : {A : Type 0} (test : A → Bool) {b e : ℕ} {things : List A} {a : A} → Sits b things e a → some-of test things ≡ false → test a ≡ false
+none-of-sitting : {A : Type 0} (test : A → Bool) {b e : ℕ} {things : List A} {a : A} → Sits b things e a → someOf test things ≡ false → test a ≡ false
 none-of-sitting test {a} (here {things} h) n = none-of-head test a things n .0
 none-of-sitting test (there {c} {things} s) n = none-of-sitting test s (none-of-head test c things n .1)
 
@@ -77,9 +77,9 @@ module _ {Means : ℕ → Term → Type 0} where
   pub values-add : {table : List ℕ} {b : ℕ} {goals openGoals : List Goal} (w : ℕ) (name : Name) (j : Term) → GoalsAt table Means b goals openGoals
       → getD table (b + 4 * length goals + 3) 0 ≡ w + 1
       → Means w j
-      → some-of (isGoal name) goals ≡ false
+      → someOf (isGoal name) goals ≡ false
       → GoalsAt table Means b (goals ++ (goal name j ∷ [])) (openGoals ++ (goal name j ∷ []))
-  unfolding isGoal some-of
+  unfolding isGoal someOf
   values-add {table} w name j (no-goal {b}) v m n = still-open {b = b} {w = w} (at-same table (b + 3) (b + 4 * 0 + 3) (omega arith) ∙ v) m refl no-goal
   values-add {table} w name j (still-open {b} {name = other} {j = i} {goals} u k f g) v m n =
       let (x, y) = none-of-head (isGoal name) (goal other i) goals n in
@@ -92,7 +92,7 @@ module _ {Means : ℕ → Term → Type 0} where
 
   -- Where a name is no goal's, it is no open goal's.
   pub none-open : {table : List ℕ} {b : ℕ} {goals openGoals : List Goal} (key : Name) → GoalsAt table Means b goals openGoals
-      → some-of (isGoal key) goals ≡ false
+      → someOf (isGoal key) goals ≡ false
       → first (isGoal key) openGoals ≡ none
   unfolding first
   none-open key no-goal n = refl
@@ -131,7 +131,7 @@ module _ {Means : ℕ → Term → Type 0} where
 
   -- A name that no goal has is not taken out.
   without-none : {table : List ℕ} {b : ℕ} {goals openGoals : List Goal} (key : Name) → GoalsAt table Means b goals openGoals
-      → some-of (isGoal key) goals ≡ false
+      → someOf (isGoal key) goals ≡ false
       → without key openGoals ≡ openGoals
   unfolding without
   without-none key no-goal n = refl
@@ -191,7 +191,7 @@ module _ {text table : List ℕ} {base : ℕ} {Means : ℕ → Term → Type 0} 
       → t < 4294967296
       → v ≡ w + 1
       → Means w j
-      → some-of (isGoal (part s t text)) goals ≡ false
+      → someOf (isGoal (part s t text)) goals ≡ false
       → Goals text (entered 0 128 (base + 4 * length goals) text s t v table) base Means
       (goals ++ (goal (part s t text) j ∷ [])) (openGoals ++ (goal (part s t text) j ∷ []))
   unfolding top isGoal entered
@@ -241,7 +241,7 @@ agreed (both-some {e} {a} m) f g = g e a refl refl m
 
 module _ {text table : List ℕ} {base : ℕ} {Means : ℕ → Term → Type 0} {goals openGoals : List Goal} (g : Goals text table base Means goals openGoals) where
   -- The test for duplicates.
-  pub goal-known : (key : Name) → present (goalFound text key table) ≡ some-of (isGoal key) goals
+  pub goal-known : (key : Name) → present (goalFound text key table) ≡ someOf (isGoal key) goals
   unfolding goalFound
   goal-known key = find-present isGoal (Sits base goals) key (g .names) (g .stands)
 

@@ -8,9 +8,9 @@ use borrow.Author.Tests.{ne-eqb}
 use lib.Dec.{eqb}
 use lib.ListN.{length, set, getElem?, length-set}
 use Rattle.words.specs.Parts.{part, cleared}
-use Rattle.horn.specs.Names.{Name, first, some-of}
+use Rattle.horn.specs.Names.{Name, first, isZero, someOf}
 use Rattle.horn.specs.StoredTerms.{Term}
-use Rattle.horn.specs.Checker.{Def, def, isDef, meaning, Goal, goal, isGoal, isEmptyList}
+use Rattle.horn.specs.Checker.{Def, def, isDef, meaning, Goal, goal, isGoal}
 use Rattle.horn.specs.Matching.{Step}
 use Rattle.horn.specs.Certificate.{without}
 use Rattle.horn.proofs.Inversion.{none-some}
@@ -34,8 +34,8 @@ length-cleared zero s = refl
 length-cleared (suc n) [] = refl
 length-cleared (suc n) (w ∷ s) = ap suc (length-cleared n s)
 
-empty-counts : (gs : List Goal) → isEmptyList gs ≡ eqb (length gs) 0
-unfolding isEmptyList
+empty-counts : (gs : List Goal) → isZero (length gs) ≡ eqb (length gs) 0
+unfolding isZero
 empty-counts [] = refl
 empty-counts (g ∷ gs) = sym (ne-eqb (suc (length gs)) 0 (λ (z : suc (length gs) ≡ 0). omega arith))
 
@@ -85,13 +85,13 @@ module _ {goalsText certificate table : List ℕ} {buckets : ℕ} {Means : ℕ �
     {goals openGoals : List Goal} {defs : List Def} {steps : List Step}
     (h : Tables goalsText certificate table buckets Means Recorded tally goals openGoals defs steps) where
   -- What is asked: a duplicate goal, a goal still open, a duplicate abbreviation, what one stands for, a step, whether a goal is left open.
-  pub known-goal : (key : Name) → present (goalFound goalsText key table) ≡ some-of (isGoal key) goals
+  pub known-goal : (key : Name) → present (goalFound goalsText key table) ≡ someOf (isGoal key) goals
   known-goal key = goal-known (h .goal-part) key
 
   pub open-goal : (key : Name) → OpenAgree table (128 + buckets) Means goals key (goalOpen goalsText key table) (first (isGoal key) openGoals)
   open-goal key = open-agrees (h .goal-part) key
 
-  pub known-def : (key : Name) → present (defFound buckets certificate key table) ≡ some-of (isDef key) defs
+  pub known-def : (key : Name) → present (defFound buckets certificate key table) ≡ someOf (isDef key) defs
   known-def key = def-known key (h .def-part)
 
   pub meaning-of : (key : Name) → Agree (λ w d. Means w (meaning d)) (defMeaning buckets certificate key table) (first (isDef key) defs)
@@ -100,7 +100,7 @@ module _ {goalsText certificate table : List ℕ} {buckets : ℕ} {Means : ℕ �
   pub step-of : (n : ℕ) → StepAgree Recorded (stepWord n 0 tally table) (stepWord n 1 tally table) (stepWord n 2 tally table) (getElem? steps n)
   step-of n = step-agrees n tally (h .step-part) (h .steps-is)
 
-  pub none-left : isEmptyList openGoals ≡ eqb (tally .left) 0
+  pub none-left : isZero (length openGoals) ≡ eqb (tally .left) 0
   none-left = rw (h .left-is) (empty-counts openGoals)
 
   -- One abbreviation more.
@@ -109,7 +109,7 @@ module _ {goalsText certificate table : List ℕ} {buckets : ℕ} {Means : ℕ �
       → s < 4294967296
       → t < 4294967296
       → Means w u
-      → some-of (isDef (part s t certificate)) defs ≡ false
+      → someOf (isDef (part s t certificate)) defs ≡ false
       → Tables goalsText certificate (defAdded buckets certificate s t w tally table) buckets Means Recorded (defCounted tally)
       goals openGoals (defs ++ (def (part s t certificate) u ∷ [])) steps
   unfolding defAdded defCounted
@@ -253,7 +253,7 @@ pub add-goal : {goalsText certificate table : List ℕ} {buckets : ℕ} {Means :
     → t < 4294967296
     → w + 1 < 4294967296
     → Means w j
-    → some-of (isGoal (part s t goalsText)) goals ≡ false
+    → someOf (isGoal (part s t goalsText)) goals ≡ false
     → Tables goalsText certificate (goalAdded goalsText s t w tally table) buckets Means Recorded (goalCounted tally)
     (goals ++ (goal (part s t goalsText) j ∷ [])) (openGoals ++ (goal (part s t goalsText) j ∷ [])) [] steps
 unfolding goalAdded goalCounted

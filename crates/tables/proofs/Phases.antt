@@ -8,7 +8,7 @@ use lib.ListN.{length, length-set}
 use Rattle.words.specs.Parts.{part, cleared}
 use Rattle.horn.specs.Refusals.{ok}
 use Rattle.horn.specs.Setting.{Setting}
-use Rattle.horn.specs.Names.{Name, some-of}
+use Rattle.horn.specs.Names.{Name, someOf}
 use Rattle.horn.specs.Tokens.{tokens}
 use Rattle.horn.specs.NestedLists.{Item, Items, _then_, items}
 use Rattle.horn.specs.Rulebook.{Theory}
@@ -75,7 +75,7 @@ module _ (goalsText certificate : List ℕ) (goalsBytes certificateBytes buckets
       → t < 4294967296
       → w + 1 < 4294967296
       → Means w j
-      → some-of (isGoal (part s t goalsText)) goals ≡ false
+      → someOf (isGoal (part s t goalsText)) goals ≡ false
       → Goals-so-far (goalAdded goalsText s t w tally table) (goalCounted tally) (goals ++ (goal (part s t goalsText) j ∷ [])) rest
   unfolding goalAdded
   next-goal {table} {tally} {goals} {item} {rest} store s t w j g e x y z m n =
@@ -108,7 +108,7 @@ module _ (goalsText certificate : List ℕ) (goalsBytes certificateBytes buckets
         → s < 4294967296
         → t < 4294967296
         → Means w u
-        → some-of (isDef (part s t certificate)) (now .defs) ≡ false
+        → someOf (isDef (part s t certificate)) (now .defs) ≡ false
         → So-far (defAdded buckets certificate s t w tally table) (defCounted tally) goals
         (record { defs = now .defs ++ (def (part s t certificate) u ∷ []); openGoals = now .openGoals; steps = now .steps }) rest
     unfolding defAdded

@@ -6,7 +6,7 @@ use mathlib.Core.Bool.{false}
 use mathlib.Core.List.{List, [], _∷_}
 use mathlib.Core.Option.{Option, none, some}
 use lib.ListN.{length, getD, getElem?}
-use Rattle.horn.specs.Names.{Name, some-of}
+use Rattle.horn.specs.Names.{Name, someOf}
 use Rattle.horn.specs.StoredTerms.{Term}
 use Rattle.horn.specs.Checker.{Def, meaning, isDef, Goal, goal, isGoal}
 use Rattle.horn.specs.Matching.{Step}
@@ -26,12 +26,12 @@ pub data GoalsAt (table : List ℕ) (Means : ℕ → Term → Type 0) : ℕ → 
   still-open : {b w : ℕ} {name : Name} {j : Term} {goals openGoals : List Goal}
       → getD table (b + 3) 0 ≡ w + 1
       → Means w j
-      → some-of (isGoal name) goals ≡ false
+      → someOf (isGoal name) goals ≡ false
       → GoalsAt table Means (b + 4) goals openGoals
       → GoalsAt table Means b (goal name j ∷ goals) (goal name j ∷ openGoals)
   is-closed : {b : ℕ} {name : Name} {j : Term} {goals openGoals : List Goal}
       → getD table (b + 3) 0 ≡ 0
-      → some-of (isGoal name) goals ≡ false
+      → someOf (isGoal name) goals ≡ false
       → GoalsAt table Means (b + 4) goals openGoals
       → GoalsAt table Means b (goal name j ∷ goals) openGoals
 

@@ -11,11 +11,11 @@ use lib.Seq.{getD-set-same}
 use Rattle.horn.specs.Refusals as refusals
 use Rattle.horn.specs.Refusals.{Refusal, Result, number, notUtf8, textEnds, nesting, bracketedConstant}
 use Rattle.horn.specs.Setting.{document01}
-use Rattle.horn.specs.Names.{Name}
+use Rattle.horn.specs.Names.{Name, isZero}
 use Rattle.horn.specs.Tokens.{Stream, Token}
 use Rattle.horn.specs.NestedLists.{Item, word, group, Items, closed, ended, badLine, _then_, askedAt, absent}
 use Rattle.horn.specs.Rulebook.{Symbol, Theory, constructor}
-use Rattle.horn.specs.StoredTerms.{Term, Terms, []ₜ, _∷ₜ_}
+use Rattle.horn.specs.StoredTerms.{Term, Terms, []ₜ, _∷ₜ_, width}
 use Rattle.horn.specs.Checker as definition
 use Rattle.horn.specs.Checker.{Def}
 use Rattle.horn.proofs.Equality.{case}
@@ -94,7 +94,7 @@ module _ (text : List ℕ) (table : List ℕ) {rules heap : List ℕ} {es : Entr
       → Ready es th text ts₀ (Left is K) top spent ts r store stack
       → Simulates (TermRead es th (At text K (spent + 2)) top stack ts)
       (termOf (walk.term left text rules heap table) left text rules heap table top (asked.list r) store stack)
-      (definition.compound document01 th defs depth is ts)
+      (definition.compoundTerm document01 th defs depth is ts)
 
   abbrev pub ArgumentsLaw : Items → Type 1
   ArgumentsLaw is = (left depth top n place spent fuel : ℕ) (K : Stream Token → Type 0) (ts : List Term) (r : Reader) (store stack : List ℕ) → depth + left ≡ 257
@@ -144,7 +144,7 @@ module _ (text : List ℕ) (table : List ℕ) {rules heap : List ℕ} {es : Entr
       term-step (group inner) left depth top spent K rest ts r store stack e ready (λ l m f q. by l f q) where
         by : (l : ℕ) {m : Met} → left ≡ suc l → ItemMet text K spent m (group inner, rest)
             → Simulates (TermRead es th (At text (Left rest K) (spent + 2)) top stack ts)
-            (termOf (walk.term l text rules heap table) l text rules heap table top m store stack) (definition.compound document01 th defs (suc depth) inner ts)
+            (termOf (walk.term l text rules heap table) l text rules heap table top m store stack) (definition.compoundTerm document01 th defs (suc depth) inner ts)
         by l f (list-met {r = q} there) =
             law l (suc depth) top spent (Left rest K) ts q store stack (omega arith)
             record { reader = there; room = ready .room; stored = ready .stored; grown = ready .grown; long = ready .long }
@@ -158,7 +158,7 @@ module _ (text : List ℕ) (table : List ℕ) {rules heap : List ℕ} {es : Entr
   abbrev definedOn : ℕ → Symbol → Items → List Term → Result (Term × List Term)
   definedOn depth d rest ts =
       refusals._>>=_ {A = Terms × List Term} (definition.arguments document01 th defs depth rest ts)
-      (λ p. refusals._>>=_ {A = Unit {0} × List Term} (refusals._>>=_ (refusals.need (not (definition.isNil (p .0))) bracketedConstant) (λ a. refusals.ok (a, p .1)))
+      (λ p. refusals._>>=_ {A = Unit {0} × List Term} (refusals._>>=_ (refusals.need (not (isZero (width (p .0)))) bracketedConstant) (λ a. refusals.ok (a, p .1)))
       (λ u. definition.make document01 d (p .0) (u .1)))
 
   -- "After the closing come 16 for a bracketed constructor without arguments, then 15 for arity and sorts, then the store."
@@ -187,7 +187,7 @@ module _ (text : List ℕ) (table : List ℕ) {rules heap : List ℕ} {es : Entr
       → ArgumentsLaw rest → depth + left ≡ 257 → 2 * top ≤ spent → SymbolAt heap es bound c d
       → Ready es th text ts₀ (Left rest K) (top + 1) (spent + 2) ts r store stack
       → Simulates (TermRead es th (At text K (spent + 2)) top stack ts) (walkOn left top c r store stack) (definedOn depth d rest ts)
-  unfolding refusals._>>=_ refusals.need number lookups definition.isNil
+  unfolding refusals._>>=_ refusals.need number lookups isZero width
   compounded left depth top spent c d K rest ts r store stack law e l a ready =
       let z = at-within (ready .reader) in
       rw (sum-small top 1 (omega arith))
@@ -197,11 +197,11 @@ module _ (text : List ℕ) (table : List ℕ) {rules heap : List ℕ} {es : Entr
             → lookups (symbolAt es th) (y .1) ms ≡ y .0
             → Simulates (TermRead es th (At text K (spent + 2)) top stack ts)
             (leaving._>>=_ (outcomes.need (not (eqb (x .0) 0)) 16 leaving s) (λ _. make heap c top (x .0) (x .1) (s .0) (s .1)))
-            (refusals._>>=_ {A = Unit {0} × List Term} (refusals._>>=_ (refusals.need (not (definition.isNil (y .0))) bracketedConstant) (λ b. refusals.ok (b, y .1)))
+            (refusals._>>=_ {A = Unit {0} × List Term} (refusals._>>=_ (refusals.need (not (isZero (width (y .0)))) bracketedConstant) (λ b. refusals.ok (b, y .1)))
             (λ u. definition.make document01 d (y .0) (u .1)))
         by x s y q [] n t = rw (eq-eqb (x .0) 0 n, ← t) (refuse refl)
         by x s y q (m ∷ ms) n t =
-            let nil : definition.isNil (y .0) ≡ false = rw (← t) in
+            let nil : isZero (width (y .0)) ≡ false = rw (← t) in
             rw (ne-eqb (x .0) 0 (λ f. omega arith), nil) (made-of top spent c d K ts stack x s y l (ready .long) a q)
 
   -- No head there, or none that is an atom.
@@ -212,35 +212,35 @@ module _ (text : List ℕ) (table : List ℕ) {rules heap : List ℕ} {es : Entr
     no-head (both-refuse e) = refuse e
 
   compound-closed : CompoundLaw closed
-  unfolding definition.compound definition._>>=_ definition.lift definition.askWord definition.ask absent refusals._>>=_ headDue
+  unfolding definition.compoundTerm definition._>>=_ definition.lift definition.askWord definition.ask absent refusals._>>=_ headDue
   compound-closed zero depth top spent K ts r store stack e ready =
       rw (asked-no depth e) (no-head top spent zero K ts store stack _ (rw (asked-no depth e) at (word-law text K spent closed zero depth e (ready .reader))))
   compound-closed (suc l) depth top spent K ts r store stack e ready =
       rw (asked-yes l depth e) (no-head top spent (suc l) K ts store stack _ (rw (asked-yes l depth e) at (word-law text K spent closed (suc l) depth e (ready .reader))))
 
   compound-ended : CompoundLaw ended
-  unfolding definition.compound definition._>>=_ definition.lift definition.askWord definition.ask absent refusals._>>=_ headDue
+  unfolding definition.compoundTerm definition._>>=_ definition.lift definition.askWord definition.ask absent refusals._>>=_ headDue
   compound-ended zero depth top spent K ts r store stack e ready =
       rw (asked-no depth e) (no-head top spent zero K ts store stack _ (rw (asked-no depth e) at (word-law text K spent ended zero depth e (ready .reader))))
   compound-ended (suc l) depth top spent K ts r store stack e ready =
       rw (asked-yes l depth e) (no-head top spent (suc l) K ts store stack _ (rw (asked-yes l depth e) at (word-law text K spent ended (suc l) depth e (ready .reader))))
 
   compound-bad : CompoundLaw badLine
-  unfolding definition.compound definition._>>=_ definition.lift definition.askWord definition.ask absent refusals._>>=_ headDue
+  unfolding definition.compoundTerm definition._>>=_ definition.lift definition.askWord definition.ask absent refusals._>>=_ headDue
   compound-bad zero depth top spent K ts r store stack e ready =
       rw (asked-no depth e) (no-head top spent zero K ts store stack _ (rw (asked-no depth e) at (word-law text K spent badLine zero depth e (ready .reader))))
   compound-bad (suc l) depth top spent K ts r store stack e ready =
       rw (asked-yes l depth e) (no-head top spent (suc l) K ts store stack _ (rw (asked-yes l depth e) at (word-law text K spent badLine (suc l) depth e (ready .reader))))
 
   compound-group : (inner rest : Items) → CompoundLaw (group inner then rest)
-  unfolding definition.compound definition._>>=_ definition.lift definition.askWord definition.ask definition.wordDue absent refusals._>>=_ headDue
+  unfolding definition.compoundTerm definition._>>=_ definition.lift definition.askWord definition.ask definition.wordDue absent refusals._>>=_ headDue
   compound-group inner rest zero depth top spent K ts r store stack e ready =
       rw (asked-no depth e) (no-head top spent zero K ts store stack _ (rw (asked-no depth e) at (word-law text K spent (group inner then rest) zero depth e (ready .reader))))
   compound-group inner rest (suc l) depth top spent K ts r store stack e ready =
       rw (asked-yes l depth e) (no-head top spent (suc l) K ts store stack _ (rw (asked-yes l depth e) at (word-law text K spent (group inner then rest) (suc l) depth e (ready .reader))))
 
   compound-word : (name : Name) (rest : Items) → ArgumentsLaw rest → CompoundLaw (word name then rest)
-  unfolding definition.compound definition._>>=_ definition.lift definition.askWord definition.ask definition.wordDue refusals._>>=_ headDue
+  unfolding definition.compoundTerm definition._>>=_ definition.lift definition.askWord definition.ask definition.wordDue refusals._>>=_ headDue
   compound-word name rest law zero depth top spent K ts r store stack e ready =
       rw (asked-no depth e) (no-head top spent zero K ts store stack _ (rw (asked-no depth e) at (word-law text K spent (word name then rest) zero depth e (ready .reader))))
   compound-word name rest law (suc l) depth top spent K ts r store stack e ready =

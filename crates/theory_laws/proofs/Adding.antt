@@ -6,7 +6,7 @@ use mathlib.Core.List.{List, [], _∷_, _++_}
 use Prim.Native.Nat.{ℕ, _+_, _≤_, _<_}
 use native.Mathlib.Omega.{arith}
 use lib.ListN.{length, getD}
-use Rattle.horn.specs.Names.{Name, named, some-of}
+use Rattle.horn.specs.Names.{Name, named, someOf}
 use Rattle.words.specs.Parts.{part}
 use Rattle.names.specs.Chains.{added}
 use Rattle.names.specs.Tables as tables
@@ -79,7 +79,7 @@ module _ {text heap heap′ : List ℕ} {base buckets s t : ℕ} (k : Adds text 
     pub newer : (name : Name) (a : A) → part s t text ≡ name
         → ((key : Name) → test key a ≡ named key name)
         → Means′ base a
-        → some-of (test name) things ≡ false
+        → someOf (test name) things ≡ false
         → Declares text heap base buckets entries test Means things
         → Declares text heap′ top′ buckets (entry base name ∷ entries) test Means′ (things ++ (a ∷ []))
     unfolding tables.top

@@ -9,7 +9,7 @@ use Rattle.horn.specs.Names.{Name}
 use Rattle.horn.specs.Tokens.{Stream, end, _▹_, Token, opening, closing, atom}
 use Rattle.horn.specs.NestedLists.{Sexp, leaf, list, Sexps, []ₛ, _∷ₛ_}
 use Rattle.horn.specs.Rulebook as definition
-use Rattle.horn.specs.Rulebook.{Theory, Keyword, keyword, oneMember, twoMembers, threeMembers}
+use Rattle.horn.specs.Rulebook.{Theory, DeclarationWord, declarationWord, oneMember, twoMembers, threeMembers}
 use Rattle.horn.proofs.Counts.{streamLength}
 use Rattle.horn.proofs.Inversion.{not-ok}
 use Rattle.lex.specs.declared.Reader.{Reader}
@@ -70,7 +70,7 @@ module _ (text member-counts : List ℕ) (Before : Reader → Stream Token → T
 
   module _ (th : Theory) (es : Entries) where
     -- By its form.
-    by-form : {name : Name} {xs : Sexps} {f : Form} {k : Keyword} {ts : Stream Token} {ks : List ℕ} {w : Walk} (vars : List ℕ) {heap : List ℕ}
+    by-form : {name : Name} {xs : Sexps} {f : Form} {k : DeclarationWord} {ts : Stream Token} {ks : List ℕ} {w : Walk} (vars : List ℕ) {heap : List ℕ}
         → Formed name xs f k
         → Mid th es (w .top) (4 * suc (length name)) (flat xs (closing ▹ ts)) (countsAll xs ks) w heap
         → length vars ≡ 16384
@@ -109,7 +109,7 @@ module _ (text member-counts : List ℕ) (Before : Reader → Stream Token → T
         → Shallows 259 xs
         → Shallows 258 xs
         → streamLength (flatOne (list (leaf name ∷ₛ xs)) ts) ≤ length text
-        → Simulates (DeclarationRead th ts ks) (walk.declaration text member-counts w vars heap) (definition.declare th (keyword name) xs)
+        → Simulates (DeclarationRead th ts ks) (walk.declaration text member-counts w vars heap) (definition.declare th (declarationWord name) xs)
     unfolding walk.declaration formOf flatOne countsOne size weight streamLength
     headed-atom name xs {ts} {ks} {w} vars {heap} r long s₀ s₁ enough =
         let c = r .room in
@@ -131,7 +131,7 @@ module _ (text member-counts : List ℕ) (Before : Reader → Stream Token → T
         → Shallow 259 x
         → streamLength (flatOne x ts) ≤ length text
         → Simulates (DeclarationRead th ts ks) (walk.declaration text member-counts w vars heap) (definition.declaration th x)
-    unfolding walk.declaration definition.declaration definition.listDue definition.headed definition.atomDue headDue flatOne countsOne size number _>>=_
+    unfolding walk.declaration definition.declaration definition.listDue definition.headedDeclaration definition.atomDue headDue flatOne countsOne size number _>>=_
     declaration-law (leaf bytes) vars r long s₀ s₁ enough =
         rw (atom-due text member-counts Before reads short th es 0 0 (atom-met text member-counts Before reads (r .walks))) (refuse refl)
     declaration-law (list []ₛ) vars r long s₀ s₁ enough =

@@ -10,7 +10,7 @@ use lib.ListN.{length}
 use Rattle.horn.specs.Refusals.{form, refused}
 use Rattle.horn.specs.Names.{Name, named, codes}
 use Rattle.horn.specs.NestedLists.{Sexp, Sexps, []ₛ, _∷ₛ_}
-use Rattle.horn.specs.Rulebook.{Theory, Keyword, sortWord, ctorWord, predWord, ruleWord, otherWord, keyword, declare, oneMember, twoMembers, threeMembers}
+use Rattle.horn.specs.Rulebook.{Theory, DeclarationWord, sortWord, ctorWord, predWord, ruleWord, otherDeclaration, declarationWord, declare, oneMember, twoMembers, threeMembers}
 use Rattle.horn.proofs.Equality.{named-decides}
 use Rattle.sexp.specs.Flattening.{size}
 use Rattle.outcomes.specs.Outcomes.{pick}
@@ -21,12 +21,12 @@ use Rattle.theory.specs.declared.Form.the-variants.{Sort, Constructor, Predicat
 use Rattle.theory_laws.proofs.Lookups.{same-named}
 
 -- What a form and a keyword say of what follows the head.
-pub data Formed (name : Name) : Sexps → Form → Keyword → Type 0 where
+pub data Formed (name : Name) : Sexps → Form → DeclarationWord → Type 0 where
   is-sort : {x : Sexp} → length name ≡ 4 → Formed name (x ∷ₛ []ₛ) Sort sortWord
   is-constructor : {x y z : Sexp} → length name ≡ 4 → Formed name (x ∷ₛ y ∷ₛ z ∷ₛ []ₛ) Constructor ctorWord
   is-predicate : {x y : Sexp} → length name ≡ 4 → Formed name (x ∷ₛ y ∷ₛ []ₛ) Predicate predWord
   is-rule : {x y z : Sexp} → length name ≡ 4 → Formed name (x ∷ₛ y ∷ₛ z ∷ₛ []ₛ) Rule ruleWord
-  is-other : {xs : Sexps} {k : Keyword} → ((th : Theory) → declare th k xs ≡ refused form) → Formed name xs Other k
+  is-other : {xs : Sexps} {k : DeclarationWord} → ((th : Theory) → declare th k xs ≡ refused form) → Formed name xs Other k
 
 module _ (name : Name) (four : length name ≡ 4) where
   sort-shape : (xs : Sexps) → Formed name xs (sized (eqb (suc (size xs)) 2) Sort) sortWord
@@ -71,7 +71,7 @@ by-tests : (name : Name) (xs : Sexps) (a b c d : Bool) → (a ≡ true → lengt
     (λ _. pick d (λ _. sized (eqb (suc (size xs)) 4) Rule) (λ _. Other)))))
     (elim a [
       | true ↦ sortWord
-      | false ↦ elim b [ true ↦ ctorWord | false ↦ elim c [ true ↦ predWord | false ↦ elim d [ true ↦ ruleWord | false ↦ otherWord ] ] ]
+      | false ↦ elim b [ true ↦ ctorWord | false ↦ elim c [ true ↦ predWord | false ↦ elim d [ true ↦ ruleWord | false ↦ otherDeclaration ] ] ]
     ])
 unfolding declare
 by-tests name xs true b c d p q r s = sort-shape name (p refl) xs
@@ -80,8 +80,8 @@ by-tests name xs false false true d p q r s = predicate-shape name (r refl) xs
 by-tests name xs false false false true p q r s = rule-shape name (s refl) xs
 by-tests name xs false false false false p q r s = is-other (λ th. refl)
 
-pub formed : (name : Name) (xs : Sexps) → Formed name xs (formNamed name (suc (size xs))) (keyword name)
-unfolding formNamed keyword codes
+pub formed : (name : Name) (xs : Sexps) → Formed name xs (formNamed name (suc (size xs))) (declarationWord name)
+unfolding formNamed declarationWord codes
 formed name xs =
     rw (same-named name walk.sortWord, same-named name walk.ctorWord, same-named name walk.predWord, same-named name walk.ruleWord)
     (by-tests name xs (named name (codes "sort")) (named name (codes "ctor")) (named name (codes "pred")) (named name (codes "rule"))

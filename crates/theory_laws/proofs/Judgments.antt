@@ -40,7 +40,7 @@ module _ (text counted : List ℕ) (Before : Reader → Stream Token → Type 0)
   InsideLaw xs =
       (ts : Stream Token) (ks : List ℕ) (vs : List Variable) (w : Walk) (vars heap : List ℕ)
       → Was 0 (flatOne (list xs) ts) (countsOne (list xs) ks) vs w vars heap
-      → Simulates (Left ts ks vs (w .top) heap) (walk.judgment text counted w vars heap) (definition.judgmentOf th xs vs)
+      → Simulates (Left ts ks vs (w .top) heap) (walk.judgment text counted w vars heap) (definition.judgmentMembers th xs vs)
 
   pub list-due : {k : ℕ} {ts : Stream Token} {ks : List ℕ} {w : Walk} (m : ListMet text counted Before reads k ts ks w)
       → listDue text counted w ≡ outcomes.ok (k, openedOne w (m .next))
@@ -53,17 +53,17 @@ module _ (text counted : List ℕ) (Before : Reader → Stream Token → Type 0)
   atom-due m = rw (m .met)
 
   inside-none : InsideLaw []ₛ
-  unfolding walk.judgment definition.judgmentOf flatOne countsOne size headDue number
+  unfolding walk.judgment definition.judgmentMembers flatOne countsOne size headDue number
   inside-none ts ks vs w vars heap r = rw (list-due (list-met text counted Before reads (r .walks))) (refuse refl)
 
   inside-list : (ys xs : Sexps) → InsideLaw (list ys ∷ₛ xs)
-  unfolding walk.judgment definition.judgmentOf definition.atomDue flatOne countsOne size number _>>=_
+  unfolding walk.judgment definition.judgmentMembers definition.atomDue flatOne countsOne size number _>>=_
   inside-list ys xs ts ks vs w vars heap r =
       let m = list-met text counted Before reads (r .walks) in
       rw (list-due m, head-list text counted Before reads short th es base spare (size xs) (list-met text counted Before reads (m .walks))) (refuse refl)
 
   inside-atom : (name : Name) (xs : Sexps) → ArgumentsLaw text counted Before reads short th es base spare 257 xs → InsideLaw (leaf name ∷ₛ xs)
-  unfolding walk.judgment walk.arguments definition.judgmentOf definition.predicate definition.atomDue flatOne countsOne size number _>>=_
+  unfolding walk.judgment walk.arguments definition.judgmentMembers definition.predicate definition.atomDue flatOne countsOne size number _>>=_
   inside-atom name xs law ts ks vs w vars heap r =
       rw (list-due met, head-met text counted Before reads short th es base spare (size xs) head)
       (checked-aside vars (definition.predicate th name) (λ c. fits c judgment (count xs)) sortArity _ _

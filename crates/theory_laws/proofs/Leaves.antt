@@ -39,12 +39,12 @@ use Rattle.theory_laws.proofs.Lookups.{named-turned, part-question, par
 
 -- An atom as a term, by its first byte.
 question-pattern : (th : Theory) (name s : Name) (vs : List Variable) → questioned name ≡ true
-    → definition.pattern th (leaf name) s vs ≡ definition.schematic name s vs
+    → definition.pattern th (leaf name) s vs ≡ definition.variablePattern name s vs
 unfolding definition.pattern
 question-pattern th name s vs k = chose-true _ _ k
 
 plain-pattern : (th : Theory) (name s : Name) (vs : List Variable) → questioned name ≡ false
-    → definition.pattern th (leaf name) s vs ≡ definition.constant th name s vs
+    → definition.pattern th (leaf name) s vs ≡ definition.constantPattern th name s vs
 unfolding definition.pattern
 plain-pattern th name s vs k = chose-false _ _ k
 
@@ -212,8 +212,8 @@ module _ (text counts : List ℕ) (Before : Reader → Stream Token → Type 0) 
       → t ≤ length text
       → questioned name ≡ true
       → SortAt es a sortName
-      → Simulates (Left ts ks vs (w .top) heap) (walk.schematic text s t a w vars heap) (definition.schematic name sortName vs)
-  unfolding walk.schematic definition.schematic number position
+      → Simulates (Left ts ks vs (w .top) heap) (walk.schematic text s t a w vars heap) (definition.variablePattern name sortName vs)
+  unfolding walk.schematic definition.variablePattern number position
   schematic-law {vs} {w} {vars} name sortName s t a short r p l u q m =
       let n : length name ≡ t - s = ap length (sym p) ∙ part-length s t text u in
       let b = bare-width name (t - s) q n in
@@ -280,8 +280,8 @@ module _ (text counts : List ℕ) (Before : Reader → Stream Token → Type 0) 
       → Was 3 ts ks vs w vars heap
       → part s t text ≡ name
       → SortAt es a sortName
-      → Simulates (Left ts ks vs (w .top) heap) (beside vars (walk.constant text s t a w heap)) (definition.constant th name sortName vs)
-  unfolding walk.constant definition.constant definition.constructor
+      → Simulates (Left ts ks vs (w .top) heap) (beside vars (walk.constant text s t a w heap)) (definition.constantPattern th name sortName vs)
+  unfolding walk.constant definition.constantPattern definition.constructor
   constant-law {ts} {ks} {vs} {w} {vars} {heap} name sortName s t a r p m =
       aside {Q = λ q heap″ y. Left ts ks vs (w .top) heap q (vars, heap″) y} vars
       (checked _ (λ c. fits c (sort sortName) 0) sortArity _ (λ c. ok (app c []ₚ, vs))

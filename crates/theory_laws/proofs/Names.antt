@@ -8,7 +8,7 @@ use native.Mathlib.Omega.{arith}
 use lib.ListN.{length, set}
 use lib.Seq.{getD-set-same}
 use Rattle.horn.specs.Refusals.{number, ok, need, _>>=_, unknown}
-use Rattle.horn.specs.Names.{Name, named, questioned, some-of}
+use Rattle.horn.specs.Names.{Name, named, questioned, someOf}
 use Rattle.horn.specs.Tokens.{Stream, _▹_, Token, closing}
 use Rattle.horn.specs.NestedLists.{Sexp, leaf, list, Sexps, []ₛ, _∷ₛ_}
 use Rattle.horn.specs.Rulebook as definition
@@ -72,7 +72,7 @@ module _ (text counted : List ℕ) (Before : Reader → Stream Token → Type 0)
     sort-found name {o = some a} {b = false} e k f q = absurd (true≢false e)
 
     sort-behind : (x : Sexp) {ts : Stream Token} {ks : List ℕ} {w : Walk} (b : ℕ × ℕ × Walk) (name : Name) → NameRead x ts ks w b name
-        → Answers (SortRead es x ts ks w) (sortFrom text heap b) (need (some-of (named name) (th .sorts)) unknown >>= λ _. ok name)
+        → Answers (SortRead es x ts ks w) (sortFrom text heap b) (need (someOf (named name) (th .sorts)) unknown >>= λ _. ok name)
     unfolding sortFrom
     sort-behind x {ts} {ks} {w} b name (name-read {s} {t} {next} p l u z k) =
         let n : length name ≡ t - s = ap length (sym p) ∙ part-length s t text u in

@@ -9,7 +9,7 @@ use native.Mathlib.Omega.{arith}
 use borrow.Author.Tests.{not-true}
 use lib.ListN.{length}
 use Rattle.horn.specs.Refusals.{number, ok, need, _>>=_, duplicate}
-use Rattle.horn.specs.Names.{Name, questioned, some-of}
+use Rattle.horn.specs.Names.{Name, questioned, someOf}
 use Rattle.horn.specs.Tokens.{Stream, _▹_, Token, closing}
 use Rattle.horn.specs.NestedLists.{Sexp, leaf, list, Sexps, []ₛ, _∷ₛ_}
 use Rattle.horn.specs.Rulebook as definition
@@ -170,7 +170,7 @@ module _ (text counted : List ℕ) (Before : Reader → Stream Token → Type 0)
         → BodyRead base (spared n) (closing ▹ ts) ks heap b areas (paired p c)
         → NameJudged n st name
         → Simulates (StoodWith ts ks) (beside (areas .0) (ruleEntered text base (st .0) (st .1) (b .0) (b .1) (b .2) (areas .0) (areas .1)))
-        (need (not (some-of (isRule name) (th .rules))) duplicate >>= λ _.
+        (need (not (someOf (isRule name) (th .rules))) duplicate >>= λ _.
         ok record { sorts = th .sorts; symbols = th .symbols; rules = th .rules ++ (rule name (c .1) (p .0) (c .0) ∷ []) })
     unfolding ruleEntered entered variablesStored number weight
     rule-entered {base} {ts} {ks} {heap} b areas p c st name h (body-read {n} {q} mid many r keeps premises conclusion) (name-judged {s} {t} e l u paid) =
@@ -220,7 +220,7 @@ module _ (text counted : List ℕ) (Before : Reader → Stream Token → Type 0)
         rw (
           k .met,
           ← three-on {D = Theory} (definition.listDue js) (λ xs. definition.judgmentPatterns th xs []) (λ p. definition.judgmentPattern th j (p .1))
-              (λ p c. definition.declaredName n >>= λ name. need (not (some-of (isRule name) (th .rules))) duplicate >>= λ _.
+              (λ p c. definition.declaredName n >>= λ name. need (not (someOf (isRule name) (th .rules))) duplicate >>= λ _.
               ok record { sorts = th .sorts; symbols = th .symbols; rules = th .rules ++ (rule name (c .1) (p .0) (c .0) ∷ []) }),
         )
         (bind _ _

@@ -6,7 +6,7 @@ use Prim.Native.Nat.{ℕ, zero, suc, _+_, _*_, _≤_, _<_}
 use native.Mathlib.Omega.{arith}
 use lib.ListN.{length, getD, set, length-set}
 use lib.Seq.{getD-set-same, getD-set-other}
-use Rattle.horn.specs.Names.{Name, some-of}
+use Rattle.horn.specs.Names.{Name, someOf}
 use Rattle.horn.specs.Rulebook.{Variable, Pattern, rule, Theory, isRule}
 use Rattle.words.specs.Parts.{part}
 use Rattle.names.specs.Chains.{added}
@@ -188,7 +188,7 @@ module _ (text heap middle vars : List ℕ) (es : Entries) (th : Theory) (e top 
         high = omega arith;
       }
 
-  pub rule-added : some-of (isRule name) (th .rules) ≡ false
+  pub rule-added : someOf (isRule name) (th .rules) ≡ false
       → Holds text rule-words (withRule es (entry e name)) (top + 3 * v)
       record { sorts = th .sorts; symbols = th .symbols; rules = th .rules ++ (rule name vs premises conclusion ∷ []) }
   unfolding isRule

@@ -9,7 +9,7 @@ use native.Mathlib.Omega.{arith}
 use borrow.Author.Tests.{not-true}
 use lib.ListN.{length}
 use Rattle.horn.specs.Refusals.{number, ok, need, _>>=_, duplicate}
-use Rattle.horn.specs.Names.{Name, named, some-of}
+use Rattle.horn.specs.Names.{Name, named, someOf}
 use Rattle.horn.specs.Tokens.{Stream, _▹_, Token, closing}
 use Rattle.horn.specs.NestedLists.{Sexp, leaf, list}
 use Rattle.horn.specs.Rulebook as definition
@@ -42,7 +42,7 @@ use Rattle.theory_laws.proofs.SymbolsAdded.{withConstructor, withPredic
 pub new-test : {text heap : List ℕ} {top buckets : ℕ} {entries : List Entry} {A : Type 0} {test : Name → A → Bool} {Means : ℕ → A → Type 0} {things : List A}
     (name : Name)
     → Declares text heap top buckets entries test Means things
-    → isNew (found heap buckets 256 text name) ≡ not (some-of (test name) things)
+    → isNew (found heap buckets 256 text name) ≡ not (someOf (test name) things)
 new-test {text} {heap} {buckets} {test} {Means} name d =
     absent (found heap buckets 256 text name) ∙ ap not (find-present test Means name (d .table) (d .stands)) where
       absent : (o : Option ℕ) → isNew o ≡ not (present o)
@@ -68,7 +68,7 @@ module _ (text counted : List ℕ) (Before : Reader → Stream Token → Type 0)
       → part s t text ≡ name
       → s < 4294967296
       → t < 4294967296
-      → some-of (named name) (th .sorts) ≡ false
+      → someOf (named name) (th .sorts) ≡ false
       → Holds text (added heap 0 256 top text s t) (withSort es (entry top name)) (top + 3)
       record { sorts = th .sorts ++ (name ∷ []); symbols = th .symbols; rules = th .rules }
   sort-added {heap} {es} {top} {th} name s t h low fits p small-start small-end new =
@@ -101,7 +101,7 @@ module _ (text counted : List ℕ) (Before : Reader → Stream Token → Type 0)
       → NameRead text counted Before reads n (closing ▹ ts) ks w b name
       → Simulates (Stood ts ks)
       (leaving._>>=_ (entered text 0 (w .top) (b .0) (b .1) (b .2) heap) (λ (q, heap). closingDue text (reserved q 3) leaving heap))
-      (need (not (some-of (named name) (th .sorts))) duplicate >>= λ _. ok record { sorts = th .sorts ++ (name ∷ []); symbols = th .symbols; rules = th .rules })
+      (need (not (someOf (named name) (th .sorts))) duplicate >>= λ _. ok record { sorts = th .sorts ++ (name ∷ []); symbols = th .symbols; rules = th .rules })
   unfolding entered reserved number weight
   sort-behind {th} {es} n {ts} {ks} {w} {heap} b name r (name-read {s} {t} {next} p l u z k) =
       let c = r .room in
@@ -196,19 +196,19 @@ module _ (text counted : List ℕ) (Before : Reader → Stream Token → Type 0)
         → Simulates (Stood ts ks)
         (leaving._>>=_ (sortNamed text counted heap′ (b .3) leaving heap′)
         (λ ((a, q), heap). symbolEntered text 256 base (b .0) (b .1) a (b .2) q heap))
-        (definition.sortNamed th o >>= λ out. need (not (some-of (isConstructor name) (th .symbols))) duplicate >>= λ _. ok (withSymbol th (symbol name ins (sort out))))
+        (definition.sortNamed th o >>= λ out. need (not (someOf (isConstructor name) (th .symbols))) duplicate >>= λ _. ok (withSymbol th (symbol name ins (sort out))))
     output-behind o {ts} {ks} {base} {heap} b heap′ name ins h (signature-read {s} {t} {n} {q} p l u k) =
         pure _ _ (sort-named text counted Before reads (k .ready .holds) o (k .ready .walks)) (λ x out y. one x out y) where
           one : (x : ℕ × Walk) (out : Name) → SortRead text counted Before reads es o (closing ▹ ts) ks q x out
               → Simulates (Stood ts ks) (symbolEntered text 256 base s t (x .0) n (x .1) heap′)
-              (need (not (some-of (isConstructor name) (th .symbols))) duplicate >>= λ _. ok (withSymbol th (symbol name ins (sort out))))
+              (need (not (someOf (isConstructor name) (th .symbols))) duplicate >>= λ _. ok (withSymbol th (symbol name ins (sort out))))
           one x out (sort-read {a} {next} m paid g) =
               let c = k .ready .room in
               let v = k .ready .above in
               let j = k .ready .base-low in
               let i = k .words in
               symbol-entered {th′ = withSymbol th (symbol name ins (sort out))} {es′ = withConstructor es (entry base name)} {base = base}
-              256 s t a n (some-of (isConstructor name) (th .symbols))
+              256 s t a n (someOf (isConstructor name) (th .symbols))
               record { walks = g; holds = k .ready .holds; above = v; base-low = j; room = omega arith }
               (rw p (new-test name (k .ready .holds .constructors)))
               (λ new.
@@ -221,7 +221,7 @@ module _ (text counted : List ℕ) (Before : Reader → Stream Token → Type 0)
     unfolding constructorDeclared definition.declareConstructor
     constructor-law x is o {ts} {ks} {w} {heap} r =
         rw (← three (definition.declaredName x) (definition.listDue is) (definition.sortsNamed th)
-        (λ name ins. definition.sortNamed th o >>= λ out. need (not (some-of (isConstructor name) (th .symbols))) duplicate >>= λ _. ok (withSymbol th (symbol name ins (sort out)))))
+        (λ name ins. definition.sortNamed th o >>= λ out. need (not (someOf (isConstructor name) (th .symbols))) duplicate >>= λ _. ok (withSymbol th (symbol name ins (sort out)))))
         (bind _ _ (signature-law x is r) (λ b heap′ y k. output-behind o b heap′ (y .0) (y .1) (r .holds) k))
 
     pub predicate-law : (x is : Sexp) {ts : Stream Token} {ks : List ℕ} {w : Walk} {heap : List ℕ}
@@ -230,18 +230,18 @@ module _ (text counted : List ℕ) (Before : Reader → Stream Token → Type 0)
     unfolding predicateDeclared definition.declarePredicate
     predicate-law x is {ts} {ks} {w} {heap} r =
         rw (← three (definition.declaredName x) (definition.listDue is) (definition.sortsNamed th)
-        (λ name ins. need (not (some-of (isPredicate name) (th .symbols))) duplicate >>= λ _. ok (withSymbol th (symbol name ins judgment))))
+        (λ name ins. need (not (someOf (isPredicate name) (th .symbols))) duplicate >>= λ _. ok (withSymbol th (symbol name ins judgment))))
         (bind _ _ (signature-law x is r) (λ b heap′ y k. one b heap′ (y .0) (y .1) k)) where
           one : (b : ℕ × ℕ × ℕ × Walk) (heap′ : List ℕ) (name : Name) (ins : List Name)
               → SignatureRead th es (w .top) (closing ▹ ts) ks heap b heap′ (paired name ins)
               → Simulates (Stood ts ks) (symbolEntered text 512 (w .top) (b .0) (b .1) 0 (b .2) (b .3) heap′)
-              (need (not (some-of (isPredicate name) (th .symbols))) duplicate >>= λ _. ok (withSymbol th (symbol name ins judgment)))
+              (need (not (someOf (isPredicate name) (th .symbols))) duplicate >>= λ _. ok (withSymbol th (symbol name ins judgment)))
           one b heap′ name ins (signature-read {s} {t} {n} {q} p l u k) =
               let c = k .ready .room in
               let j = k .ready .base-low in
               let i = k .words in
               symbol-entered {th′ = withSymbol th (symbol name ins judgment)} {es′ = withPredicate es (entry (w .top) name)} {base = w .top}
-              512 s t 0 n (some-of (isPredicate name) (th .symbols))
+              512 s t 0 n (someOf (isPredicate name) (th .symbols))
               (k .ready)
               (rw p (new-test name (k .ready .holds .predicates)))
               (λ new.

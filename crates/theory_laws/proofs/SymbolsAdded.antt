@@ -6,7 +6,7 @@ use Prim.Native.Nat.{ℕ, _+_, _≤_, _<_}
 use native.Mathlib.Omega.{arith}
 use lib.ListN.{length, getD, set, length-set}
 use lib.Seq.{getD-set-same, getD-set-other}
-use Rattle.horn.specs.Names.{Name, some-of}
+use Rattle.horn.specs.Names.{Name, someOf}
 use Rattle.horn.specs.Rulebook.{Output, sort, judgment, symbol, Theory, isConstructor, isPredicate, withSymbol}
 use Rattle.words.specs.Parts.{part}
 use Rattle.names.specs.Chains.{added}
@@ -88,7 +88,7 @@ module _ (text heap middle : List ℕ) (es : Entries) (th : Theory) (e top s t a
     long-after : length (described e a n (added middle b 256 e text s t)) ≡ 16384
     long-after = length-described (added middle b 256 e text s t) e a n ∙ length-added middle b 256 e text s t ∙ keeps .same-length ∙ h .long
 
-  pub constructor-added : (o : Name) → SortAt es a o → some-of (isConstructor name) (th .symbols) ≡ false
+  pub constructor-added : (o : Name) → SortAt es a o → someOf (isConstructor name) (th .symbols) ≡ false
       → Holds text (described e a n (added middle 256 256 e text s t)) (withConstructor es (entry e name)) top (withSymbol th (symbol name ins (sort o)))
   unfolding withSymbol isConstructor isPredicate tableOf
   constructor-added o m new =
@@ -106,7 +106,7 @@ module _ (text heap middle : List ℕ) (es : Entries) (th : Theory) (e top s t a
         rules = others k top (omega arith) (λ d c y. rule-kept g (adds-kept k) (omega arith) y) 768 (omega arith) (λ i x y z v. omega arith) (h .rules);
       }
 
-  pub predicate-added : a ≡ 0 → some-of (isPredicate name) (th .symbols) ≡ false
+  pub predicate-added : a ≡ 0 → someOf (isPredicate name) (th .symbols) ≡ false
       → Holds text (described e a n (added middle 512 256 e text s t)) (withPredicate es (entry e name)) top (withSymbol th (symbol name ins judgment))
   unfolding withSymbol isConstructor isPredicate tableOf
   predicate-added zero-word new =

@@ -10,7 +10,7 @@ use Rattle.horn.specs.NestedLists.{Sexp}
 use Rattle.horn.specs.Rulebook as definition
 use Rattle.horn.specs.Rulebook.{sort, judgment, Symbol, symbol, Rule, Theory, withSymbol, emptyTheory}
 use Rattle.horn.specs.Calls.{constructorCount, predicateCount}
-use Rattle.horn.proofs.Inversion.{afterᵣ, afterNeedᵣ, ok-equal}
+use Rattle.horn.proofs.Inversion.{afterᵣ, after-needᵣ, ok-equal}
 use Rattle.theory.specs.Declarations.{counted, noCounts}
 use Rattle.theory.specs.declared.Counts.{Counts}
 use Rattle.theory.specs.declared.Form.{Form}
@@ -91,7 +91,7 @@ module _ (th : Theory) {next : Theory} where
   unfolding definition.declareSort oneMore
   sort-tally n e =
       afterᵣ _ e λ name e₁ e₂.
-      afterNeedᵣ _ _ _ e₂ λ p e₃.
+      after-needᵣ _ _ _ e₂ λ p e₃.
       rw (← ok-equal e₃, length-append (th .sorts) (name ∷ []))
 
   pub constructor-tally : (n is o : Sexp) → definition.declareConstructor th n is o ≡ ok next → tally next ≡ oneMore (tally th) forms.Constructor
@@ -101,7 +101,7 @@ module _ (th : Theory) {next : Theory} where
       afterᵣ _ e₂ λ xs e₃ e₄.
       afterᵣ _ e₄ λ ins e₅ e₆.
       afterᵣ _ e₆ λ out e₇ e₈.
-      afterNeedᵣ _ _ _ e₈ λ p e₉.
+      after-needᵣ _ _ _ e₈ λ p e₉.
       rw (← ok-equal e₉, constructors-more name ins out (th .symbols), predicates-same name ins out (th .symbols))
 
   pub predicate-tally : (n is : Sexp) → definition.declarePredicate th n is ≡ ok next → tally next ≡ oneMore (tally th) forms.Predicate
@@ -110,7 +110,7 @@ module _ (th : Theory) {next : Theory} where
       afterᵣ _ e λ name e₁ e₂.
       afterᵣ _ e₂ λ xs e₃ e₄.
       afterᵣ _ e₄ λ ins e₅ e₆.
-      afterNeedᵣ _ _ _ e₆ λ p e₇.
+      after-needᵣ _ _ _ e₆ λ p e₇.
       rw (← ok-equal e₇, constructors-same name ins (th .symbols), predicates-more name ins (th .symbols))
 
   pub rule-tally : (n js j : Sexp) → definition.declareRule th n js j ≡ ok next → tally next ≡ oneMore (tally th) forms.Rule
@@ -120,5 +120,5 @@ module _ (th : Theory) {next : Theory} where
       afterᵣ _ e₂ λ q e₃ e₄.
       afterᵣ _ e₄ λ r e₅ e₆.
       afterᵣ _ e₆ λ name e₇ e₈.
-      afterNeedᵣ _ _ _ e₈ λ p e₉.
+      after-needᵣ _ _ _ e₈ λ p e₉.
       rw (← ok-equal e₉, length-append (th .rules) (_ ∷ []))

@@ -40,7 +40,7 @@ use Rattle.theory_laws.proofs.Depth.{whole-shallow}
 use Rattle.theory_laws.proofs.Tallies.{tally, none-counted, none-total}
 use Rattle.theory_laws.proofs.Declarations.{Accepted, declarations-law, size-longer}
 use Rattle.theory_laws.proofs.Readers.{reads}
-use Rattle.horn.proofs.Refusing.{Judges, judges-refused, judging-number, judges-declarations}
+use Rattle.horn.proofs.Refusing.{Judges, refuses, judging-number, judges-declarations}
 
 length-cleared : (n : ℕ) (s : List ℕ) → length (cleared n s) ≡ length s
 unfolding cleared
@@ -172,7 +172,7 @@ report-law text vars member-counts heap short long-vars long-counts long = repor
 refuses-judging : {S A B : Type 0} {Q : A → S → B → Type 0} {m : Did S A} {m′ : Result B} → Simulates Q m m′ → Judges m′ → {n : ℕ} {s : S}
     → m ≡ (outcomes.refused n leaving s)
     → (7 ≤ n) × (n ≡ 10 → ⊥)
-refuses-judging (refuse {n = k} e) (judges-refused r j) {n} f =
+refuses-judging (refuse {n = k} e) (refuses r j) {n} f =
     let q : n ≡ number r = (let z : n ≡ k = cc in z ∙ e) in rw q (judging-number j)
 refuses-judging (leave q) j f = let z : _≡_ {A = ℕ} 0 1 = cc in absurd (omega arith)
 
