@@ -4,10 +4,11 @@
 ghost use mathlib.Core.Path.{_≡_};
 ghost use Prim.Native.Nat.{_+_};
 ghost use lib.ListN.{length};
+ghost use Rattle.asking.specs.Asking as asked;
 ghost use Rattle.asking.specs.Asking.{looked};
 ghost use Rattle.outcomes.specs.Leaving.{_leaving_};
 ghost use Rattle.terms.specs.Terms.{arguments};
-ghost use Rattle.terms.specs.Levels.{given, begins, argues, readerIn, lookFor, begun, argument};
+ghost use Rattle.terms.specs.Levels.{given, begins, argues, readerIn, lookFor, begunAt, begun, argument};
 use crate::Argument;
 use crate::Begun;
 use crate::Number;
@@ -36,34 +37,34 @@ pub fn lend(reader: Reader) -> [usize; 5]
     }
 }
 
-pub fn reader_in(lent: &[usize; 5]) -> Reader
-    ensures { λ r. ⌜ r ≡ readerIn (now (lent .entry)) ⌝ }
+pub fn reader_in(r: &[usize; 5]) -> Reader
+    ensures { λ a. ⌜ a ≡ readerIn (now (r .entry)) ⌝ }
 {
-    let at = lent[0];
-    let end = lent[1];
-    if lent[2] == 0 {
+    let at = r[0];
+    let end = r[1];
+    if r[2] == 0 {
         return Reader {
             at: at,
             end: end,
             ahead: Ahead::Nothing,
         };
     }
-    if lent[2] == 1 {
+    if r[2] == 1 {
         return Reader {
             at: at,
             end: end,
             ahead: Ahead::Held(Token::Opening),
         };
     }
-    if lent[2] == 2 {
+    if r[2] == 2 {
         return Reader {
             at: at,
             end: end,
             ahead: Ahead::Held(Token::Closing),
         };
     }
-    let s = lent[3];
-    let t = lent[4];
+    let s = r[3];
+    let t = r[4];
     Reader {
         at: at,
         end: end,
@@ -82,6 +83,46 @@ pub fn look(text: &[u8], member: bool, reader: Reader) -> Look
 }
 
 // A term, up to its arguments if it has any.
+pub fn item(
+    text: &[u8],
+    rules: &[u8],
+    heap: &[u32],
+    table: &[u32],
+    store: &mut [u32],
+    stack: &mut [u32],
+    r: &mut [usize; 5],
+    top: u32,
+    left: u32,
+    reader: Reader,
+) -> Begun
+    ensures { λ b. ⌜ (begins b (readerIn (now (r .exit))) leaving (now (store .exit), now (stack .exit))) ≡ begunAt left (now (text .entry)) (now (rules .entry)) (now (heap .entry)) (now (table .entry)) top (asked.member reader) (now (store .entry)) (now (stack .entry)) ⌝ }
+{
+    if left == 0 {
+        return Begun::Refused(4);
+    }
+    let i = asking::item_due(text, left, reader);
+    match i {
+        Item::Refused(m) => Begun::Refused(m),
+        Item::Atom(s, t, p) => {
+            let a = crate::atom_term(text, rules, heap, table, store, stack, top, s, t, p);
+            let Numbered::Got(k, o) = a else {
+                return Begun::Refused(crate::numbered_refusal(a));
+            };
+            *r = lend(o);
+            Begun::Whole(k)
+        }
+        Item::List(p) => {
+            let h = crate::head(text, rules, heap, left - 1, p);
+            let Numbered::Got(c, o) = h else {
+                return Begun::Refused(crate::numbered_refusal(h));
+            };
+            *r = lend(o);
+            Begun::Opened(c)
+        }
+    }
+}
+
+// The same, or as a member of a list the closing that is next instead.
 pub fn begin(
     text: &[u8],
     rules: &[u8],
@@ -89,49 +130,21 @@ pub fn begin(
     table: &[u32],
     store: &mut [u32],
     stack: &mut [u32],
-    lent: &mut [usize; 5],
+    r: &mut [usize; 5],
     top: u32,
     left: u32,
     member: bool,
 ) -> Begun
-    ensures { λ r. ⌜ (begins r (readerIn (now (lent .exit))) leaving (now (store .exit), now (stack .exit))) ≡ begun member left (now (text .entry)) (now (rules .entry)) (now (heap .entry)) (now (table .entry)) top (readerIn (now (lent .entry))) (now (store .entry)) (now (stack .entry)) ⌝ }
+    ensures { λ b. ⌜ (begins b (readerIn (now (r .exit))) leaving (now (store .exit), now (stack .exit))) ≡ begun member left (now (text .entry)) (now (rules .entry)) (now (heap .entry)) (now (table .entry)) top (readerIn (now (r .entry))) (now (store .entry)) (now (stack .entry)) ⌝ }
 {
-    let next = look(text, member, reader_in(lent));
+    let next = look(text, member, reader_in(r));
     match next {
         Look::Refused(m) => Begun::Refused(m),
         Look::Closing(q) => {
-            *lent = lend(q);
+            *r = lend(q);
             Begun::Closing
         }
-        Look::Member(q) => {
-            if left == 0 {
-                return Begun::Refused(4);
-            }
-            let i = asking::item_due(text, left, q);
-            match i {
-                Item::Refused(m) => Begun::Refused(m),
-                Item::Atom(s, t, p) => {
-                    let a = crate::atom_term(text, rules, heap, table, store, stack, top, s, t, p);
-                    match a {
-                        Numbered::Refused(m) => Begun::Refused(m),
-                        Numbered::Got(k, o) => {
-                            *lent = lend(o);
-                            Begun::Whole(k)
-                        }
-                    }
-                }
-                Item::List(p) => {
-                    let h = crate::head(text, rules, heap, left - 1, p);
-                    match h {
-                        Numbered::Refused(m) => Begun::Refused(m),
-                        Numbered::Got(c, o) => {
-                            *lent = lend(o);
-                            Begun::Opened(c)
-                        }
-                    }
-                }
-            }
-        }
+        Look::Member(q) => item(text, rules, heap, table, store, stack, r, top, left, q),
     }
 }
 
@@ -144,44 +157,22 @@ pub fn term(
     table: &[u32],
     store: &mut [u32],
     stack: &mut [u32],
-    lent: &mut [usize; 5],
+    r: &mut [usize; 5],
     top: u32,
     left: u32,
-    most: usize,
+    max: usize,
 ) -> Argument
-    requires { ⌜ most ≡ length (now text) + 1 ⌝ }
-    ensures { λ r. ⌜ (argues r (readerIn (now (lent .exit))) leaving (now (store .exit), now (stack .exit))) ≡ argument left (now (text .entry)) (now (rules .entry)) (now (heap .entry)) (now (table .entry)) top (readerIn (now (lent .entry))) (now (store .entry)) (now (stack .entry)) ⌝ }
+    requires { ⌜ max ≡ length (now text) + 1 ⌝ }
+    ensures { λ a. ⌜ (argues a (readerIn (now (r .exit))) leaving (now (store .exit), now (stack .exit))) ≡ argument left (now (text .entry)) (now (rules .entry)) (now (heap .entry)) (now (table .entry)) top (readerIn (now (r .entry))) (now (store .entry)) (now (stack .entry)) ⌝ }
 {
-    let b = begin(
-        text,
-        rules,
-        heap,
-        table,
-        store,
-        stack,
-        lent,
-        top,
-        left,
-        true,
-    );
+    let b = begin(text, rules, heap, table, store, stack, r, top, left, true);
     match b {
         Begun::Refused(m) => Argument::Refused(m),
         Begun::Closing => Argument::Closing,
         Begun::Whole(k) => Argument::Term(k),
         Begun::Opened(c) => {
-            let above = words::plus(top, 1);
-            let a = args(
-                text,
-                rules,
-                heap,
-                table,
-                store,
-                stack,
-                lent,
-                above,
-                left - 1,
-                most,
-            );
+            let up = words::plus(top, 1);
+            let a = args(text, rules, heap, table, store, stack, r, up, left - 1, max);
             match a {
                 Number::Refused(m) => Argument::Refused(m),
                 Number::Is(n) => {
@@ -199,7 +190,7 @@ pub fn term(
     }
 }
 
-// Arguments, asked for until a closing is next, and left on the stack from `top` on. `most` is more than there are.
+// Arguments, asked for until a closing is next, and left on the stack from `top` on. `max` is more than there are.
 pub fn args(
     text: &[u8],
     rules: &[u8],
@@ -207,30 +198,19 @@ pub fn args(
     table: &[u32],
     store: &mut [u32],
     stack: &mut [u32],
-    lent: &mut [usize; 5],
+    r: &mut [usize; 5],
     top: u32,
     left: u32,
-    most: usize,
+    max: usize,
 ) -> Number
-    requires { ⌜ most ≡ length (now text) + 1 ⌝ }
-    ensures { λ r. ⌜ (given r (readerIn (now (lent .exit))) leaving (now (store .exit), now (stack .exit))) ≡ arguments left (now (text .entry)) (now (rules .entry)) (now (heap .entry)) (now (table .entry)) top (readerIn (now (lent .entry))) (now (store .entry)) (now (stack .entry)) ⌝ }
+    requires { ⌜ max ≡ length (now text) + 1 ⌝ }
+    ensures { λ a. ⌜ (given a (readerIn (now (r .exit))) leaving (now (store .exit), now (stack .exit))) ≡ arguments left (now (text .entry)) (now (rules .entry)) (now (heap .entry)) (now (table .entry)) top (readerIn (now (r .entry))) (now (store .entry)) (now (stack .entry)) ⌝ }
 {
     let mut n: u32 = 0;
-    let mut fuel = most;
+    let mut fuel = max;
     while 0 < fuel {
         let place = words::plus(top, n);
-        let a = term(
-            text,
-            rules,
-            heap,
-            table,
-            store,
-            stack,
-            lent,
-            place,
-            left,
-            most,
-        );
+        let a = term(text, rules, heap, table, store, stack, r, place, left, max);
         match a {
             Argument::Refused(m) => return Number::Refused(m),
             Argument::Closing => return Number::Is(n),

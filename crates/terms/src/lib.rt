@@ -226,29 +226,50 @@ pub fn term(
         Begun::Whole(k) => Numbered::Got(k, levels::reader_in(&lent)),
         Begun::Opened(c) => {
             let above = words::plus(top, 1);
-            let most = text.len() + 1;
-            let a = levels::args(
-                text,
-                rules,
-                heap,
-                table,
-                store,
-                stack,
-                &mut lent,
-                above,
-                left - 1,
-                most,
-            );
-            match a {
-                Number::Refused(m) => Numbered::Refused(m),
-                Number::Is(n) => {
-                    if n == 0 {
-                        return Numbered::Refused(16);
-                    }
-                    make(heap, store, stack, c, top, n, levels::reader_in(&lent))
-                }
+            let q = levels::reader_in(&lent);
+            let a = args(text, rules, heap, table, store, stack, above, left - 1, q);
+            let Numbered::Got(n, p) = a else {
+                return Numbered::Refused(numbered_refusal(a));
+            };
+            if n == 0 {
+                return Numbered::Refused(16);
             }
+            make(heap, store, stack, c, top, n, p)
         }
+    }
+}
+
+// The arguments of a term or a judgment, left on the stack from `top` on: how many there are.
+pub fn args(
+    text: &[u8],
+    rules: &[u8],
+    heap: &[u32],
+    table: &[u32],
+    store: &mut [u32],
+    stack: &mut [u32],
+    top: u32,
+    left: u32,
+    reader: Reader,
+) -> Numbered
+    ensures { λ r. ⌜ (numbered r leaving (now (store .exit), now (stack .exit))) ≡ arguments left (now (text .entry)) (now (rules .entry)) (now (heap .entry)) (now (table .entry)) top reader (now (store .entry)) (now (stack .entry)) ⌝ }
+{
+    let mut lent = levels::lend(reader);
+    let max = text.len() + 1;
+    let a = levels::args(
+        text,
+        rules,
+        heap,
+        table,
+        store,
+        stack,
+        &mut lent,
+        top,
+        left,
+        max,
+    );
+    match a {
+        Number::Refused(m) => Numbered::Refused(m),
+        Number::Is(n) => Numbered::Got(n, levels::reader_in(&lent)),
     }
 }
 
@@ -273,24 +294,11 @@ pub fn headed_judgment(
         return Numbered::Refused(numbered_refusal(h));
     };
     let above = words::plus(top, 1);
-    let mut lent = levels::lend(q);
-    let most = text.len() + 1;
-    let a = levels::args(
-        text,
-        rules,
-        heap,
-        table,
-        store,
-        stack,
-        &mut lent,
-        above,
-        left,
-        most,
-    );
-    match a {
-        Number::Refused(m) => Numbered::Refused(m),
-        Number::Is(n) => make(heap, store, stack, c, top, n, levels::reader_in(&lent)),
-    }
+    let a = args(text, rules, heap, table, store, stack, above, left, q);
+    let Numbered::Got(n, p) = a else {
+        return Numbered::Refused(numbered_refusal(a));
+    };
+    make(heap, store, stack, c, top, n, p)
 }
 
 // A judgment, asked for with that much depth left.

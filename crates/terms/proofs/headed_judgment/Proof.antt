@@ -1,7 +1,6 @@
 -- `terms::headed_judgment` meets its contract. Assumes nothing.
-use mathlib.Core.Path.{refl, _∙_}
+use mathlib.Core.Path.{_∙_}
 use Rattle.terms.specs.Terms.{headedJudgment}
-use borrow.Author.Needs.{needs}
 use Rattle.terms.proofs.headed_judgment.Statement.{statement}
 use Rattle.terms.proofs.headed_judgment.Tie as tie
 
@@ -24,26 +23,17 @@ returns c = rw (c .numbered-refusal .ensures, ← c .before .before .before .pre
 plus-requires : tie.Need-plus-requires
 plus-requires c κs = tt
 
-lend-requires : tie.Need-lend-requires
-lend-requires c κs = tt
-
-add-most : tie.Need-add-most
-add-most c = search needs
-
 args-requires : tie.Need-args-requires
-args-requires c κs = refl
+args-requires c κs = tt
 
 enum-known-a : tie.Need-enum-known-a
 enum-known-a c = c .match2 .keys1
 
-enum-known-a-2 : tie.Need-enum-known-a-2
-enum-known-a-2 c = c .match2 .keys2
+enum-told-2 : tie.Need-enum-told-2
+enum-told-2 c = c .match2 .keys2
 
-reader-in-requires : tie.Need-reader-in-requires
-reader-in-requires c κs = tt
-
-make-requires : tie.Need-make-requires
-make-requires c κs = tt
+numbered-refusal-requires-2 : tie.Need-numbered-refusal-requires-2
+numbered-refusal-requires-2 c κs = tt
 
 same-length : tie.Need-same-length
 same-length c = c .before .before .before .before .before .before .store .given
@@ -53,17 +43,20 @@ same-length-2 c = c .before .before .before .before .stack .given
 
 returns-2 : tie.Need-returns-2
 unfolding headedJudgment
-returns-2 c = rw (← c .before .before .before .before .before .before .before .before .before .before .before .before .before .before .before .before .predicate-due .ensures, c .before .before .before .before .before .before .before .before .before .before .before .before .before .before .h .given .1, ← c .before .before .before .before .before .before .before .before .before .before .before .before .plus .ensures, ← c .before .before .before .before .before .before .before .before .before .before .before .lend .ensures, ← c .before .before .before .before .before .before .before .args2 .ensures, c .before .a .given .1)
+returns-2 c = rw (← c .before .before .before .before .before .before .before .before .before .before .before .before .before .before .predicate-due .ensures, c .before .before .before .before .before .before .before .before .before .before .before .before .h .given .1, ← c .before .before .before .before .before .before .before .before .before .before .plus .ensures, ← c .before .before .before .before .before .before .before .args2 .ensures, c .numbered-refusal2 .ensures, c .before .enum-told2 .given .1)
+
+make-requires : tie.Need-make-requires
+make-requires c κs = tt
 
 same-length-3 : tie.Need-same-length-3
-same-length-3 c = c .before .before .before .store2 .given ∙ c .before .before .before .before .before .before .before .before .before .before .before .before .before .before .before .store .given
+same-length-3 c = c .before .before .before .store2 .given ∙ c .before .before .before .before .before .before .before .before .before .before .before .before .before .store .given
 
 same-length-4 : tie.Need-same-length-4
-same-length-4 c = c .before .stack2 .given ∙ c .before .before .before .before .before .before .before .before .before .before .before .before .before .stack .given
+same-length-4 c = c .before .stack2 .given ∙ c .before .before .before .before .before .before .before .before .before .before .before .stack .given
 
 returns-3 : tie.Need-returns-3
 unfolding headedJudgment
-returns-3 c = rw (← c .before .before .before .before .before .before .before .before .before .before .before .before .before .before .before .before .before .before .before .before .before .before .before .before .before .predicate-due .ensures, c .before .before .before .before .before .before .before .before .before .before .before .before .before .before .before .before .before .before .before .before .before .before .before .h .given .1, ← c .before .before .before .before .before .before .before .before .before .before .before .before .before .before .before .before .before .before .before .before .before .plus .ensures, ← c .before .before .before .before .before .before .before .before .before .before .before .before .before .before .before .before .before .before .before .before .lend .ensures, ← c .before .before .before .before .before .before .before .before .before .before .before .before .before .before .before .before .args2 .ensures, c .before .before .before .before .before .before .before .before .before .before .a2 .given .1, ← c .before .before .before .before .before .reader-in .ensures) (c .before .before .before .before .make .ensures)
+returns-3 c = rw (← c .before .before .before .before .before .before .before .before .before .before .before .before .before .before .before .before .before .before .before .before .before .predicate-due .ensures, c .before .before .before .before .before .before .before .before .before .before .before .before .before .before .before .before .before .before .before .h .given .1, ← c .before .before .before .before .before .before .before .before .before .before .before .before .before .before .before .before .before .plus .ensures, ← c .before .before .before .before .before .before .before .before .before .before .before .before .before .before .args2 .ensures, c .before .before .before .before .before .before .before .before .a .given .1) (c .before .before .before .before .make .ensures)
 
 pub headed-judgment-spec : {M : Type 1} → statement M
 headed-judgment-spec =
@@ -75,16 +68,14 @@ headed-judgment-spec =
     numbered-refusal-requires
     returns
     plus-requires
-    lend-requires
-    add-most
     args-requires
     enum-known-a
-    enum-known-a-2
-    reader-in-requires
-    make-requires
+    enum-told-2
+    numbered-refusal-requires-2
     same-length
     same-length-2
     returns-2
+    make-requires
     same-length-3
     same-length-4
     returns-3)
