@@ -4,12 +4,12 @@ use mathlib.Core.Path.{_≡_, refl, ap₂, sym, _∙_}
 use mathlib.Core.Bool.{false, not}
 use mathlib.Core.List.{List, [], _∷_}
 use native.Mathlib.Omega.{arith}
-use borrow.Author.Tests.{eq-eqb, ne-eqb, le-leb, lt-leb}
-use lib.Dec.{eqb, leb}
+use borrow.Author.Tests.{eq-eqb, ne-eqb}
+use lib.Dec.{eqb}
 use lib.ListN.{length, set, length-set}
 use lib.Seq.{getD-set-same}
 use Rattle.horn.specs.Refusals as refusals
-use Rattle.horn.specs.Refusals.{Refusal, Result, number, notUtf8, textEnds, nesting, bracketedConstant}
+use Rattle.horn.specs.Refusals.{Refusal, Result, number, notUtf8, textEnds, bracketedConstant}
 use Rattle.horn.specs.Setting.{document01}
 use Rattle.horn.specs.Names.{Name, isZero}
 use Rattle.horn.specs.Tokens.{Stream, Token}
@@ -18,7 +18,6 @@ use Rattle.horn.specs.Rulebook.{Symbol, Theory, constructor}
 use Rattle.horn.specs.StoredTerms.{Term, Terms, []ₜ, _∷ₜ_, width}
 use Rattle.horn.specs.Checker as definition
 use Rattle.horn.specs.Checker.{Def}
-use Rattle.horn.proofs.Equality.{case}
 use Rattle.lex.specs.declared.Reader.{Reader}
 use Rattle.arena.proofs.Trees.{Below, both, lookups}
 use Rattle.arena.proofs.Trees as trees
@@ -41,25 +40,10 @@ use Rattle.asking_laws.proofs.Asking.{ItemMet, atom-met, list-met, item-law, Wo
 use Rattle.terms.specs.Terms as walk
 use Rattle.theory_reading.specs.Storing.{Areas}
 use Rattle.terms.specs.Terms.{make, constructorDue, headDue, argumentsFrom, termOf}
+pub use Rattle.terms_laws.proofs.Asked.{asked-then, asked-no, asked-yes}
 use Rattle.terms_laws.proofs.Rows.{Row, no-words, one-word}
 use Rattle.terms_laws.proofs.Making.{TermRead, make-law}
 use Rattle.terms_laws.proofs.Atoms.{SymbolMet, symbol-met, constructor-law, atom-law}
-
--- What is asked for, then read.
-pub asked-then : {A B : Type 0} (depth : ℕ) (ts : List Term) (m : Result A) (f : A → Result B) (g : Unit {0} × List Term → Result B)
-    → g (tt, ts) ≡ refusals._>>=_ m f
-    → refusals._>>=_ {A = Unit {0} × List Term} (refusals._>>=_ (askedAt depth) (λ a. refusals.ok (a, ts))) g
-    ≡ refusals._>>=_ (refusals._>>=_ (askedAt depth) (λ _. m)) f
-unfolding askedAt refusals.need refusals._>>=_
-asked-then depth ts m f g e = case (leb depth 256) (λ t. rw t e) (λ t. rw t)
-
-pub asked-no : (depth : ℕ) → depth + 0 ≡ 257 → askedAt depth ≡ refusals.refused nesting
-unfolding askedAt refusals.need
-asked-no depth e = rw (lt-leb depth 256 (omega arith))
-
-pub asked-yes : (left depth : ℕ) → depth + suc left ≡ 257 → askedAt depth ≡ refusals.ok tt
-unfolding askedAt refusals.need
-asked-yes left depth e = rw (le-leb depth 256 (omega arith))
 
 -- The store and the stack before a term is read, which goes on top of the stack: two bytes at least were read for each word on it.
 pub record Ready (es : Entries) (th : Theory) (text : List ℕ) (ts₀ : List Term) (K : Stream Token → Type 0) (top spent : ℕ) (ts : List Term) (r : Reader) (store stack : List ℕ) : Type 0 where
