@@ -21,7 +21,7 @@ use Rattle.horn.specs.Certificate as certificate
 use Rattle.horn.specs.Certificate.{Progress, Given, given, FormWord, stepWord, resultWord, defWord, otherForm}
 use Rattle.horn.proofs.Equality.{case, both, not-true, named-decides}
 use Rattle.horn.proofs.Inversion.{not-ok, ok-equal, afterᵣ, after, given-is, afterₗ, after-need, after-found}
-use Rattle.horn.proofs.SoundnessReading.{absent-not, lift-absent, lift-refused}
+use Rattle.horn.proofs.Inversion.{absent-not, lift-absent, lift-refused}
 use Rattle.capacity.specs.Costs.{wide, isWord, wordFirst, itemCost, itemsCost, gap, atomBytes, itemBytes, itemsBytes}
 use Rattle.capacity.specs.Budgets.{GoalBudget, Budget}
 use Rattle.capacity.proofs.Characters.{wide-some}

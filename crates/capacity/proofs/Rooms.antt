@@ -15,7 +15,7 @@ use Rattle.horn.specs.Checker.{Goal}
 use Rattle.horn.specs.Certificate as certificate
 use Rattle.horn.specs.Certificate.{Progress}
 use Rattle.horn.proofs.Inversion.{after, given-is}
-use Rattle.horn.proofs.SoundnessReading.{lift-refused}
+use Rattle.horn.proofs.Inversion.{lift-refused}
 use Rattle.capacity.specs.Budgets.{GoalBudget, Budget, Roomy}
 use Rattle.capacity.proofs.Shapes.{items-bytes}
 use Rattle.capacity.proofs.Forms.{goal-keeps, certificate-keeps}

@@ -1,20 +1,57 @@
--- "Accepted" and the theory: a rulebook is accepted exactly if it is short enough and gives a theory, and one answer 0, on
--- areas of whatever lengths, is enough for it.
-use Prim.Native.Nat.{ℕ, _≤_}
+-- What acceptance means for the definition. A rulebook is accepted exactly if it is short enough and gives a theory, and one answer 0,
+-- on areas of whatever lengths, is enough for it. A release with number 0 has met a theory, goals and steps on its way.
+use Prim.Native.Nat.{ℕ, _≤_, _<_}
 use mathlib.Core.Path.{_≡_, refl, ap, _∙_}
-use mathlib.Core.List.{List}
+use mathlib.Core.List.{List, []}
 use native.Mathlib.Omega.{arith}
 use lib.ListN.{length}
 use borrow.Author.Tests.{le-leb, leb-true}
-use Rattle.horn.specs.Refusals.{Result, ok, refused}
+use Rattle.horn.specs.Refusals.{Refusal, number, Result, ok, refused}
 use Rattle.horn.specs.Setting.{Setting}
 use Rattle.horn.specs.Rulebook.{Theory, theory}
-use Rattle.horn.specs.Calls.{areasLong, rulebookJudged, rulebookAnswer, rulebookCall}
+use Rattle.horn.specs.StoredTerms.{Store}
+use Rattle.horn.specs.Checker.{Goal, goalsOf}
+use Rattle.horn.specs.Matching.{Step}
+use Rattle.horn.specs.Certificate.{certificateOf}
+use Rattle.horn.specs.Calls.{areasLong, rulebookJudged, rulebookAnswer, rulebookCall, Report, report, releaseJudged, releaseAnswer, releaseCall}
 use Rattle.horn.specs.Forced.{LongEnough, Accepted}
-use Rattle.horn.proofs.Inversion.{afterᵣ, afterNeedᵣ, onᵣ, need-on}
-use Rattle.horn.proofs.Limits.{number-positive}
+use Rattle.horn.proofs.Inversion.{ok-equal, afterᵣ, after-needᵣ, onᵣ, need-on}
 
--- It is short enough, and this is its theory.
+-- No refusal has the number of acceptance.
+pub number-positive : (r : Refusal) → 0 < number r
+unfolding number
+number-positive Refusal.areaShort = omega arith
+number-positive Refusal.textLong = omega arith
+number-positive Refusal.notUtf8 = omega arith
+number-positive Refusal.nesting = omega arith
+number-positive Refusal.textEnds = omega arith
+number-positive Refusal.strayClosing = omega arith
+number-positive Refusal.atomOrList = omega arith
+number-positive Refusal.emptyList = omega arith
+number-positive Refusal.form = omega arith
+number-positive Refusal.excess = omega arith
+number-positive Refusal.variableName = omega arith
+number-positive Refusal.unknown = omega arith
+number-positive Refusal.duplicate = omega arith
+number-positive Refusal.twoSorts = omega arith
+number-positive Refusal.sortArity = omega arith
+number-positive Refusal.bracketedConstant = omega arith
+number-positive Refusal.noGoal = omega arith
+number-positive Refusal.notNumber = omega arith
+number-positive Refusal.stepOrder = omega arith
+number-positive Refusal.referenceCount = omega arith
+number-positive Refusal.badBinding = omega arith
+number-positive Refusal.secondConclusion = omega arith
+number-positive Refusal.badConclusion = omega arith
+number-positive Refusal.noSuchStep = omega arith
+number-positive Refusal.badPremise = omega arith
+number-positive Refusal.unbound = omega arith
+number-positive Refusal.otherJudgment = omega arith
+number-positive Refusal.storeFull = omega arith
+number-positive Refusal.goalOpen = omega arith
+number-positive Refusal.notOpened = omega arith
+
+-- The rulebook is short enough, and this is its theory.
 pub record Gives (limits : Setting) (rulebook : List ℕ) (th : Theory) : Type 0 where
   pub short : length rulebook ≤ limits .rulebookBytes
   pub gives : theory rulebook ≡ ok th
@@ -32,7 +69,7 @@ unfolding rulebookAnswer
 answered-ok (ok th) e = (th, refl)
 answered-ok (refused r) e = let h = number-positive r in absurd (omega arith)
 
--- From a theory to "accepted",
+-- A rulebook that gives a theory is accepted.
 pub gives-accepted : {limits : Setting} {rulebook : List ℕ} {th : Theory} → Gives limits rulebook th → Accepted limits rulebook
 unfolding rulebookCall rulebookJudged rulebookAnswer
 gives-accepted {limits} {rulebook} g =
@@ -42,18 +79,75 @@ gives-accepted {limits} {rulebook} g =
           (onᵣ _ (areas-long l) ∙ onᵣ _ (need-on _ (le-leb (length rulebook) (limits .rulebookBytes) (g .short))) ∙ g .gives);
     }
 
--- from one answer to a theory,
+-- A rulebook that is answered 0 once gives a theory.
+pub judged-gives : (limits : Setting) (a b c d : ℕ) (rulebook : List ℕ) {th : Theory} → rulebookJudged limits a b c d rulebook ≡ ok th
+    → Gives limits rulebook th
+unfolding rulebookJudged
+judged-gives limits a b c d rulebook e = afterᵣ _ e λ u e₁ e₂. after-needᵣ _ _ _ e₂ λ h e₃. record { short = leb-true _ _ h; gives = e₃ }
+
 pub answer-gives : (limits : Setting) (a b c d : ℕ) (rulebook : List ℕ) → (rulebookCall limits a b c d rulebook) .number ≡ 0
     → (th : Theory) × Gives limits rulebook th
-unfolding rulebookCall rulebookJudged
+unfolding rulebookCall
 answer-gives limits a b c d rulebook e =
     let (th, p) = answered-ok (rulebookJudged limits a b c d rulebook) e in
-    afterᵣ _ p λ u e₁ e₂.
-    afterNeedᵣ _ _ _ e₂ λ h e₃.
-    (th, record { short = leb-true _ _ h; gives = e₃ })
+    (th, judged-gives limits a b c d rulebook p)
 
--- and so from "accepted" to a theory.
+-- So a rulebook that is accepted gives a theory.
 pub accepted-gives : {limits : Setting} {rulebook : List ℕ} → Accepted limits rulebook → (th : Theory) × Gives limits rulebook th
 accepted-gives {limits} {rulebook} acc =
     answer-gives limits (limits .areaWords) (limits .areaWords) (limits .areaWords) (limits .lastAreaWords) rulebook
     (acc .answer _ _ _ _ record { first-area = omega arith; second-area = omega arith; third-area = omega arith; fourth-area = omega arith })
+
+-- What the call with three texts has met on its way to an answer that is no refusal.
+pub record AcceptedRun (limits : Setting) (rulebook text certificate : List ℕ) (answer : Report) : Type 0 where
+  pub th : Theory
+  pub goals : List Goal
+  pub store : Store
+  pub steps : List Step
+  pub final : Store
+  pub short : length rulebook ≤ limits .rulebookBytes
+  pub short-text : length text ≤ limits .goalsBytes
+  pub short-certificate : length certificate ≤ limits .certificateBytes
+  pub gives : theory rulebook ≡ ok th
+  pub read : goalsOf limits th text [] ≡ ok (goals, store)
+  pub taken : certificateOf limits th goals certificate store ≡ ok (steps, final)
+  pub answers : report 0 (length steps) (length goals) (length final) (length certificate) ≡ answer
+
+pub judged-run : (limits : Setting) (a b c d : ℕ) (rulebook text certificate : List ℕ) {answer : Report}
+    → releaseJudged limits a b c d rulebook text certificate ≡ ok answer
+    → AcceptedRun limits rulebook text certificate answer
+unfolding releaseJudged
+judged-run limits a b c d rulebook text certificate e =
+    afterᵣ _ e λ u e₁ e₂.
+    after-needᵣ _ _ _ e₂ λ short e₃.
+    after-needᵣ _ _ _ e₃ λ short-text e₄.
+    after-needᵣ _ _ _ e₄ λ short-certificate e₅.
+    afterᵣ _ e₅ λ th e₆ e₇.
+    afterᵣ _ e₇ λ p e₈ e₉.
+    afterᵣ _ e₉ λ q f f₁.
+    record {
+      th = th;
+      goals = p .0;
+      store = p .1;
+      steps = q .0;
+      final = q .1;
+      short = leb-true _ _ short;
+      short-text = leb-true _ _ short-text;
+      short-certificate = leb-true _ _ short-certificate;
+      gives = e₆;
+      read = e₈;
+      taken = f;
+      answers = ok-equal f₁;
+    }
+
+accepted-answer : (r : Result Report) → (releaseAnswer r) .number ≡ 0 → r ≡ ok (releaseAnswer r)
+unfolding releaseAnswer
+accepted-answer (refused r) e = let h = number-positive r in absurd (omega arith)
+accepted-answer (ok a) e = refl
+
+pub accepted-run : (limits : Setting) (a b c d : ℕ) (rulebook text certificate : List ℕ)
+    → (releaseCall limits a b c d rulebook text certificate) .number ≡ 0
+    → AcceptedRun limits rulebook text certificate (releaseCall limits a b c d rulebook text certificate)
+unfolding releaseCall
+accepted-run limits a b c d rulebook text certificate zero-number =
+    judged-run limits a b c d rulebook text certificate (accepted-answer (releaseJudged limits a b c d rulebook text certificate) zero-number)

@@ -1,4 +1,4 @@
--- Completeness: whatever the instances of an accepted rulebook prove, its layout, within the limits, is accepted.
+-- Completeness: the certificate that is laid out for instances which prove the goals is accepted, if it is within the limits.
 use Prim.Native.Nat.{ℕ, _+_, _^_, _≤_}
 use native.Mathlib.Omega.{arith}
 use mathlib.Core.Path.{_≡_, refl, sym, ap, subst, _∙_}
@@ -9,16 +9,18 @@ use lib.ListN.{length, length-append}
 use borrow.Author.Tests.{le-leb}
 use Rattle.horn.specs.Refusals.{ok}
 use Rattle.horn.specs.Setting.{Setting, document01}
+use Rattle.horn.specs.Names.{isZero}
 use Rattle.horn.specs.NestedLists.{Sexp, asItem, topItems}
 use Rattle.horn.specs.Rulebook.{Theory, theory}
 use Rattle.horn.specs.StoredTerms.{Term, Store, withinLimits}
-use Rattle.horn.specs.Checker.{Goal, goalJudgment, goalsOf, isEmptyList, give}
+use Rattle.horn.specs.Checker.{Goal, goalJudgment, goalsOf, give}
 use Rattle.horn.specs.Matching.{Step, step, judgmentOf}
 use Rattle.horn.specs.Certificate.{certificateForm, certificateForms, certificateOf}
 use Rattle.horn.specs.Calls.{report, releaseJudged, releaseAnswer, releaseCall}
-use Rattle.horn.specs.Forced.{Instance, premises, conclusion, Each, judgments, Accepted, ReadWithoutRefusal, HasGoals}
+use Rattle.horn.specs.Forced.{Instance, premises, conclusion, Each, judgments}
 use Rattle.horn.specs.Layout
-use Rattle.horn.specs.Layout.{stepForms, forms, laidOut, height, depth, subterms, allSubterms, distinct, spread, WithinLimits, Supported, none-left, and-then, Proves}
+use Rattle.horn.specs.Layout.{stepSexps, layoutForms, laidOut, height, depth}
+use Rattle.horn.specs.Layout.{subterms, allSubterms, distinct, distinctTerms, WithinLimits, Supported, no-instance, instance-then, Proves}
 use Rattle.horn.specs.Demand3.{Complete}
 use Rattle.horn.proofs.Inversion.{onᵣ, on, need-on}
 use Rattle.horn.proofs.Accepting.{areas-long, accepted-gives}
@@ -31,33 +33,33 @@ use Rattle.horn.proofs.CompleteTheory.{Lookups, theory-looks}
 use Rattle.horn.proofs.CompleteCount.{_⊆_, to-distinct}
 use Rattle.horn.proofs.CompleteStore.{at-most, withTerm, withAll, withAll-append, Fits, fits-none, fits-term, fits-all, stored-count}
 use Rattle.horn.proofs.CompleteTerms.{on-lift}
-use Rattle.horn.proofs.CompleteGoals.{Known, read-known, Apart}
+use Rattle.horn.proofs.CompleteGoals.{Known, read-known, GoalsApart}
 use Rattle.horn.proofs.CompleteSteps.{progress, result-back, step-back}
 use Rattle.horn.proofs.CompleteLayout.{forms-words, layout-long}
 
--- The steps that instances make.
-made : List Step → List Instance → List Step
-made steps [] = steps
-made steps (i ∷ is) = made (steps ++ (step (conclusion i) (i .byRule) ∷ [])) is
+-- The steps that the forms laid out for instances come to, after some steps.
+stepsMade : List Step → List Instance → List Step
+stepsMade steps [] = steps
+stepsMade steps (i ∷ is) = stepsMade (steps ++ (step (conclusion i) (i .byRule) ∷ [])) is
 
-made-length : (steps : List Step) (is : List Instance) → length (made steps is) ≡ length steps + length is
-unfolding made
-made-length steps [] = omega arith
-made-length steps (i ∷ is) =
-    let h = made-length (steps ++ (step (conclusion i) (i .byRule) ∷ [])) is in
+stepsMade-length : (steps : List Step) (is : List Instance) → length (stepsMade steps is) ≡ length steps + length is
+unfolding stepsMade
+stepsMade-length steps [] = omega arith
+stepsMade-length steps (i ∷ is) =
+    let h = stepsMade-length (steps ++ (step (conclusion i) (i .byRule) ∷ [])) is in
     omega (arith, length-append steps (step (conclusion i) (i .byRule) ∷ []))
 
-one-more : (steps : List Step) (i : Instance) {earlier : List Term} → map judgmentOf steps ≡ earlier
+conclusions-more : (steps : List Step) (i : Instance) {earlier : List Term} → map judgmentOf steps ≡ earlier
     → map judgmentOf (steps ++ (step (conclusion i) (i .byRule) ∷ [])) ≡ earlier ++ (conclusion i ∷ [])
 unfolding judgmentOf
-one-more steps i e = map-append judgmentOf steps _ ∙ ap (_++ (conclusion i ∷ [])) e
+conclusions-more steps i e = map-append judgmentOf steps _ ∙ ap (_++ (conclusion i ∷ [])) e
 
-made-conclusions : (steps : List Step) (is : List Instance) (earlier : List Term) → map judgmentOf steps ≡ earlier
-    → map judgmentOf (made steps is) ≡ earlier ++ map conclusion is
-unfolding made
-made-conclusions steps [] earlier e = e ∙ sym (append-nil earlier)
-made-conclusions steps (i ∷ is) earlier e =
-    made-conclusions (steps ++ (step (conclusion i) (i .byRule) ∷ [])) is (earlier ++ (conclusion i ∷ [])) (one-more steps i e)
+stepsMade-conclusions : (steps : List Step) (is : List Instance) (earlier : List Term) → map judgmentOf steps ≡ earlier
+    → map judgmentOf (stepsMade steps is) ≡ earlier ++ map conclusion is
+unfolding stepsMade
+stepsMade-conclusions steps [] earlier e = e ∙ sym (append-nil earlier)
+stepsMade-conclusions steps (i ∷ is) earlier e =
+    stepsMade-conclusions (steps ++ (step (conclusion i) (i .byRule) ∷ [])) is (earlier ++ (conclusion i ∷ [])) (conclusions-more steps i e)
     ∙ append-assoc earlier (conclusion i ∷ []) (map conclusion is)
 
 module _ (limits : Setting) (th : Theory) (l : Lookups th) (formed : WellFormed th) (us : List Term)
@@ -66,64 +68,65 @@ module _ (limits : Setting) (th : Theory) (l : Lookups th) (formed : WellFormed 
       → (goals : List Goal) (steps : List Step) (rest : List Sexp) (store : Store)
       → map judgmentOf steps ≡ earlier
       → length steps + length is ≤ 2 ^ 64
-      → depth (stepForms earlier is ++ rest) ≤ 256
+      → depth (stepSexps earlier is ++ rest) ≤ 256
       → allSubterms (map conclusion is) ⊆ us
       → Fits us store
-      → certificateForms limits th (progress goals steps) (topItems (stepForms earlier is ++ rest)) store
-      ≡ certificateForms limits th (progress goals (made steps is)) (topItems rest) (withAll (map conclusion is) store)
-  unfolding stepForms made withAll topItems certificateForms depth allSubterms
-  steps-back none-left goals steps rest store e n d sub f = refl
-  steps-back (and-then {earlier = earlier} {i = i} {is = is} inst prem s) goals steps rest store e n d sub f =
+      → certificateForms limits th (progress goals steps) (topItems (stepSexps earlier is ++ rest)) store
+      ≡ certificateForms limits th (progress goals (stepsMade steps is)) (topItems rest) (withAll (map conclusion is) store)
+  unfolding stepSexps stepsMade withAll topItems certificateForms depth allSubterms
+  steps-back no-instance goals steps rest store e n d sub f = refl
+  steps-back (instance-then {earlier = earlier} {i = i} {is = is} inst prem s) goals steps rest store e n d sub f =
       let j = conclusion i in
       let sub-here : subterms j ⊆ us = λ u m. sub u (Memᴰ·append-left (allSubterms (map conclusion is)) m) in
       let form = step-back limits th l us within i goals steps store inst (conclusion-well-sorted formed i inst) (omega arith) sub-here f in
       let next = steps ++ (step j (i .byRule) ∷ []) in
       on _ _ _
       (subst
-      (λ x. Each (λ k. List·Memᴰ k x) (premises i) → height (Layout.stepForm x i) ≤ 256
-      → certificateForm limits th (progress goals steps) (asItem (Layout.stepForm x i)) store
+      (λ x. Each (λ k. List·Memᴰ k x) (premises i) → height (Layout.stepSexp x i) ≤ 256
+      → certificateForm limits th (progress goals steps) (asItem (Layout.stepSexp x i)) store
       ≡ ok (progress goals next, withTerm j store))
       e form prem (omega arith))
-      ∙ steps-back s goals next rest (withTerm j store) (one-more steps i e)
+      ∙ steps-back s goals next rest (withTerm j store) (conclusions-more steps i e)
       (omega (arith, length-append steps (step j (i .byRule) ∷ []))) (omega arith)
       (λ u m. sub u (Memᴰ·append-right (subterms j) m)) (fits-term us j store f sub-here)
 
-  results-back : (goals : List Goal) (steps : List Step) (store : Store) → Apart goals → length steps ≤ 2 ^ 64
+  results-back : (goals : List Goal) (steps : List Step) (store : Store) → GoalsApart goals → length steps ≤ 2 ^ 64
       → Each (λ j. List·Memᴰ j (map judgmentOf steps)) (map goalJudgment goals)
-      → certificateForms limits th (progress goals steps) (topItems (map (Layout.resultForm (map judgmentOf steps)) goals)) store
+      → certificateForms limits th (progress goals steps) (topItems (map (Layout.resultSexp (map judgmentOf steps)) goals)) store
       ≡ ok (progress [] steps, store)
   unfolding certificateForms topItems give
   results-back [] steps store a n e = refl
   results-back (g ∷ gs) steps store a n e =
       on _ _ _ (result-back limits th g gs steps store a n (e .0)) ∙ results-back gs steps store (a .1) n (e .1)
 
-  -- The whole certificate, after goals whose judgments have the instances' conclusions among them.
+  -- The whole certificate is read, after goals whose judgments are among the instances' conclusions.
   certificate-back : (goals : List Goal) (is : List Instance) (store : Store) → Proves th goals is → Known goals store
       → length is ≤ 2 ^ 64
-      → depth (forms goals is) ≤ 256
+      → depth (layoutForms goals is) ≤ 256
       → allSubterms (map conclusion is) ⊆ us
       → Fits us store
-      → certificateOf limits th goals (laidOut goals is) store ≡ ok (made [] is, withAll (map conclusion is) store)
-  unfolding certificateOf laidOut forms judgments isEmptyList give
+      → certificateOf limits th goals (laidOut goals is) store ≡ ok (stepsMade [] is, withAll (map conclusion is) store)
+  unfolding certificateOf laidOut layoutForms judgments isZero give
   certificate-back goals is store p k n d sub f =
       let cs = map conclusion is in
-      let results = map (Layout.resultForm cs) goals in
+      let results = map (Layout.resultSexp cs) goals in
       let final = withAll cs store in
-      let concluded : map judgmentOf (made [] is) ≡ cs = made-conclusions [] is [] refl in
-      let count = made-length [] is in
+      let concluded : map judgmentOf (stepsMade [] is) ≡ cs = stepsMade-conclusions [] is [] refl in
+      let count = stepsMade-length [] is in
       let closing =
       subst
       (λ x. Each (λ j. List·Memᴰ j x) (map goalJudgment goals)
-      → certificateForms limits th (progress goals (made [] is)) (topItems (map (Layout.resultForm x) goals)) final
-      ≡ ok (progress [] (made [] is), final))
-      concluded (results-back goals (made [] is) final (k .others) (omega arith)) (p .reached) in
+      → certificateForms limits th (progress goals (stepsMade [] is)) (topItems (map (Layout.resultSexp x) goals)) final
+      ≡ ok (progress [] (stepsMade [] is), final))
+      concluded (results-back goals (stepsMade [] is) final (k .others) (omega arith)) (p .reached) in
       on _ _ _
-      (ap (λ x. certificateForms limits th (progress goals []) x store) (items-printed (forms goals is) (forms-words th l formed goals (p .supported) (k .words)))
+      (ap (λ x. certificateForms limits th (progress goals []) x store)
+      (items-printed (layoutForms goals is) (forms-words th l formed goals (p .supported) (k .words)))
       ∙ steps-back (p .supported) goals [] results store refl (omega arith) d sub f
       ∙ closing)
       ∙ on-lift _ _ _ (need-on _ refl)
 
--- Subterms of a part are subterms of the whole.
+-- The subterms of a part of a list are among those of the whole.
 first-part : (xs ys : List Term) → allSubterms xs ⊆ allSubterms (xs ++ ys)
 unfolding allSubterms
 first-part [] ys u m = elim m [ ]
@@ -140,14 +143,14 @@ second-part (x ∷ xs) ys u m = Memᴰ·append-right (subterms x) (second-part x
 
 module _ (limits : Setting) (a b c d : ℕ) (rulebook text : List ℕ) {th : Theory} {goals : List Goal} {store : Store} (is : List Instance)
     (short : length rulebook ≤ limits .rulebookBytes) (e : theory rulebook ≡ ok th) where
-  -- Of goals that are read, with the store that they leave.
+  -- The report, for goals that reading gives with the store that it leaves.
   complete-read : limits .certificateBytes ≤ 2 ^ 64 → length text ≤ limits .goalsBytes
       → goalsOf limits th text [] ≡ ok (goals, store)
       → Proves th goals is
       → WithinLimits limits a b c d goals is
       → releaseCall limits a b c d rulebook text (laidOut goals is)
-      ≡ report 0 (length is) (length goals) (length (spread goals is)) (length (laidOut goals is))
-  unfolding releaseCall releaseJudged releaseAnswer spread
+      ≡ report 0 (length is) (length goals) (length (distinctTerms goals is)) (length (laidOut goals is))
+  unfolding releaseCall releaseJudged releaseAnswer distinctTerms
   complete-read bound short-text read p w =
       let js = judgments goals ++ map conclusion is in
       let us = distinct (allSubterms js) in
@@ -158,10 +161,11 @@ module _ (limits : Setting) (a b c d : ℕ) (rulebook text : List ℕ) {th : The
       (fits-all us (judgments goals) [] (fits-none us) (λ u m. in-us u (first-part (judgments goals) (map conclusion is) u m))) in
       let n : length is ≤ 2 ^ 64 = omega (arith, layout-long goals is, w .short) in
       let certificate =
-      certificate-back limits th (theory-looks rulebook e) (theory-formed rulebook e) us (at-most limits us (w .few) (w .small)) goals is store p k n (w .shallow)
+      certificate-back limits th (theory-looks rulebook e) (theory-formed rulebook e) us
+      (at-most limits us (w .few) (w .small)) goals is store p k n (w .shallow)
       (λ u m. in-us u (second-part (judgments goals) (map conclusion is) u m)) f in
       let final = ap (withAll (map conclusion is)) (k .has) ∙ sym (withAll-append (judgments goals) (map conclusion is) []) in
-      let count : length (made [] is) ≡ length is = let h = made-length [] is in omega arith in
+      let count : length (stepsMade [] is) ≡ length is = let h = stepsMade-length [] is in omega arith in
       ap releaseAnswer
       (onᵣ _ (areas-long (w .areas))
       ∙ onᵣ _ (need-on _ (le-leb (length rulebook) (limits .rulebookBytes) short))
@@ -173,47 +177,22 @@ module _ (limits : Setting) (a b c d : ℕ) (rulebook text : List ℕ) {th : The
       ∙ ap (λ x. report 0 x (length goals) (length (withAll (map conclusion is) store)) (length (laidOut goals is))) count
       ∙ ap (λ x. report 0 (length is) (length goals) x (length (laidOut goals is))) (ap length final ∙ stored-count js)
 
--- "For every accepted rulebook, every goals text read without refusal under it, and every list of well-sorted rule
--- instances in which each premise is an earlier instance's conclusion and each goal's judgment some instance's
--- conclusion: if the certificate laid out for the list is within the limits, the release is accepted", with its counts.
--- A number of a certificate is below 2 to the 64, so a setting may let a certificate have no more bytes than that.
-pub complete : (limits : Setting) (a b c d : ℕ) (rulebook text : List ℕ) {th : Theory} {goals : List Goal} (is : List Instance)
-    → limits .certificateBytes ≤ 2 ^ 64
-    → Accepted limits rulebook
-    → theory rulebook ≡ ok th
-    → ReadWithoutRefusal limits th text
-    → HasGoals th text goals
-    → Proves th goals is
-    → WithinLimits limits a b c d goals is
-    → releaseCall limits a b c d rulebook text (laidOut goals is)
-    ≡ report 0 (length is) (length goals) (length (spread goals is)) (length (laidOut goals is))
-complete limits a b c d rulebook text {th} {goals} is bound acc e r has p w =
-    let (th′, g) = accepted-gives acc in
-    let (q, read) = reading-gives limits th text r in
-    let same = goals-fixed rulebook text e (read-has limits th text read) has in
-    complete-read limits a b c d rulebook text is (g .short) e bound (r .short)
-    (subst (λ gs. goalsOf limits th text [] ≡ ok (gs, q .1)) same read) p w
+-- The second half of demand 3, with the counts of the report. A number of a certificate is below 2 to the 64, so a setting may let
+-- a certificate have no more bytes than that.
+pub complete : (limits : Setting) → limits .certificateBytes ≤ 2 ^ 64 → (a b c d : ℕ) (rulebook text certificate : List ℕ)
+    → Complete limits a b c d rulebook text certificate (releaseCall limits a b c d rulebook text certificate)
+complete limits bound a b c d rulebook text certificate =
+    record {
+      accepts-layout = λ th goals is acc e r has p w same.
+          let (th′, g) = accepted-gives acc in
+          let (q, read) = reading-gives limits th text r in
+          let fixed = goals-fixed rulebook text e (read-has limits th text read) has in
+          rw same
+          (complete-read limits a b c d rulebook text is (g .short) e bound (r .short)
+          (subst (λ gs. goalsOf limits th text [] ≡ ok (gs, q .1)) fixed read) p w);
+    }
 
 -- Under 01's own limits.
-pub complete-01 : (a b c d : ℕ) (rulebook text : List ℕ) {th : Theory} {goals : List Goal} (is : List Instance)
-    → Accepted document01 rulebook
-    → theory rulebook ≡ ok th
-    → ReadWithoutRefusal document01 th text
-    → HasGoals th text goals
-    → Proves th goals is
-    → WithinLimits document01 a b c d goals is
-    → releaseCall document01 a b c d rulebook text (laidOut goals is)
-    ≡ report 0 (length is) (length goals) (length (spread goals is)) (length (laidOut goals is))
-complete-01 a b c d rulebook text is acc e r has p w =
-    complete document01 a b c d rulebook text is short acc e r has p w
-  where
-    short : document01 .certificateBytes ≤ 2 ^ 64
-    short = unfold document01 in omega arith
-
--- The same as a call's contract says it.
-pub laid-out-accepted : (a b c d : ℕ) (rulebook text certificate : List ℕ)
+pub complete-01 : (a b c d : ℕ) (rulebook text certificate : List ℕ)
     → Complete document01 a b c d rulebook text certificate (releaseCall document01 a b c d rulebook text certificate)
-laid-out-accepted a b c d rulebook text certificate =
-    record {
-      accepts = λ th goals is acc e r has p w same. rw same (complete-01 a b c d rulebook text is acc e r has p w);
-    }
+complete-01 = complete document01 (unfold document01 in omega arith)

@@ -1,15 +1,15 @@
--- Lists without repetition: counted by membership alone. `distinct` gives one, with the members that it was given.
+-- Of two lists without repetition, the one whose members are among those of the other is no longer, and no larger in words. `distinct`
+-- gives a list without repetition that has the same members.
 use Prim.Native.Nat.{ℕ, _+_, _≤_}
 use native.Mathlib.Omega.{arith}
 use mathlib.Core.Path.{_≡_, refl, sym, ap, subst, _∙_}
 use mathlib.Core.Bool.{true, false}
 use mathlib.Core.List.{List, [], _∷_, _++_, List·Memᴰ, List·Memᴰ·head, List·Memᴰ·tail}
 use lib.ListN.{length}
-use Rattle.horn.specs.Names.{some-of}
+use Rattle.horn.specs.Names.{someOf}
 use Rattle.horn.specs.StoredTerms.{Term, nodeSize, size, sameTerm}
 use Rattle.horn.specs.Layout.{distinct}
-use Rattle.horn.proofs.Equality.{case, sameTerm-decides, some-of-true, some-of-false, differ}
-use Rattle.horn.proofs.SoundnessPatterns.{in-or-last}
+use Rattle.horn.proofs.Equality.{case, sameTerm-decides, some-of-true, some-of-false, differ, in-cons, in-or-last}
 
 abbrev pub _⊆_ : List Term → List Term → Type 0
 xs ⊆ ys = (t : Term) → List·Memᴰ t xs → List·Memᴰ t ys
@@ -81,35 +81,31 @@ size-below xs ys d s = rw (size-total xs, size-total ys) (total-below nodeSize x
 pub length-same : (xs ys : List Term) → Distinct xs → Distinct ys → xs ⊆ ys → ys ⊆ xs → length xs ≡ length ys
 length-same xs ys d e s t = let h = length-below xs ys d s in let k = length-below ys xs e t in omega arith
 
--- `distinct`.
-pub held-member : (t : Term) (xs : List Term) → some-of (sameTerm t) xs ≡ true → List·Memᴰ t xs
+-- What `distinct` gives.
+pub held-member : (t : Term) (xs : List Term) → someOf (sameTerm t) xs ≡ true → List·Memᴰ t xs
 held-member t xs e =
     let (u, m, h) = some-of-true (sameTerm t) xs e in
     subst (λ z. List·Memᴰ z xs) (sym (sameTerm-decides .equal t u h)) m
 
-pub not-held : (t : Term) (xs : List Term) → some-of (sameTerm t) xs ≡ false → List·Memᴰ t xs → ⊥
+pub not-held : (t : Term) (xs : List Term) → someOf (sameTerm t) xs ≡ false → List·Memᴰ t xs → ⊥
 not-held t xs e m = differ sameTerm-decides t t (some-of-false (sameTerm t) xs e t m) refl
-
-in-cons : {t x : Term} {xs ys : List Term} → xs ⊆ ys → List·Memᴰ t (x ∷ xs) → List·Memᴰ t (x ∷ ys)
-in-cons s (List·Memᴰ·head h) = List·Memᴰ·head h
-in-cons s (List·Memᴰ·tail k) = List·Memᴰ·tail (s _ k)
 
 pub from-distinct : (xs : List Term) → distinct xs ⊆ xs
 unfolding distinct
 from-distinct [] t m = m
 from-distinct (x ∷ xs) t m =
-    case (some-of (sameTerm x) xs)
+    case (someOf (sameTerm x) xs)
     (λ e. List·Memᴰ·tail (from-distinct xs t (rw (e, distinct) at m)))
-    (λ e. in-cons (from-distinct xs) (rw (e, distinct) at m))
+    (λ e. in-cons (from-distinct xs t) (rw (e, distinct) at m))
 
 pub to-distinct : (xs : List Term) → xs ⊆ distinct xs
 unfolding distinct
 to-distinct (x ∷ xs) t (List·Memᴰ·head h) =
-    case (some-of (sameTerm x) xs)
+    case (someOf (sameTerm x) xs)
     (λ e. rw (e, distinct) (subst (λ z. List·Memᴰ z (distinct xs)) (sym h) (to-distinct xs x (held-member x xs e))))
     (λ e. rw (e, distinct) (List·Memᴰ·head h))
 to-distinct (x ∷ xs) t (List·Memᴰ·tail m) =
-    case (some-of (sameTerm x) xs)
+    case (someOf (sameTerm x) xs)
     (λ e. rw (e, distinct) (to-distinct xs t m))
     (λ e. rw (e, distinct) (List·Memᴰ·tail (to-distinct xs t m)))
 
@@ -117,6 +113,6 @@ pub distinct-distinct : (xs : List Term) → Distinct (distinct xs)
 unfolding distinct
 distinct-distinct [] = tt
 distinct-distinct (x ∷ xs) =
-    case (some-of (sameTerm x) xs)
+    case (someOf (sameTerm x) xs)
     (λ e. rw (e, distinct) (distinct-distinct xs))
     (λ e. rw (e, distinct) (λ m. not-held x xs e (from-distinct xs x m), distinct-distinct xs))

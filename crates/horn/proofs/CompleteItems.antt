@@ -1,44 +1,47 @@
--- The items of printed forms are those forms; and every word that is met in a text is made of ordinary characters.
+-- The items of printed forms are those forms; and every atom of a text is a word, that is, made of ordinary characters.
 use Prim.Native.Nat.{ℕ, suc}
 use mathlib.Core.Path.{_≡_, refl, sym, ap, _∙_}
 use mathlib.Core.Bool.{Bool, true, false}
 use mathlib.Core.List.{List, [], _∷_, _++_, append-nil, append-assoc}
 use mathlib.Core.Option.{Option, none, some}
-use native.Mathlib.Omega.{arith}
 use lib.Dec.{eqb}
 use Rattle.horn.specs.Refusals.{ok}
 use Rattle.horn.specs.Utf8.{Char, char, decoded}
 use Rattle.horn.specs.Tokens.{Stream, end, bad, _▹_, before, lines, characters, Kind, blank, opens, closes, comments, ordinary, kind}
-use Rattle.horn.specs.Tokens.{Token, opening, closing, atom, Place, between, inComment, inAtom, Move, begins, continues, move, unended, tokensFrom, tokens}
-use Rattle.horn.specs.NestedLists.{Item, word, group, Items, closed, ended, badLine, _then_, Around, atEnd, atBadLine, _inside_, innermost, outer, add, around, items}
-use Rattle.horn.specs.NestedLists.{Sexp, leaf, list, Sexps, []ₛ, _∷ₛ_, asItem, asItems, topItems, absent, askedAt, sexp, members, sexps}
+use Rattle.horn.specs.Tokens.{Token, opening, closing, atom, Place, between, inComment, inAtom, Move, begins, continues, move}
+use Rattle.horn.specs.Tokens.{unended, tokensFrom, tokens}
+use Rattle.horn.specs.NestedLists.{Item, word, group, Items, closed, ended, badLine, _then_, Around, _inside_, innermost, outer}
+use Rattle.horn.specs.NestedLists.{add, around, items}
+use Rattle.horn.specs.NestedLists.{Sexp, leaf, list, Sexps, []ₛ, _∷ₛ_, asItem, asItems, topItems, writtenItem, written}
+use Rattle.horn.specs.NestedLists.{absent, askedAt, sexp, members, sexps}
 use Rattle.horn.specs.Layout.{printedLines}
-use Rattle.horn.proofs.Counts.{itemCount}
+use Rattle.horn.proofs.Counts.{AllAround, all-end, all-bad, all-inside, all-innermost, all-outer}
 use Rattle.horn.proofs.Inversion.{afterᵣ, not-ok, ok-equal}
-use Rattle.horn.proofs.CompleteUtf8.{All, All-append, Proper, decoded-append, decoded-proper}
-use Rattle.horn.proofs.CompleteTokens.{Ordinary, bytesOf, Word, WordsIn, leaf-word, list-words, AllWords, no-words, _and-words_, tok, toks, formTokens, tokens-printed}
+use Rattle.horn.proofs.CompleteUtf8.{All, all-append, Proper, decoded-append, decoded-proper}
+use Rattle.horn.proofs.CompleteTokens.{Ordinary, bytesOf, Word, WordsIn, leaf-word, list-words, AllWords, no-words, _and-words_, tokens-printed}
 
 mutual
-  unfolding around add innermost outer tok asItem
+  unfolding around add innermost outer writtenItem asItem
 
-  around-tok : (x : Sexp) (ts : Stream Token) → around (tok x ts) ≡ (asItem x then innermost (around ts)) inside outer (around ts)
-  around-tok (leaf name) ts = refl
-  around-tok (list xs) ts = ap (add opening) (around-toks xs ts)
+  around-item : (x : Sexp) (ts : Stream Token)
+      → around (writtenItem (asItem x) ts) ≡ (asItem x then innermost (around ts)) inside outer (around ts)
+  around-item (leaf name) ts = refl
+  around-item (list xs) ts = ap (add opening) (around-items xs ts)
 
-  around-toks : (xs : Sexps) (ts : Stream Token) → around (toks xs (closing ▹ ts)) ≡ asItems xs inside around ts
-  around-toks []ₛ ts = refl
-  around-toks (x ∷ₛ xs) ts =
-      around-tok x (toks xs (closing ▹ ts)) ∙ ap (λ a. (asItem x then innermost a) inside outer a) (around-toks xs ts)
+  around-items : (xs : Sexps) (ts : Stream Token) → around (written (asItems xs) ts) ≡ asItems xs inside around ts
+  around-items []ₛ ts = refl
+  around-items (x ∷ₛ xs) ts =
+      around-item x (written (asItems xs) ts) ∙ ap (λ a. (asItem x then innermost a) inside outer a) (around-items xs ts)
 
-items-forms : (xs : List Sexp) → items (formTokens xs) ≡ topItems xs
-unfolding items formTokens topItems around innermost
+items-forms : (xs : List Sexp) → items (written (topItems xs) end) ≡ topItems xs
+unfolding items topItems around innermost writtenItem
 items-forms [] = refl
-items-forms (x ∷ xs) = ap innermost (around-tok x (formTokens xs)) ∙ ap (asItem x then_) (items-forms xs)
+items-forms (x ∷ xs) = ap innermost (around-item x (written (topItems xs) end)) ∙ ap (asItem x then_) (items-forms xs)
 
 pub items-printed : (xs : List Sexp) → All WordsIn xs → items (tokens (printedLines xs)) ≡ topItems xs
 items-printed xs ws = ap items (tokens-printed xs ws) ∙ items-forms xs
 
--- Every character of a text is one that its bytes decode to.
+-- Each character that a text is decoded to is the one that its own bytes are decoded to.
 abbrev AllIn : {A : Type 0} → (A → Type 0) → Stream A → Type 0
 AllIn P end = Unit
 AllIn P bad = Unit
@@ -59,7 +62,7 @@ unfolding characters
 characters-proper [] = tt
 characters-proper (l ∷ ls) = line-proper (decoded l) (characters ls) (λ cs e. decoded-proper l e) (characters-proper ls)
 
--- Every atom is a word.
+-- Every atom among the tokens of a text is a word.
 abbrev WordToken : Token → Type 0
 WordToken opening = Unit
 WordToken closing = Unit
@@ -91,7 +94,7 @@ word-append {as′} {bs} w v =
           bytesOf-append (w .first ∷ w .others) (v .first ∷ v .others)
           ∙ ap (_++ bytesOf (v .first ∷ v .others)) (w .bytes)
           ∙ ap (as′ ++_) (v .bytes);
-      ordinarily = All-append Ordinary (w .first ∷ w .others) (v .first ∷ v .others) (w .ordinarily) (v .ordinarily);
+      ordinarily = all-append Ordinary (w .first ∷ w .others) (v .first ∷ v .others) (w .ordinarily) (v .ordinarily);
     }
 
 begins-words : (k : Kind) (bs : List ℕ) (v : ℕ) → Proper (char bs v) → kind v ≡ k → WordMove (begins k bs)
@@ -135,7 +138,7 @@ tokensFrom-words (c ▹ cs) place w p =
     all-before WordToken ((move place c) .0) (tokensFrom ((move place c) .1) cs) (m .0)
     (tokensFrom-words cs ((move place c) .1) (m .1) (p .1))
 
--- Every word of what stands in a text.
+-- Every atom among the items of a text is a word.
 mutual
   pub data WordItem : Item → Type 0 where
     a-word : {name : List ℕ} → Word name → WordItem (word name)
@@ -144,46 +147,27 @@ mutual
   pub data WordItems : Items → Type 0 where
     at-closed : WordItems closed
     at-ended : WordItems ended
-    at-bad : WordItems badLine
+    at-broken : WordItems badLine
     _then-words_ : {item : Item} {rest : Items} → WordItem item → WordItems rest → WordItems (item then rest)
 
 infixr 20 _then-words_
-no-item-words : (is : Items) → itemCount is ≡ 0 → WordItems is
-unfolding itemCount
-no-item-words closed e = at-closed
-no-item-words ended e = at-ended
-no-item-words badLine e = at-bad
-no-item-words (item then rest) e = absurd (omega arith)
+abbrev WordAround : Around → Type 0
+WordAround = AllAround WordItems
 
-data WordAround : Around → Type 0 where
-  end-words : WordAround atEnd
-  bad-words : WordAround atBadLine
-  _inside-words_ : {is : Items} {a : Around} → WordItems is → WordAround a → WordAround (is inside a)
-
-infixr 20 _inside-words_
 innermost-words : {a : Around} → WordAround a → WordItems (innermost a)
-unfolding innermost itemCount
-innermost-words end-words = no-item-words (innermost atEnd) refl
-innermost-words bad-words = no-item-words (innermost atBadLine) refl
-innermost-words (w inside-words ws) = w
-
-outer-words : {a : Around} → WordAround a → WordAround (outer a)
-unfolding outer
-outer-words end-words = end-words
-outer-words bad-words = bad-words
-outer-words (w inside-words ws) = ws
+innermost-words w = all-innermost at-ended at-broken w
 
 around-words : (ts : Stream Token) → AllIn WordToken ts → WordAround (around ts)
 unfolding around add
-around-words end w = end-words
-around-words bad w = bad-words
-around-words (closing ▹ ts) w = _inside-words_ at-closed (around-words ts (w .1))
+around-words end w = all-end
+around-words bad w = all-bad
+around-words (closing ▹ ts) w = all-inside closed at-closed (around-words ts (w .1))
 around-words (atom bs ▹ ts) w =
     let a = around-words ts (w .1) in
-    _inside-words_ (a-word (w .0) then-words innermost-words a) (outer-words a)
+    all-inside _ (a-word (w .0) then-words innermost-words a) (all-outer a)
 around-words (opening ▹ ts) w =
     let a = around-words ts (w .1) in
-    _inside-words_ (a-group (innermost-words a) then-words innermost-words (outer-words a)) (outer-words (outer-words a))
+    all-inside _ (a-group (innermost-words a) then-words innermost-words (all-outer a)) (all-outer (all-outer a))
 
 pub items-words : (text : List ℕ) → WordItems (items (tokens text))
 unfolding items tokens
@@ -201,7 +185,7 @@ mutual
 
   members-words : (is : Items) (depth : ℕ) {xs : Sexps} → WordItems is → members depth is ≡ ok xs → AllWords xs
   members-words closed depth at-closed e = rw (← ok-equal e) no-words
-  members-words badLine depth at-bad e = not-ok e
+  members-words badLine depth at-broken e = not-ok e
   members-words ended depth at-ended e = afterᵣ (askedAt depth) e λ u e₁ e₂. not-ok e₂
   members-words (item then rest) depth (w then-words ws) e =
       afterᵣ (askedAt depth) e λ u e₀ e′.
@@ -212,7 +196,7 @@ mutual
 pub sexps-words : (is : Items) {xs : Sexps} → WordItems is → sexps is ≡ ok xs → AllWords xs
 unfolding sexps
 sexps-words ended at-ended e = rw (← ok-equal e) no-words
-sexps-words badLine at-bad e = not-ok e
+sexps-words badLine at-broken e = not-ok e
 sexps-words closed at-closed e = not-ok e
 sexps-words (item then rest) (w then-words ws) e =
     afterᵣ (sexp 0 item) e λ x e₁ e″.

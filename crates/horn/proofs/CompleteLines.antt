@@ -1,4 +1,4 @@
--- A text that decodes whole is read by lines as it is read at once: a line ends where a character does.
+-- A text that is UTF-8 as a whole has the same characters read by lines as read at once: a line ends where a character does.
 use Prim.Native.Nat.{ℕ, _+_, _*_, _-_}
 use mathlib.Core.Path.{_≡_, refl, sym, ap, _∙_}
 use mathlib.Core.Bool.{true, false, true≢false}
@@ -7,10 +7,10 @@ use mathlib.Core.Option.{some, Option·map}
 use borrow.Author.Tests.{eqb-true}
 use lib.Dec.{eqb}
 use Rattle.horn.specs.Utf8.{Range, range, within, Sequence, sequence, tail, sequences, startedBy, Char, char, resumed, decoded}
-use Rattle.horn.specs.Tokens.{Stream, end, _▹_, before, onto, lines, characters}
+use Rattle.horn.specs.Tokens.{Stream, end, _▹_, before, ontoFirstLine, lines, characters}
 use Rattle.horn.proofs.Equality.{case, chosen, chose-true}
 use Rattle.horn.proofs.Inversion.{none-some, some-equal}
-use Rattle.horn.proofs.CompleteUtf8.{resumed-done, mapped, decoded-of, begun, All}
+use Rattle.horn.proofs.CompleteUtf8.{resumed-done, mapped, decoded-of, decoded-begun, All}
 
 pub before-append : {A : Type 0} (xs ys : List A) (s : Stream A) → before (xs ++ ys) s ≡ before xs (before ys s)
 unfolding before
@@ -56,8 +56,8 @@ tailLines : List (List ℕ) → List (List ℕ)
 tailLines [] = []
 tailLines (l ∷ ls) = ls
 
-onto-parts : (b : ℕ) (ls : List (List ℕ)) → onto b ls ≡ (b ∷ headLine ls) ∷ tailLines ls
-unfolding onto headLine tailLines
+onto-parts : (b : ℕ) (ls : List (List ℕ)) → ontoFirstLine b ls ≡ (b ∷ headLine ls) ∷ tailLines ls
+unfolding ontoFirstLine headLine tailLines
 onto-parts b [] = refl
 onto-parts b (l ∷ ls) = refl
 
@@ -74,7 +74,7 @@ characters-cons : (l : List ℕ) (ls : List (List ℕ)) {cs : List Char} (ds : L
 unfolding characters
 characters-cons l ls {cs} ds p q = rw (p, characters) (ap (before cs) q ∙ sym (before-append cs ds end))
 
--- A text in the midst of a character: what its first line gives, and what its other lines give.
+-- A text that begins in the midst of a character: the characters of its first line, and those of its other lines.
 record Split (taken : List ℕ) (value : ℕ) (rs : List Range) (bs : List ℕ) (cs : List Char) : Type 0 where
   first : List Char
   later : List Char
@@ -127,7 +127,7 @@ split-next b bs taken value s e n d =
       in-line =
           ap (λ x. resumed taken value [] (headLine x)) l
           ∙ resumed-done taken value (b ∷ headLine (lines bs))
-          ∙ ap (Option·map (λ us. char taken value ∷ us)) (begun b (headLine (lines bs)) s ∙ d .in-line);
+          ∙ ap (Option·map (λ us. char taken value ∷ us)) (decoded-begun b (headLine (lines bs)) s ∙ d .in-line);
       in-rest = ap (λ x. characters (tailLines x)) l ∙ d .in-rest;
       whole = sym e ∙ ap (char taken value ∷_) (d .whole);
     }
@@ -136,7 +136,7 @@ split-next b bs taken value s e n d =
 newline : (b : ℕ) {a : Range} {m : ℕ} {r : List Range} → startedBy b sequences ≡ some (sequence a m r) → r ≡ []
     → decoded (b ∷ []) ≡ some (char (b ∷ []) (b - m) ∷ [])
 unfolding resumed
-newline b {m} s h = begun b [] s ∙ ap (λ x. resumed (b ∷ []) (b - m) x []) h
+newline b {m} s h = decoded-begun b [] s ∙ ap (λ x. resumed (b ∷ []) (b - m) x []) h
 
 after-newline {ℓ} : {C : Type ℓ} (b : ℕ) (bs : List ℕ) (m : ℕ) {r : List Range} {ks : List Char} → r ≡ []
     → resumed (b ∷ []) (b - m) r bs ≡ some ks
@@ -174,7 +174,7 @@ lines-on : (b : ℕ) (bs : List ℕ) {a : Range} {m : ℕ} {r : List Range} {cs 
     → characters (lines (b ∷ bs)) ≡ before cs end
 lines-on b bs s n d =
     ap characters (line-on b bs n)
-    ∙ characters-cons (b ∷ headLine (lines bs)) (tailLines (lines bs)) (d .later) (begun b (headLine (lines bs)) s ∙ d .in-line) (d .in-rest)
+    ∙ characters-cons (b ∷ headLine (lines bs)) (tailLines (lines bs)) (d .later) (decoded-begun b (headLine (lines bs)) s ∙ d .in-line) (d .in-rest)
     ∙ ap (λ x. before x end) (sym (d .whole))
 
 lines-end : (b : ℕ) (bs : List ℕ) {a : Range} {m : ℕ} {r : List Range} {cs us : List Char}

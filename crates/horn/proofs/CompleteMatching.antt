@@ -1,4 +1,5 @@
--- Matching succeeds on an instance: every binding is the instance's own term. The lowest earlier step is found.
+-- Matching succeeds on an instance: each variable is bound to the instance's own term. And the lowest step that concludes a judgment is
+-- found.
 use Prim.Native.Nat.{ℕ, _^_, _<_}
 use native.Mathlib.Omega.{arith}
 use mathlib.Core.Path.{_≡_, refl, sym, ap, _∙_}
@@ -17,11 +18,11 @@ use Rattle.horn.specs.Forced.{Assignment, substitute, substituteAll, Eac
 use Rattle.horn.specs.Layout.{plain, plainAll, lowest}
 use Rattle.horn.proofs.Equality.{case, chosen, chose-true, chose-false, named-decides, sameSymbol-decides, sameTerm-decides}
 use Rattle.horn.proofs.Inversion.{none-some, some-equal, onᵣ, found-on}
-use Rattle.horn.proofs.CompleteUtf8.{All, All-append}
+use Rattle.horn.proofs.CompleteUtf8.{All, all-append}
 use Rattle.horn.proofs.CompleteNumbers.{numeral-plain}
 use Rattle.horn.proofs.CompleteTerms.{asked-ok}
 
--- Bindings by an assignment.
+-- A binding of a variable to the term that an assignment gives it.
 abbrev By : Assignment → Bind → Type 0
 By σ (bind n t) = t ≡ σ n
 
@@ -46,7 +47,7 @@ variable-matches σ name binds none e a =
     record {
       binds = binds ++ (bind name (σ name) ∷ []);
       found-some = refl;
-      by = All-append (By σ) binds (bind name (σ name) ∷ []) a (refl, tt);
+      by = all-append (By σ) binds (bind name (σ name) ∷ []) a (refl, tt);
     }
 variable-matches σ name binds (some u) e a =
     record {
@@ -78,14 +79,14 @@ mutual
       (pattern-matches p σ binds a) (λ more b. patterns-match ps σ more b)
 
 -- The lowest step that concludes a judgment.
-pub record Concluded (steps : List Step) (j : Term) : Type 0 where
+pub record LowestStep (steps : List Step) (j : Term) : Type 0 where
   pub at : Step
   pub there : getElem? steps (lowest (map judgmentOf steps) j) ≡ some at
   pub concludes : judgmentOf at ≡ j
 
-pub concluded : (steps : List Step) (j : Term) → List·Memᴰ j (map judgmentOf steps) → Concluded steps j
+pub lowest-step : (steps : List Step) (j : Term) → List·Memᴰ j (map judgmentOf steps) → LowestStep steps j
 unfolding lowest
-concluded (s ∷ steps) j (List·Memᴰ·head e) =
+lowest-step (s ∷ steps) j (List·Memᴰ·head e) =
     record {
       at = s;
       there =
@@ -93,7 +94,7 @@ concluded (s ∷ steps) j (List·Memᴰ·head e) =
           (chose-true _ _ (ap (λ x. sameTerm x j) (sym e) ∙ sameTerm-decides .same j));
       concludes = sym e;
     }
-concluded (s ∷ steps) j (List·Memᴰ·tail m) =
+lowest-step (s ∷ steps) j (List·Memᴰ·tail m) =
     case (sameTerm (judgmentOf s) j)
     (λ p.
     record {
@@ -102,7 +103,7 @@ concluded (s ∷ steps) j (List·Memᴰ·tail m) =
       concludes = sameTerm-decides .equal (judgmentOf s) j p;
     })
     (λ p.
-    let c = concluded steps j m in
+    let c = lowest-step steps j m in
     record {
       at = c .at;
       there = ap (getElem? (s ∷ steps)) (chose-false _ _ p) ∙ c .there;
@@ -117,7 +118,7 @@ lowest-below (c ∷ cs) j (List·Memᴰ·tail m) =
     let h = lowest-below cs j m in
     case (sameTerm c j) (λ p. rw (p, lowest) (omega arith)) (λ p. rw (p, lowest) (omega arith))
 
--- The premises of an instance, each of them concluded.
+-- Matching the premises of an instance succeeds, where some step concludes each of them.
 pub record Premised (σ : Assignment) (r : Result (List Bind)) : Type 0 where
   pub binds : List Bind
   pub answered : r ≡ ok binds
@@ -128,7 +129,7 @@ pub premises-match : (steps : List Step) (σ : Assignment) (ps : List Pattern) (
 unfolding matchPremises
 premises-match steps σ [] binds a e = record { binds = binds; answered = refl }
 premises-match steps σ (p ∷ ps) binds a e =
-    let c = concluded steps (substitute σ p) (e .0) in
+    let c = lowest-step steps (substitute σ p) (e .0) in
     let m = pattern-matches p σ binds a in
     let rest = premises-match steps σ ps (m .binds) (m .by) (e .1) in
     record {
@@ -139,7 +140,7 @@ premises-match steps σ (p ∷ ps) binds a e =
           ∙ rest .answered;
     }
 
--- References read back.
+-- The references of the layout are read as the numbers that they are.
 pub number-due : (n : ℕ) → n < 2 ^ 64 → numberDue (word (plain n)) ≡ ok n
 unfolding numberDue wordDue
 number-due n h = onᵣ _ refl ∙ found-on _ (numeral-plain n h)

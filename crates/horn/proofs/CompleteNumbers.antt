@@ -1,4 +1,4 @@
--- Plain decimal numbers read back, and are words; so are the two heads of the layout.
+-- Numbers in plain decimal are read as the numbers that they are, and are words; so are `step` and `result`, the heads of the layout.
 use Prim.Native.Nat.{ℕ, zero, suc, _+_, _*_, _-_, _^_, _<_}
 use native.Mathlib.Omega.{arith}
 use mathlib.Core.Path.{_≡_, refl, ap, _∙_}
@@ -145,7 +145,7 @@ numeral-plain n h =
     ∙ ap (λ m. decimal m []) (counted-value n)
     ∙ chose-true _ _ (lt-ltb n (2 ^ 64) h)
 
--- They are words.
+-- Numbers in plain decimal are words, and so are the two heads.
 digit-word : {d : ℕ} → Digit d → Word ((0x30 + d) ∷ [])
 unfolding decoded resumed startedBy sequences within kind white whiteRanges inSome
 digit-word d0 = first-word (0x30 ∷ []) 0x30 refl refl

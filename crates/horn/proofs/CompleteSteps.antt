@@ -17,10 +17,10 @@ use Rattle.horn.specs.Checker.{Reading, give, wordDue, groupDue, ask, as
 use Rattle.horn.specs.Checker.{Goal, goal, goalJudgment, isGoal}
 use Rattle.horn.specs.Matching.{Step, step, judgmentOf}
 use Rattle.horn.specs.Certificate
-use Rattle.horn.specs.Certificate.{Progress, Given, given, stepWord, resultWord, keyword, isStated, without}
+use Rattle.horn.specs.Certificate.{Progress, Given, given, stepWord, resultWord, formWord, isStated, without}
 use Rattle.horn.specs.Forced.{WellSorted, well-sorted, Instance, IsInstance, premises, conclusion, Each, substitute}
 use Rattle.horn.specs.Layout
-use Rattle.horn.specs.Written.{symbolName, termForms, judgmentForm}
+use Rattle.horn.specs.Written.{symbolName, termSexps, judgmentSexp}
 use Rattle.horn.specs.Layout.{plain, plainAll, ruleName, lowest, height, subterms}
 use Rattle.horn.proofs.Equality.{chose-true, chose-false, named-decides, sameTerm-decides}
 use Rattle.horn.proofs.Inversion.{onᵣ, on, need-on, found-on}
@@ -29,10 +29,10 @@ use Rattle.horn.proofs.CompleteTheory.{Lookups}
 use Rattle.horn.proofs.CompleteCount.{_⊆_}
 use Rattle.horn.proofs.CompleteStore.{withTerm, Fits}
 use Rattle.horn.proofs.CompleteTerms.{on-lift, asked-ok, judgment-back}
-use Rattle.horn.proofs.CompleteGoals.{Apart}
-use Rattle.horn.proofs.CompleteMatching.{pattern-matches, concluded, lowest-below, premises-match, number-due, references-back}
+use Rattle.horn.proofs.CompleteGoals.{GoalsApart}
+use Rattle.horn.proofs.CompleteMatching.{pattern-matches, lowest-step, lowest-below, premises-match, number-due, references-back}
 
--- Asking for an item that is there, at the depth of a form's members or of theirs.
+-- An item that is there is found, at depth 1 or 2.
 asked : (depth : ℕ) (item : Item) (rest : Items) → depth ≤ 2 → ask depth (item then rest) ≡ ok (item, rest)
 unfolding ask
 asked depth item rest h = onᵣ _ (asked-ok depth (omega arith))
@@ -49,25 +49,25 @@ asked-number : (depth n : ℕ) (rest : Items) → depth ≤ 2 → n < 2 ^ 64 →
 unfolding askNumber
 asked-number depth n rest h b = onᵣ _ (asked depth (word (plain n)) rest h) ∙ onᵣ _ (number-due n b)
 
-step-keyword : keyword (codes "step") ≡ stepWord
-unfolding keyword named sameList codes
+step-keyword : formWord (codes "step") ≡ stepWord
+unfolding formWord named sameList codes
 step-keyword = refl
 
-result-keyword : keyword (codes "result") ≡ resultWord
-unfolding keyword named sameList codes
+result-keyword : formWord (codes "result") ≡ resultWord
+unfolding formWord named sameList codes
 result-keyword = refl
 
 abbrev pub progress : List Goal → List Step → Progress
 progress goals steps = record { defs = []; openGoals = goals; steps = steps }
 
 module _ (limits : Setting) (th : Theory) where
-  headed : (head : Name) (now : Progress) (rest : Items) (store : Store)
+  form-headed : (head : Name) (now : Progress) (rest : Items) (store : Store)
       → Certificate.certificateForm limits th now (group (word head then rest)) store
-      ≡ Certificate.headedForm limits th (keyword head) now rest store
+      ≡ Certificate.headedForm limits th (formWord head) now rest store
   unfolding Certificate.certificateForm groupDue
-  headed head now rest store = on-lift _ _ _ refl ∙ on-lift _ _ _ (asked-name 1 head rest (omega arith))
+  form-headed head now rest store = on-lift _ _ _ refl ∙ on-lift _ _ _ (asked-name 1 head rest (omega arith))
 
-  -- A result.
+  -- A result closes its goal, and leaves the others open.
   without-others : (n : Name) (gs : List Goal) → All (λ h. isGoal n h ≡ false) gs → without n gs ≡ gs
   unfolding without
   without-others n [] a = refl
@@ -77,17 +77,17 @@ module _ (limits : Setting) (th : Theory) where
   unfolding isGoal
   own-name n j = named-decides .same n
 
-  pub result-back : (g : Goal) (gs : List Goal) (steps : List Step) (store : Store) → Apart (g ∷ gs) → length steps ≤ 2 ^ 64
+  pub result-back : (g : Goal) (gs : List Goal) (steps : List Step) (store : Store) → GoalsApart (g ∷ gs) → length steps ≤ 2 ^ 64
       → List·Memᴰ (goalJudgment g) (map judgmentOf steps)
-      → Certificate.certificateForm limits th (progress (g ∷ gs) steps) (asItem (Layout.resultForm (map judgmentOf steps) g)) store
+      → Certificate.certificateForm limits th (progress (g ∷ gs) steps) (asItem (Layout.resultSexp (map judgmentOf steps) g)) store
       ≡ ok (progress gs steps, store)
-  unfolding Layout.resultForm asItem Certificate.headedForm Certificate.resultForm first without goalJudgment closingDue give
+  unfolding Layout.resultSexp asItem Certificate.headedForm Certificate.resultForm first without goalJudgment closingDue give
   result-back (goal n j) gs steps store a b m =
       let k = lowest (map judgmentOf steps) j in
       let h = lowest-below (map judgmentOf steps) j m in
       let l = length-map steps judgmentOf in
-      let c = concluded steps j m in
-      headed (codes "result") (progress (goal n j ∷ gs) steps) _ store
+      let c = lowest-step steps j m in
+      form-headed (codes "result") (progress (goal n j ∷ gs) steps) _ store
       ∙ ap (λ w. Certificate.headedForm limits th w (progress (goal n j ∷ gs) steps) (word n then word (plain k) then closed) store) result-keyword
       ∙ on-lift _ _ _ (asked-name 1 n (word (plain k) then closed) (omega arith))
       ∙ on-lift _ _ _ (found-on _ (chose-true _ _ (own-name n j)))
@@ -98,29 +98,29 @@ module _ (limits : Setting) (th : Theory) where
       ∙ ap (λ x. ok (progress x steps, store)) (chose-true _ _ (own-name n j) ∙ without-others n gs (a .0))
 
   -- A stated conclusion matches, and then the premises do.
-  concludes : (i : Instance) (steps : List Step) (store : Store)
+  conclude-back : (i : Instance) (steps : List Step) (store : Store)
       → Each (λ j. List·Memᴰ j (map judgmentOf steps)) (premises i)
       → Certificate.conclude limits th steps (i .byRule) (map (lowest (map judgmentOf steps)) (premises i)) (given [] (some (conclusion i))) store
       ≡ ok (conclusion i, store)
   unfolding Certificate.conclude premises conclusion give
-  concludes i steps store e =
+  conclude-back i steps store e =
       let m = pattern-matches (conclusionOf (i .byRule)) (i .assignment) [] tt in
       let p = premises-match steps (i .assignment) (premisesOf (i .byRule)) (m .binds) (m .by) e in
       on-lift _ _ _ (found-on _ (m .found-some)) ∙ on-lift _ _ _ (p .answered)
 
   module _ (l : Lookups th) (us : List Term) (within : withinLimits limits us ≡ true) where
     -- The one item of a laid-out step: its conclusion.
-    item-back : {j : Term} → WellSorted th j → (r : Rule) (store : Store) → suc (height (judgmentForm j)) ≤ 256
+    item-back : {j : Term} → WellSorted th j → (r : Rule) (store : Store) → suc (height (judgmentSexp j)) ≤ 256
         → subterms j ⊆ us
         → Fits us store
-        → Certificate.stepItems limits th [] r (asItem (judgmentForm j) then closed) (given [] none) store
+        → Certificate.stepItems limits th [] r (asItem (judgmentSexp j) then closed) (given [] none) store
         ≡ ok (given [] (some j), withTerm j store)
-    unfolding Certificate.stepItems Certificate.stepItem Certificate.conclusionItem judgmentForm symbolName asItem groupDue height isStated give
+    unfolding Certificate.stepItems Certificate.stepItem Certificate.conclusionItem judgmentSexp symbolName asItem groupDue height isStated give
     item-back (well-sorted {name = name} {ins = ins} {ts = ts} m gs) r store h sub f =
         on-lift _ _ _ (asked-ok 1 (omega arith))
         ∙ on _ _ _
         (on-lift _ _ _ refl
-        ∙ on-lift _ _ _ (asked-name 2 name (asItems (termForms ts)) (omega arith))
+        ∙ on-lift _ _ _ (asked-name 2 name (asItems (termSexps ts)) (omega arith))
         ∙ ap (λ (x : Reading Given). x store) (chose-false _ _ ((l .symbol-word (symbol name ins judgment) m) .1))
         ∙ on _ _ _ (judgment-back limits th l us within name ins ts m gs 2 store (omega arith) sub f)
         ∙ on-lift _ _ _ (need-on _ refl))
@@ -131,11 +131,11 @@ module _ (limits : Setting) (th : Theory) where
 
     rule-ok : (r : Rule) → List·Memᴰ r (th .rules) → ruleNamed th (ruleName r) ≡ ok r
     unfolding ruleNamed
-    rule-ok r m = found-on _ (l .named-rules r m (own-rule r))
+    rule-ok r m = found-on _ (l .finds-rule r m (own-rule r))
 
-    small : (cs js : List Term) → Each (λ j. List·Memᴰ j cs) js → length cs ≤ 2 ^ 64 → All (λ n. n < 2 ^ 64) (map (lowest cs) js)
-    small cs [] e b = tt
-    small cs (j ∷ js) e b = (let h = lowest-below cs j (e .0) in omega arith, small cs js (e .1) b)
+    references-small : (cs js : List Term) → Each (λ j. List·Memᴰ j cs) js → length cs ≤ 2 ^ 64 → All (λ n. n < 2 ^ 64) (map (lowest cs) js)
+    references-small cs [] e b = tt
+    references-small cs (j ∷ js) e b = (let h = lowest-below cs j (e .0) in omega arith, references-small cs js (e .1) b)
 
     reference-count : (i : Instance) (cs : List Term) → length (map (lowest cs) (premises i)) ≡ length (premisesOf (i .byRule))
     unfolding premises
@@ -149,27 +149,27 @@ module _ (limits : Setting) (th : Theory) where
         → subterms (conclusion i) ⊆ us
         → Fits us store
         → Each (λ j. List·Memᴰ j (map judgmentOf steps)) (premises i)
-        → height (Layout.stepForm (map judgmentOf steps) i) ≤ 256
-        → Certificate.certificateForm limits th (progress goals steps) (asItem (Layout.stepForm (map judgmentOf steps) i)) store
+        → height (Layout.stepSexp (map judgmentOf steps) i) ≤ 256
+        → Certificate.certificateForm limits th (progress goals steps) (asItem (Layout.stepSexp (map judgmentOf steps) i)) store
         ≡ ok (progress goals (steps ++ (step (conclusion i) (i .byRule) ∷ [])), withTerm (conclusion i) store)
-    unfolding Layout.stepForm asItem Certificate.headedForm Certificate.stepForm height give
+    unfolding Layout.stepSexp asItem Certificate.headedForm Certificate.stepForm height give
     step-back i goals steps store is w b sub f e h =
         let cs = map judgmentOf steps in
         let n = length cs in
         let r = i .byRule in
         let refs = map (lowest cs) (premises i) in
         let k = length-map steps judgmentOf in
-        let item = asItem (judgmentForm (conclusion i)) in
+        let item = asItem (judgmentSexp (conclusion i)) in
         let is₂ = group (asItems (plainAll refs)) then item then closed in
         let is₁ = word (ruleName r) then is₂ in
-        headed (codes "step") (progress goals steps) _ store
+        form-headed (codes "step") (progress goals steps) _ store
         ∙ ap (λ x. Certificate.headedForm limits th x (progress goals steps) (word (plain n) then is₁) store) step-keyword
         ∙ on-lift _ _ _ (asked-number 1 n is₁ (omega arith) (omega arith))
         ∙ on-lift _ _ _ (need-on _ (eq-eqb n (length steps) k))
         ∙ on-lift _ _ _ (asked-name 1 (ruleName r) is₂ (omega arith))
         ∙ on-lift _ _ _ (rule-ok r (is .declared))
         ∙ on-lift _ _ _ (asked-group 1 (asItems (plainAll refs)) (item then closed) (omega arith))
-        ∙ on-lift _ _ _ (references-back refs (small cs (premises i) e (omega arith)))
+        ∙ on-lift _ _ _ (references-back refs (references-small cs (premises i) e (omega arith)))
         ∙ on-lift _ _ _ (need-on _ (eq-eqb (length refs) (length (premisesOf r)) (reference-count i cs)))
         ∙ on _ _ _ (item-back w r store (omega arith) sub f)
-        ∙ on _ _ _ (concludes i steps (withTerm (conclusion i) store) e)
+        ∙ on _ _ _ (conclude-back i steps (withTerm (conclusion i) store) e)

@@ -1,4 +1,5 @@
--- A store that only ever takes terms of a list within the limits refuses none of them; and what it holds in the end.
+-- A store into which only terms of some list are put, a list that is within the limits, refuses none of them; and what the store holds
+-- in the end.
 use Prim.Native.Nat.{_≤_}
 use native.Mathlib.Omega.{arith}
 use mathlib.Core.Path.{_≡_, refl, sym, subst, _∙_}
@@ -10,15 +11,16 @@ use lib.ListN.{length}
 use borrow.Author.Tests.{leb-true, le-leb}
 use Rattle.horn.specs.Refusals.{ok, need, _>>=_}
 use Rattle.horn.specs.Setting.{Setting}
-use Rattle.horn.specs.Names.{some-of}
+use Rattle.horn.specs.Names.{someOf}
 use Rattle.horn.specs.StoredTerms.{Term, node, Terms, []ₜ, _∷ₜ_, Store, size, holds, withinLimits, intern, sameTerm}
 use Rattle.horn.specs.Layout.{subterms, subtermsOf, allSubterms, distinct}
-use Rattle.horn.proofs.Equality.{case, both, chosen, chose-true, chose-false}
-use Rattle.horn.proofs.Inversion.{ok-equal, afterNeedᵣ}
-use Rattle.horn.proofs.SoundnessPatterns.{in-or-last}
-use Rattle.horn.proofs.CompleteCount.{_⊆_, Distinct, distinct-more, length-below, size-below, length-same, held-member, not-held, from-distinct, to-distinct, distinct-distinct}
+use Rattle.horn.proofs.Equality.{case, both, chosen, chose-true, chose-false, in-or-last}
+use Rattle.horn.proofs.Inversion.{ok-equal, after-needᵣ}
+use Rattle.horn.proofs.CompleteCount.{_⊆_, Distinct, distinct-more, length-below, size-below, length-same}
+use Rattle.horn.proofs.CompleteCount.{held-member, not-held, from-distinct, to-distinct, distinct-distinct}
 
--- The store with a term; with a term after its arguments; with terms; with judgments.
+-- The store once a term is put into it: the term alone (`kept`), the term after its arguments (`withTerm`), some arguments one after
+-- another (`withTerms`), or the terms of a list (`withAll`).
 unfoldable pub kept : Term → Store → Store
 kept t store = elim (holds store t) [ true ↦ store | false ↦ store ++ (t ∷ []) ]
 
@@ -45,9 +47,9 @@ unfolding intern kept
 intern-kept limits t store e =
     chosen (holds store t) e
     (λ h q. sym (ok-equal q) ∙ sym (chose-true _ _ h))
-    (λ h q. afterNeedᵣ _ _ _ q λ w e₁. sym (ok-equal e₁) ∙ sym (chose-false _ _ h))
+    (λ h q. after-needᵣ _ _ _ q λ w e₁. sym (ok-equal e₁) ∙ sym (chose-false _ _ h))
 
--- What the store holds.
+-- The store keeps what it held, and holds what is put into it.
 old-kept : (t : Term) (store : Store) → store ⊆ kept t store
 unfolding kept
 old-kept t store u m =
@@ -56,7 +58,7 @@ old-kept t store u m =
 new-kept : (t : Term) (store : Store) → List·Memᴰ t (kept t store)
 unfolding kept holds
 new-kept t store =
-    case (some-of (sameTerm t) store)
+    case (someOf (sameTerm t) store)
     (λ h. rw (h, kept) (held-member t store h))
     (λ h. rw (h, kept) (Memᴰ·append-right store (List·Memᴰ·head refl)))
 
@@ -100,7 +102,7 @@ new-all (t ∷ ts) store u m =
     (λ k. new-all ts (withTerm t store) u k)
     (List·Memᴰ·append-cases (subterms t) m)
 
--- A store without repetition whose terms lie in a list.
+-- A store without repetition whose terms are all in a list.
 pub record Fits (us : List Term) (store : Store) : Type 0 where
   pub apart : Distinct store
   pub among : store ⊆ us
@@ -145,7 +147,7 @@ fits-all us (t ∷ ts) store f s =
     (fits-term us t store f (λ u m. s u (Memᴰ·append-left (allSubterms ts) m)))
     (λ u m. s u (Memᴰ·append-right (subterms t) m))
 
--- Both limits may be met exactly.
+-- A store is within the limits exactly if it has at most so many nodes and at most so many words.
 pub at-most : (limits : Setting) (store : Store) → length store ≤ limits .nodes → size store ≤ limits .nodeWords
     → withinLimits limits store ≡ true
 unfolding withinLimits
@@ -159,7 +161,7 @@ no-more limits store w =
     let (h, k) = both (leb (length store) (limits .nodes)) (leb (size store) (limits .nodeWords)) w in
     (leb-true (length store) (limits .nodes) h, leb-true (size store) (limits .nodeWords) k)
 
--- It is within limits that the list is within, and so is refused nothing of the list.
+-- A store that fits a list is within the limits if the list is, and so no term of the list is refused.
 within-fits : (limits : Setting) (us : List Term) (store : Store) → withinLimits limits us ≡ true → Fits us store
     → withinLimits limits store ≡ true
 within-fits limits us store w f =
@@ -178,7 +180,7 @@ intern-fits limits us t store w f m =
     (λ h. rw (h, intern, kept))
     (λ h. rw (h, intern, kept, within-fits limits us (store ++ (t ∷ [])) w (fits-new us t store f m h)))
 
--- In the end it has as many terms as there are distinct ones.
+-- Once some judgments are put into the empty store, it has as many terms as they have distinct subterms.
 pub stored-count : (js : List Term) → length (withAll js []) ≡ length (distinct (allSubterms js))
 stored-count js =
     let us = allSubterms js in

@@ -1,12 +1,12 @@
--- Printed forms give back their tokens, when every atom in them is a word: bytes of one or more ordinary characters.
+-- The tokens of printed forms are those of the forms, if every atom in them is a word: the bytes of one or more ordinary characters.
 use Prim.Native.Nat.{ℕ}
 use mathlib.Core.Path.{_≡_, refl, sym, ap, _∙_}
 use mathlib.Core.List.{List, [], _∷_, _++_, append-nil, append-assoc}
 use mathlib.Core.Option.{some}
 use Rattle.horn.specs.Utf8.{Char, char, within, sequences, startedBy, resumed, decoded}
-use Rattle.horn.specs.Tokens.{Stream, end, _▹_, before, kind, white, whiteRanges, inSome, ordinary}
+use Rattle.horn.specs.Tokens.{Stream, end, _▹_, before, kind, white, whiteRanges, inSome, blank, ordinary}
 use Rattle.horn.specs.Tokens.{Token, opening, closing, atom, between, inAtom, begins, continues, move, unended, tokensFrom, tokens}
-use Rattle.horn.specs.NestedLists.{Sexp, leaf, list, Sexps, []ₛ, _∷ₛ_}
+use Rattle.horn.specs.NestedLists.{Sexp, leaf, list, Sexps, []ₛ, _∷ₛ_, asItem, asItems, topItems, writtenItem, written}
 use Rattle.horn.specs.Layout.{printed, printedAll, spaced, printedLines}
 use Rattle.horn.proofs.CompleteUtf8.{All, decoded-append}
 use Rattle.horn.proofs.CompleteLines.{before-append, by-lines}
@@ -26,7 +26,7 @@ pub record Word (name : List ℕ) : Type 0 where
   pub bytes : bytesOf (first ∷ others) ≡ name
   pub ordinarily : All Ordinary (first ∷ others)
 
--- A text that decodes, and its tokens; and one that ends an atom before it.
+-- A text that is UTF-8 as a whole, with its tokens; and such a text that ends an atom which stands before it.
 pub record Lexed (text : List ℕ) (ts : Stream Token) : Type 0 where
   pub chars : List Char
   pub decodes : decoded text ≡ some chars
@@ -62,31 +62,28 @@ closed-by {tl} l =
       ends = λ bs. ap (λ x. atom bs ▹ closing ▹ x) (l .lexes);
     }
 
-blank-before : {tl : List ℕ} {ts : Stream Token} → Lexed tl ts → Delimiting (0x20 ∷ tl) ts
-unfolding decoded resumed startedBy sequences within before tokensFrom move begins continues kind white whiteRanges inSome
-blank-before {tl} l =
+white-before : (b : ℕ) {tl : List ℕ} {ts : Stream Token} → decoded (b ∷ []) ≡ some (char (b ∷ []) b ∷ []) → kind b ≡ blank → Lexed tl ts
+    → Delimiting (b ∷ tl) ts
+unfolding before tokensFrom move begins continues
+white-before b {tl} p k l =
     record {
       lexed = record {
-        chars = char (0x20 ∷ []) 0x20 ∷ l .chars;
-        decodes = decoded-append (0x20 ∷ []) tl refl (l .decodes);
-        lexes = l .lexes;
+        chars = char (b ∷ []) b ∷ l .chars;
+        decodes = decoded-append (b ∷ []) tl p (l .decodes);
+        lexes = rw k (l .lexes);
       };
-      ends = λ bs. ap (λ x. atom bs ▹ x) (l .lexes);
+      ends = λ bs. rw k (ap (λ x. atom bs ▹ x) (l .lexes));
     }
+
+space-before : {tl : List ℕ} {ts : Stream Token} → Lexed tl ts → Delimiting (0x20 ∷ tl) ts
+unfolding decoded resumed startedBy sequences within kind white whiteRanges inSome
+space-before l = white-before 0x20 refl refl l
 
 newline-before : {tl : List ℕ} {ts : Stream Token} → Lexed tl ts → Delimiting (0x0A ∷ tl) ts
-unfolding decoded resumed startedBy sequences within before tokensFrom move begins continues kind white whiteRanges inSome
-newline-before {tl} l =
-    record {
-      lexed = record {
-        chars = char (0x0A ∷ []) 0x0A ∷ l .chars;
-        decodes = decoded-append (0x0A ∷ []) tl refl (l .decodes);
-        lexes = l .lexes;
-      };
-      ends = λ bs. ap (λ x. atom bs ▹ x) (l .lexes);
-    }
+unfolding decoded resumed startedBy sequences within kind white whiteRanges inSome
+newline-before l = white-before 0x0A refl refl l
 
--- A word in front of what ends it.
+-- A word, in front of a text that ends it.
 in-atom : (cs : List Char) (bs : List ℕ) (s : Stream Char) → All Ordinary cs
     → tokensFrom (inAtom bs) (before cs s) ≡ tokensFrom (inAtom (bs ++ bytesOf cs)) s
 unfolding before tokensFrom move continues
@@ -122,47 +119,33 @@ mutual
     _and-words_ : {x : Sexp} {xs : Sexps} → WordsIn x → AllWords xs → AllWords (x ∷ₛ xs)
 
 infixr 20 _and-words_
--- The tokens of a form, in front of what follows.
-unfoldable mutual
-  pub tok : Sexp → Stream Token → Stream Token
-  tok (leaf name) ts = atom name ▹ ts
-  tok (list xs) ts = opening ▹ toks xs (closing ▹ ts)
-
-  pub toks : Sexps → Stream Token → Stream Token
-  toks []ₛ ts = ts
-  toks (x ∷ₛ xs) ts = tok x (toks xs ts)
-
-unfoldable pub formTokens : List Sexp → Stream Token
-formTokens [] = end
-formTokens (x ∷ xs) = tok x (formTokens xs)
-
 recast : {bs cs : List ℕ} {ts : Stream Token} → bs ≡ cs → Lexed cs ts → Lexed bs ts
 recast e l = rw e l
 
 mutual
-  unfolding printed tok
+  unfolding printed writtenItem asItem
 
-  sexp-lexed : (x : Sexp) {tl : List ℕ} {ts : Stream Token} → WordsIn x → Delimiting tl ts → Lexed (printed x ++ tl) (tok x ts)
+  sexp-lexed : (x : Sexp) {tl : List ℕ} {ts : Stream Token} → WordsIn x → Delimiting tl ts → Lexed (printed x ++ tl) (writtenItem (asItem x) ts)
   sexp-lexed (leaf name) (leaf-word w) d = word-lexed w d
   sexp-lexed (list xs) {tl} (list-words ws) d =
-      opened (recast (append-assoc (printedAll xs) (0x29 ∷ []) tl) (all-lexed xs ws (closed-by (d .lexed))))
+      opened (recast (append-assoc (printedAll xs) (0x29 ∷ []) tl) (all-lexed xs ws (d .lexed)))
 
-  all-lexed : (xs : Sexps) {tl : List ℕ} {ts : Stream Token} → AllWords xs → Delimiting tl ts
-      → Lexed (printedAll xs ++ tl) (toks xs ts)
-  all-lexed []ₛ ws d = d .lexed
-  all-lexed (x ∷ₛ xs) {tl} (w and-words ws) d =
-      recast (append-assoc (printed x) (spaced xs) tl) (sexp-lexed x w (spaced-lexed xs ws d))
+  all-lexed : (xs : Sexps) {tl : List ℕ} {ts : Stream Token} → AllWords xs → Lexed tl ts
+      → Lexed (printedAll xs ++ (0x29 ∷ tl)) (written (asItems xs) ts)
+  all-lexed []ₛ ws l = (closed-by l) .lexed
+  all-lexed (x ∷ₛ xs) {tl} (w and-words ws) l =
+      recast (append-assoc (printed x) (spaced xs) (0x29 ∷ tl)) (sexp-lexed x w (spaced-lexed xs ws l))
 
-  spaced-lexed : (xs : Sexps) {tl : List ℕ} {ts : Stream Token} → AllWords xs → Delimiting tl ts
-      → Delimiting (spaced xs ++ tl) (toks xs ts)
-  spaced-lexed []ₛ ws d = d
-  spaced-lexed (x ∷ₛ xs) {tl} (w and-words ws) d =
-      blank-before (recast (append-assoc (printed x) (spaced xs) tl) (sexp-lexed x w (spaced-lexed xs ws d)))
+  spaced-lexed : (xs : Sexps) {tl : List ℕ} {ts : Stream Token} → AllWords xs → Lexed tl ts
+      → Delimiting (spaced xs ++ (0x29 ∷ tl)) (written (asItems xs) ts)
+  spaced-lexed []ₛ ws l = closed-by l
+  spaced-lexed (x ∷ₛ xs) {tl} (w and-words ws) l =
+      space-before (recast (append-assoc (printed x) (spaced xs) (0x29 ∷ tl)) (sexp-lexed x w (spaced-lexed xs ws l)))
 
-lines-lexed : (xs : List Sexp) → All WordsIn xs → Lexed (printedLines xs) (formTokens xs)
-unfolding printedLines formTokens decoded before tokensFrom unended
+lines-lexed : (xs : List Sexp) → All WordsIn xs → Lexed (printedLines xs) (written (topItems xs) end)
+unfolding printedLines topItems writtenItem decoded before tokensFrom unended
 lines-lexed [] ws = record { chars = []; decodes = refl; lexes = refl }
 lines-lexed (x ∷ xs) ws = sexp-lexed x (ws .0) (newline-before (lines-lexed xs (ws .1)))
 
-pub tokens-printed : (xs : List Sexp) → All WordsIn xs → tokens (printedLines xs) ≡ formTokens xs
+pub tokens-printed : (xs : List Sexp) → All WordsIn xs → tokens (printedLines xs) ≡ written (topItems xs) end
 tokens-printed xs ws = tokens-lexed (lines-lexed xs ws)

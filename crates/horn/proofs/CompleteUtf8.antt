@@ -1,5 +1,5 @@
 -- Decoding in parts: bytes that decode, put one after the other, decode to the characters of both; each character's own
--- bytes decode to it alone; and for a text that decodes whole it does not matter that it is read by lines.
+-- bytes decode to it alone.
 use Prim.Native.Nat.{ℕ, _+_, _*_, _-_}
 use mathlib.Core.Path.{_≡_, refl, sym, ap, _∙_}
 use mathlib.Core.List.{List, [], _∷_, _++_, append-nil, append-assoc}
@@ -8,7 +8,7 @@ use Rattle.horn.specs.Utf8.{Range, within, Sequence, sequence, sequences
 use Rattle.horn.proofs.Equality.{chosen, chose-true}
 use Rattle.horn.proofs.Inversion.{none-some, some-equal}
 
--- What a first byte begins, taken apart.
+-- Where a first byte begins a character, the alternative of the grammar that it begins.
 pub started {ℓ} : {C : Type ℓ} {B : Type 0} (o : Option Sequence) {f : Range → ℕ → List Range → Option B} {z : B}
     → (elim o [ none ↦ none | some (sequence a m r) ↦ f a m r ]) ≡ some z
     → ((a : Range) (m : ℕ) (r : List Range) → o ≡ some (sequence a m r) → f a m r ≡ some z → C)
@@ -72,18 +72,18 @@ abbrev pub All : {A : Type 0} → (A → Type 0) → List A → Type 0
 All P [] = Unit
 All P (x ∷ xs) = P x × All P xs
 
-pub All-append : {A : Type 0} (P : A → Type 0) (xs ys : List A) → All P xs → All P ys → All P (xs ++ ys)
-All-append P [] ys p q = q
-All-append P (x ∷ xs) ys p q = (p .0, All-append P xs ys (p .1) q)
+pub all-append : {A : Type 0} (P : A → Type 0) (xs ys : List A) → All P xs → All P ys → All P (xs ++ ys)
+all-append P [] ys p q = q
+all-append P (x ∷ xs) ys p q = (p .0, all-append P xs ys (p .1) q)
 
 -- A character that its own bytes decode to.
 abbrev pub Proper : Char → Type 0
 Proper (char bs v) = decoded bs ≡ some (char bs v ∷ [])
 
-pub begun : (b : ℕ) {a : Range} {m : ℕ} {r : List Range} (rest : List ℕ) → startedBy b sequences ≡ some (sequence a m r)
+pub decoded-begun : (b : ℕ) {a : Range} {m : ℕ} {r : List Range} (rest : List ℕ) → startedBy b sequences ≡ some (sequence a m r)
     → decoded (b ∷ rest) ≡ resumed (b ∷ []) (b - m) r rest
 unfolding decoded
-begun b rest s = rw (s, decoded)
+decoded-begun b rest s = rw (s, decoded)
 
 resumed-proper : (bs taken : List ℕ) (value : ℕ) (rs : List Range) {cs : List Char}
     → ((rest : List ℕ) → decoded (taken ++ rest) ≡ resumed taken value rs rest)
@@ -102,10 +102,10 @@ resumed-proper [] taken value [] inv e =
 resumed-proper (b ∷ bs) taken value [] inv e =
     mapped (decoded (b ∷ bs)) (sym (resumed-done taken value (b ∷ bs)) ∙ e) λ ks e₁ e₂.
     decoded-of b bs e₁ λ a m r s q.
-    rw (← e₂) (ap decoded (sym (append-nil taken)) ∙ inv [], resumed-proper bs (b ∷ []) (b - m) r (λ rest. begun b rest s) q)
+    rw (← e₂) (ap decoded (sym (append-nil taken)) ∙ inv [], resumed-proper bs (b ∷ []) (b - m) r (λ rest. decoded-begun b rest s) q)
 
 pub decoded-proper : (bs : List ℕ) {cs : List Char} → decoded bs ≡ some cs → All Proper cs
 unfolding decoded
 decoded-proper [] e = rw (← some-equal e) tt
 decoded-proper (b ∷ bs) e =
-    decoded-of b bs e λ a m r s q. resumed-proper bs (b ∷ []) (b - m) r (λ rest. begun b rest s) q
+    decoded-of b bs e λ a m r s q. resumed-proper bs (b ∷ []) (b - m) r (λ rest. decoded-begun b rest s) q

@@ -7,27 +7,31 @@ use native.Mathlib.Omega.{arith}
 use lib.Dec.{eqb}
 use lib.ListN.{length}
 use Rattle.horn.specs.Utf8.{Range, Sequence, sequence, sequences, Char, char, within, startedBy, resumed, decoded}
-use Rattle.horn.specs.Tokens.{Stream, end, bad, _▹_, before, onto, lines, characters, Kind, blank, opens, closes, comments, ordinary, kind}
-use Rattle.horn.specs.Tokens.{Token, opening, closing, atom, Place, between, inComment, inAtom, Move, begins, continues, move, unended, tokensFrom, tokens}
-use Rattle.horn.specs.NestedLists.{word, group, Items, closed, ended, badLine, _then_, Around, atEnd, atBadLine, _inside_, innermost, outer, add, around, items}
+use Rattle.horn.specs.Tokens.{Stream, end, bad, _▹_, before, ontoFirstLine, lines, characters, Kind, blank, opens, closes, comments, ordinary, kind}
+use Rattle.horn.specs.Tokens.{Token, opening, closing, atom, Place, between, inComment, inAtom, Move, begins, continues, move}
+use Rattle.horn.specs.Tokens.{unended, tokensFrom, tokens}
+use Rattle.horn.specs.NestedLists.{word, group, Items, closed, ended, badLine, _then_, Around, atEnd, atBadLine, _inside_, innermost, outer}
+use Rattle.horn.specs.NestedLists.{add, around, items}
 use Rattle.horn.proofs.Post.{either}
 
--- Characters and bytes.
+-- There are at most as many characters as bytes.
 data Few (n : ℕ) : Option (List Char) → Type 0 where
-  few : {cs : List Char} → length cs ≤ n → Few n (some cs)
+  few-chars : {cs : List Char} → length cs ≤ n → Few n (some cs)
   not-any : Few n none
 
 few-map : {n : ℕ} {o : Option (List Char)} (c : Char) → Few n o → Few (suc n) (Option·map (λ cs. c ∷ cs) o)
-few-map c (few {cs} h) = few {cs = c ∷ cs} (omega arith)
+few-map c (few-chars {cs} h) = few-chars {cs = c ∷ cs} (omega arith)
 few-map c not-any = not-any
 
 few-suc : {n : ℕ} {o : Option (List Char)} → Few n o → Few (suc n) o
-few-suc (few {cs} h) = few {cs = cs} (omega arith)
+few-suc (few-chars {cs} h) = few-chars {cs = cs} (omega arith)
 few-suc not-any = not-any
 
--- After a whole character, from the next one's first byte.
-few-next : (taken : List ℕ) (value b : ℕ) (bs : List ℕ) → ((v : ℕ) (rest : List Range) → Few (suc (length bs)) (resumed (b ∷ []) v rest bs)) → (o : Option Sequence) →
-    Few (suc (suc (length bs))) (elim o [ none ↦ none | some (sequence first mark rest) ↦ Option·map (λ cs. char taken value ∷ cs) (resumed (b ∷ []) (b - mark) rest bs) ])
+-- The characters from the first byte of the next one on.
+few-next : (taken : List ℕ) (value b : ℕ) (bs : List ℕ) → ((v : ℕ) (rest : List Range) → Few (suc (length bs)) (resumed (b ∷ []) v rest bs))
+    → (o : Option Sequence)
+    → Few (suc (suc (length bs)))
+    (elim o [ none ↦ none | some (sequence first mark rest) ↦ Option·map (λ cs. char taken value ∷ cs) (resumed (b ∷ []) (b - mark) rest bs) ])
 few-next taken value b bs ih none = not-any
 few-next taken value b bs ih (some (sequence first mark rest)) = few-map (char taken value) (ih _ rest)
 
@@ -35,12 +39,12 @@ few-resumed : (taken : List ℕ) (value : ℕ) (rs : List Range) (bs : List ℕ)
 unfolding resumed
 few-resumed taken value (r ∷ rs) [] = not-any
 few-resumed taken value (r ∷ rs) (b ∷ bs) = either (Few (suc (suc (length bs)))) (within r b) (few-suc (few-resumed _ _ rs bs)) not-any
-few-resumed taken value [] [] = few {cs = char taken value ∷ []} (omega arith)
+few-resumed taken value [] [] = few-chars {cs = char taken value ∷ []} (omega arith)
 few-resumed taken value [] (b ∷ bs) = few-next taken value b bs (λ v rest. few-resumed _ v rest bs) (startedBy b sequences)
 
 few-decoded : (bs : List ℕ) → Few (length bs) (decoded bs)
 unfolding decoded
-few-decoded [] = few {cs = []} (omega arith)
+few-decoded [] = few-chars {cs = []} (omega arith)
 few-decoded (b ∷ bs) = go (startedBy b sequences)
   where
     go : (o : Option Sequence) → Few (suc (length bs)) (elim o [ none ↦ none | some (sequence first mark rest) ↦ resumed (b ∷ []) (b - mark) rest bs ])
@@ -58,30 +62,34 @@ length-before [] s = omega arith
 length-before (a ∷ as′) s = let h = length-before as′ s in omega arith
 
 -- The bytes of all lines are the bytes of the text.
-bytesOf : List (List ℕ) → ℕ
-bytesOf [] = zero
-bytesOf (line ∷ rest) = length line + bytesOf rest
+byteCount : List (List ℕ) → ℕ
+byteCount [] = zero
+byteCount (line ∷ rest) = length line + byteCount rest
 
-bytes-onto : (b : ℕ) (ls : List (List ℕ)) → bytesOf (onto b ls) ≡ suc (bytesOf ls)
-unfolding bytesOf onto
+bytes-onto : (b : ℕ) (ls : List (List ℕ)) → byteCount (ontoFirstLine b ls) ≡ suc (byteCount ls)
+unfolding byteCount ontoFirstLine
 bytes-onto b [] = omega arith
 bytes-onto b (line ∷ rest) = omega arith
 
-bytes-lines : (text : List ℕ) → bytesOf (lines text) ≡ length text
-unfolding bytesOf lines
+bytes-lines : (text : List ℕ) → byteCount (lines text) ≡ length text
+unfolding byteCount lines
 bytes-lines [] = refl
-bytes-lines (b ∷ bs) = let h = bytes-lines bs in either (λ ls. bytesOf ls ≡ suc (length bs)) (eqb b 0x0A) {x = (b ∷ []) ∷ lines bs} {y = onto b (lines bs)} (omega arith) (bytes-onto b (lines bs) ∙ ap suc h)
+bytes-lines (b ∷ bs) =
+    let h = bytes-lines bs in
+    either (λ ls. byteCount ls ≡ suc (length bs)) (eqb b 0x0A) {x = (b ∷ []) ∷ lines bs} {y = ontoFirstLine b (lines bs)}
+    (omega arith) (bytes-onto b (lines bs) ∙ ap suc h)
 
-few-characters : (ls : List (List ℕ)) → streamLength (characters ls) ≤ bytesOf ls
-unfolding streamLength bytesOf characters
+few-characters : (ls : List (List ℕ)) → streamLength (characters ls) ≤ byteCount ls
+unfolding streamLength byteCount characters
 few-characters [] = omega arith
 few-characters (line ∷ rest) = go (decoded line) (few-characters rest) (few-decoded line)
   where
-    go : (o : Option (List Char)) → streamLength (characters rest) ≤ bytesOf rest → Few (length line) o → streamLength {A = Char} (elim o [ none ↦ bad | some cs ↦ before cs (characters rest) ]) ≤ length line + bytesOf rest
+    go : (o : Option (List Char)) → streamLength (characters rest) ≤ byteCount rest → Few (length line) o
+        → streamLength {A = Char} (elim o [ none ↦ bad | some cs ↦ before cs (characters rest) ]) ≤ length line + byteCount rest
     go none r f = omega arith
-    go (some cs) r (few h) = let e = length-before cs (characters rest) in omega arith
+    go (some cs) r (few-chars h) = let e = length-before cs (characters rest) in omega arith
 
--- Tokens and characters: an atom that is being read will be one token.
+-- There are at most as many tokens as characters. An atom that is being read will be one token.
 pending : Place → ℕ
 pending between = 0
 pending inComment = 0
@@ -107,7 +115,8 @@ few-move : (place : Place) (c : Char) → length ((move place c) .0) + pending (
 unfolding move pending
 few-move between (char bytes value) = few-begins (kind value) bytes
 few-move (inAtom a) (char bytes value) = few-continues a (kind value) bytes
-few-move inComment (char bytes value) = either {A = Move} (λ m. length (m .0) + pending (m .1) ≤ 1) (eqb value 0x0A) {x = ([], between)} {y = ([], inComment)} (omega arith) (omega arith)
+few-move inComment (char bytes value) =
+    either {A = Move} (λ m. length (m .0) + pending (m .1) ≤ 1) (eqb value 0x0A) {x = ([], between)} {y = ([], inComment)} (omega arith) (omega arith)
 
 few-unended : (place : Place) → length (unended place) ≡ pending place
 unfolding unended pending
@@ -133,48 +142,60 @@ few-tokens text =
     let b = bytes-lines text in
     omega arith
 
--- Items and tokens, at each level around a reader.
+-- There are at most as many items as tokens, at each level around a reader.
 unfoldable pub itemCount : Items → ℕ
 itemCount closed = zero
 itemCount ended = zero
 itemCount badLine = zero
 itemCount (item then rest) = suc (itemCount rest)
 
-data AtMost (n : ℕ) : Around → Type 0 where
-  at-end : AtMost n atEnd
-  at-bad : AtMost n atBadLine
-  at-inside : (is : Items) {a : Around} → itemCount is ≤ n → AtMost n a → AtMost n (is inside a)
+-- Something holds of what is left of each list around a reader.
+pub data AllAround (P : Items → Type 0) : Around → Type 0 where
+  all-end : AllAround P atEnd
+  all-bad : AllAround P atBadLine
+  all-inside : (is : Items) {a : Around} → P is → AllAround P a → AllAround P (is inside a)
+
+pub all-innermost : {P : Items → Type 0} {a : Around} → P ended → P badLine → AllAround P a → P (innermost a)
+unfolding innermost
+all-innermost e b all-end = e
+all-innermost e b all-bad = b
+all-innermost e b (all-inside is h k) = h
+
+pub all-outer : {P : Items → Type 0} {a : Around} → AllAround P a → AllAround P (outer a)
+unfolding outer
+all-outer all-end = all-end
+all-outer all-bad = all-bad
+all-outer (all-inside is h k) = k
+
+abbrev AtMost : ℕ → Around → Type 0
+AtMost n = AllAround (λ is. itemCount is ≤ n)
 
 at-innermost : {n : ℕ} {a : Around} → AtMost n a → itemCount (innermost a) ≤ n
-unfolding innermost itemCount
-at-innermost at-end = omega arith
-at-innermost at-bad = omega arith
-at-innermost (at-inside is h k) = h
-
-at-outer : {n : ℕ} {a : Around} → AtMost n a → AtMost n (outer a)
-unfolding outer
-at-outer at-end = at-end
-at-outer at-bad = at-bad
-at-outer (at-inside is h k) = k
+unfolding itemCount
+at-innermost h = all-innermost (omega arith) (omega arith) h
 
 at-suc : {n : ℕ} {a : Around} → AtMost n a → AtMost (suc n) a
-at-suc at-end = at-end
-at-suc at-bad = at-bad
-at-suc (at-inside is h k) = at-inside is (omega arith) (at-suc k)
+at-suc all-end = all-end
+at-suc all-bad = all-bad
+at-suc (all-inside is h k) = all-inside is (omega arith) (at-suc k)
 
 at-add : {n : ℕ} (t : Token) {a : Around} → AtMost n a → AtMost (suc n) (add t a)
 unfolding add itemCount
-at-add closing h = at-inside closed (omega arith) (at-suc h)
-at-add (atom bytes) {a} h = let i = at-innermost h in at-inside (word bytes then innermost a) (omega arith) (at-suc (at-outer h))
-at-add opening {a} h = let i = at-innermost (at-outer h) in at-inside (group (innermost a) then innermost (outer a)) (omega arith) (at-suc (at-outer (at-outer h)))
+at-add closing h = all-inside closed (omega arith) (at-suc h)
+at-add (atom bytes) {a} h =
+    let i = at-innermost h in
+    all-inside (word bytes then innermost a) (omega arith) (at-suc (all-outer h))
+at-add opening {a} h =
+    let i = at-innermost (all-outer h) in
+    all-inside (group (innermost a) then innermost (outer a)) (omega arith) (at-suc (all-outer (all-outer h)))
 
 at-around : (ts : Stream Token) → AtMost (streamLength ts) (around ts)
 unfolding around streamLength itemCount
-at-around end = at-end
-at-around bad = at-bad
+at-around end = all-end
+at-around bad = all-bad
 at-around (t ▹ ts) = at-add t (at-around ts)
 
--- The items at top level of a text are at most its bytes.
+-- A text has at most as many items at top level as bytes.
 pub few-items : (text : List ℕ) → itemCount (items (tokens text)) ≤ length text
 unfolding items
 few-items text = let a = at-innermost (at-around (tokens text)) in let t = few-tokens text in omega arith

@@ -1,4 +1,4 @@
--- The cut of a text into items is faithful: what stands around a reader, written out, is the tokens before it.
+-- The cut of a text into items is faithful: what stands around a reader, written out as tokens, is the tokens that are still to be read.
 use mathlib.Core.Path.{_≡_, refl, sym, ap, _∙_}
 use Rattle.horn.specs.Tokens.{Stream, end, bad, _▹_, Token, opening, closing, atom}
 use Rattle.horn.specs.NestedLists.{Around, atEnd, atBadLine, _inside_, innermost, outer, add, around, items, written, writtenOut}

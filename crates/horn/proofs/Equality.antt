@@ -1,10 +1,12 @@
--- Each Boolean test of equality is true exactly where the two are equal; and what the searches of a list find.
+-- Each Boolean test of equality is true exactly where the two are equal; what is found in a list, and what is a member of it.
+use Prim.Native.Nat.{ℕ, zero, suc}
 use mathlib.Core.Path.{_≡_, refl, sym, ap, ap₂, subst, _∙_}
 use mathlib.Core.Bool.{Bool, true, false, not, _&&_, true≢false}
-use mathlib.Core.List.{List, [], _∷_, List·Memᴰ, List·Memᴰ·head, List·Memᴰ·tail}
+use mathlib.Core.List.{List, [], _∷_, _++_, List·Memᴰ, List·Memᴰ·head, List·Memᴰ·tail}
 use mathlib.Core.Option.{none, some}
+use lib.ListN.{getElem?}
 use lib.Dec.{T, eqb, eqb→eq, eqb-refl}
-use Rattle.horn.specs.Names.{named, sameList, first, some-of}
+use Rattle.horn.specs.Names.{named, sameList, first, someOf}
 use Rattle.horn.specs.Rulebook.{Output, sort, judgment, sameOutput, Symbol, symbol, sameSymbol}
 use Rattle.horn.specs.StoredTerms.{Term, node, Terms, []ₜ, _∷ₜ_, sameTerm, sameTerms}
 
@@ -137,17 +139,14 @@ mutual
 pub sameTerm-decides : Decides sameTerm
 sameTerm-decides = record { equal = sameTerm-equal; same = sameTerm-same }
 
-pub sameTerms-decides : Decides sameTerms
-sameTerms-decides = record { equal = sameTerms-equal; same = sameTerms-same }
-
--- Tests differ where the two do.
+-- A test that decides equality is false exactly where the two are not equal.
 pub apart : {A : Type 0} {test : A → A → Bool} → Decides test → (a b : A) → (a ≡ b → ⊥) → test a b ≡ false
 apart {test} d a b n = case (test a b) (λ p. absurd (n (d .equal a b p))) (λ p. p)
 
 pub differ : {A : Type 0} {test : A → A → Bool} → Decides test → (a b : A) → test a b ≡ false → a ≡ b → ⊥
 differ {test} d a b e p = true≢false (sym (d .same a) ∙ ap (test a) p ∙ e)
 
--- Searches of a list.
+-- What a search of a list has found.
 module _ {A : Type 0} (test : A → Bool) where
   pub first-some : (xs : List A) {a : A} → first test xs ≡ some a → List·Memᴰ a xs × (test a ≡ true)
   unfolding first
@@ -164,20 +163,38 @@ module _ {A : Type 0} (test : A → Bool) where
   first-none (x ∷ xs) e a (List·Memᴰ·tail m) =
       chosen (test x) e (λ p q. let z : test a ≡ false = cc in z) (λ p q. first-none xs q a m)
 
-  pub some-of-true : (xs : List A) → some-of test xs ≡ true → (a : A) × List·Memᴰ a xs × (test a ≡ true)
-  unfolding some-of
+  pub some-of-true : (xs : List A) → someOf test xs ≡ true → (a : A) × List·Memᴰ a xs × (test a ≡ true)
+  unfolding someOf
   some-of-true [] e = absurd (true≢false (sym e))
   some-of-true (x ∷ xs) e =
       chosen (test x) e
       (λ p q. (x, List·Memᴰ·head refl, p))
       (λ p q. let (a, m, h) = some-of-true xs q in (a, List·Memᴰ·tail m, h))
 
-  pub some-of-member : (xs : List A) (a : A) → List·Memᴰ a xs → test a ≡ true → some-of test xs ≡ true
-  unfolding some-of
-  some-of-member (x ∷ xs) a (List·Memᴰ·head h) t = rw (sym (ap test h) ∙ t, some-of)
+  pub some-of-member : (xs : List A) (a : A) → List·Memᴰ a xs → test a ≡ true → someOf test xs ≡ true
+  unfolding someOf
+  some-of-member (x ∷ xs) a (List·Memᴰ·head h) t = rw (sym (ap test h) ∙ t, someOf)
   some-of-member (x ∷ xs) a (List·Memᴰ·tail m) t =
-      case (test x) (λ p. rw (p, some-of)) (λ p. rw (p, some-of) (some-of-member xs a m t))
+      case (test x) (λ p. rw (p, someOf)) (λ p. rw (p, someOf) (some-of-member xs a m t))
 
-  pub some-of-false : (xs : List A) → some-of test xs ≡ false → (a : A) → List·Memᴰ a xs → test a ≡ false
+  pub some-of-false : (xs : List A) → someOf test xs ≡ false → (a : A) → List·Memᴰ a xs → test a ≡ false
   some-of-false xs e a m =
       case (test a) (λ p. absurd (true≢false (sym (some-of-member xs a m p) ∙ e))) (λ p. p)
+
+-- Members of a list.
+pub in-cons : {A : Type 0} {a x : A} {xs ys : List A} → (List·Memᴰ a xs → List·Memᴰ a ys) → List·Memᴰ a (x ∷ xs) → List·Memᴰ a (x ∷ ys)
+in-cons f (List·Memᴰ·head e) = List·Memᴰ·head e
+in-cons f (List·Memᴰ·tail m) = List·Memᴰ·tail (f m)
+
+pub in-or-last {ℓ} : {A : Type 0} {C : Type ℓ} {a b : A} (xs : List A) → List·Memᴰ a (xs ++ (b ∷ []))
+    → (List·Memᴰ a xs → C)
+    → (a ≡ b → C)
+    → C
+in-or-last [] (List·Memᴰ·head e) f g = g e
+in-or-last (x ∷ xs) (List·Memᴰ·head e) f g = f (List·Memᴰ·head e)
+in-or-last (x ∷ xs) (List·Memᴰ·tail m) f g = in-or-last xs m (λ n. f (List·Memᴰ·tail n)) g
+
+pub at-member : {A : Type 0} (xs : List A) (n : ℕ) {a : A} → getElem? xs n ≡ some a → List·Memᴰ a xs
+at-member [] n e = let z : _≡_ {A = Bool} true false = cc in absurd (true≢false z)
+at-member (x ∷ xs) zero {a} e = let h : a ≡ x = cc in List·Memᴰ·head h
+at-member (x ∷ xs) (suc n) e = List·Memᴰ·tail (at-member xs n e)

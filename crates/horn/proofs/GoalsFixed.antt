@@ -1,5 +1,5 @@
--- Goals are fixed by the texts: under the theory of a rulebook a goals text has at most one list of goals. For a name finds one
--- constructor and one predicate, so that a well-sorted judgment is told by its form.
+-- Goals are fixed by the texts: under the theory of a rulebook a goals text has at most one list of goals. For no two
+-- constructors and no two predicates share a name, so that two well-sorted judgments that are written alike are equal.
 use Prim.Native.Nat.{ℕ}
 use mathlib.Core.Path.{_≡_, refl, sym, ap, ap₂, _∙_}
 use mathlib.Core.List.{List, [], _∷_, map, List·Memᴰ}
@@ -11,14 +11,14 @@ use Rattle.horn.specs.NestedLists.{Sexp, leaf, list, Sexps, []ₛ, _∷�
 use Rattle.horn.specs.Rulebook.{symbol, sort, judgment, Theory, theory, isConstructor, isPredicate}
 use Rattle.horn.specs.StoredTerms.{Term, node, Terms, _∷ₜ_, Store}
 use Rattle.horn.specs.Checker.{Goal, goal, goalJudgment, goalsOf}
-use Rattle.horn.specs.Written.{symbolName, constantOr, termForm, termForms, judgmentForm, goalForm}
-use Rattle.horn.specs.Forced.{Ground, ground, Grounds, none-left, and-then, WellSorted, well-sorted, Each, judgments, HasGoals}
+use Rattle.horn.specs.Written.{symbolName, constantOr, termSexp, termSexps, judgmentSexp, goalSexp}
+use Rattle.horn.specs.Forced.{Ground, ground, Grounds, no-ground, ground-then, WellSorted, well-sorted, Each, judgments, HasGoals}
 use Rattle.horn.proofs.Equality.{named-decides}
 use Rattle.horn.proofs.Inversion.{some-equal}
 use Rattle.horn.proofs.GoalsWritten.{read-has}
 use Rattle.horn.proofs.CompleteTheory.{Lookups, theory-looks}
 
--- Forms are told by what they are in a text.
+-- The nested list that an item is, whatever ends its lists. So nested lists that are the same items are equal.
 unfoldable mutual
   formOf : Item → Sexp
   formOf (word name) = leaf name
@@ -52,7 +52,7 @@ unfolding topItems topForms
 top-back [] = refl
 top-back (x ∷ xs) = ap₂ _∷_ (form-back x) (top-back xs)
 
--- The parts of equal forms.
+-- Names and arguments that are written alike are equal.
 constant-parts : (n m : Name) (xs ys : Sexps) → constantOr n xs ≡ constantOr m ys → (n ≡ m) × (xs ≡ ys)
 unfolding constantOr
 constant-parts n m []ₛ []ₛ e = (cc, refl)
@@ -68,9 +68,9 @@ module _ {th : Theory} (l : Lookups th) where
   unfolding isConstructor symbolName
   constructor-told n m is js s r p q e =
       some-equal
-      (sym (l .constructors (symbol n is (sort s)) p (named-decides .same n))
+      (sym (l .finds-constructor (symbol n is (sort s)) p (named-decides .same n))
       ∙ ap (λ x. first (isConstructor x) (th .symbols)) e
-      ∙ l .constructors (symbol m js (sort r)) q (named-decides .same m))
+      ∙ l .finds-constructor (symbol m js (sort r)) q (named-decides .same m))
 
   predicate-told : (n m : Name) (is js : List Name) → List·Memᴰ (symbol n is judgment) (th .symbols)
       → List·Memᴰ (symbol m js judgment) (th .symbols)
@@ -79,35 +79,35 @@ module _ {th : Theory} (l : Lookups th) where
   unfolding isPredicate symbolName
   predicate-told n m is js p q e =
       some-equal
-      (sym (l .predicates (symbol n is judgment) p (named-decides .same n))
+      (sym (l .finds-predicate (symbol n is judgment) p (named-decides .same n))
       ∙ ap (λ x. first (isPredicate x) (th .symbols)) e
-      ∙ l .predicates (symbol m js judgment) q (named-decides .same m))
+      ∙ l .finds-predicate (symbol m js judgment) q (named-decides .same m))
 
   mutual
-    unfolding termForm symbolName
+    unfolding termSexp symbolName
 
-    term-told : {s r : Name} {t u : Term} → Ground th s t → Ground th r u → termForm t ≡ termForm u → t ≡ u
+    term-told : {s r : Name} {t u : Term} → Ground th s t → Ground th r u → termSexp t ≡ termSexp u → t ≡ u
     term-told (ground {name = n} {s = s} {ins = is} {ts = ts} p gs) (ground {name = m} {s = r} {ins = js} {ts = us} q hs) e =
-        let (same, parts) = constant-parts n m (termForms ts) (termForms us) e in
+        let (same, parts) = constant-parts n m (termSexps ts) (termSexps us) e in
         ap₂ node (constructor-told n m is js s r p q same) (terms-told gs hs parts)
 
-    terms-told : {ss rs : List Name} {ts us : Terms} → Grounds th ss ts → Grounds th rs us → termForms ts ≡ termForms us → ts ≡ us
-    terms-told none-left none-left e = refl
-    terms-told none-left (and-then h hs) e = cc
-    terms-told (and-then g gs) none-left e = cc
-    terms-told (and-then g gs) (and-then h hs) e = ap₂ _∷ₜ_ (term-told g h cc) (terms-told gs hs cc)
+    terms-told : {ss rs : List Name} {ts us : Terms} → Grounds th ss ts → Grounds th rs us → termSexps ts ≡ termSexps us → ts ≡ us
+    terms-told no-ground no-ground e = refl
+    terms-told no-ground (ground-then h hs) e = cc
+    terms-told (ground-then g gs) no-ground e = cc
+    terms-told (ground-then g gs) (ground-then h hs) e = ap₂ _∷ₜ_ (term-told g h cc) (terms-told gs hs cc)
 
-  judgment-told : {j k : Term} → WellSorted th j → WellSorted th k → judgmentForm j ≡ judgmentForm k → j ≡ k
-  unfolding judgmentForm symbolName
+  judgment-told : {j k : Term} → WellSorted th j → WellSorted th k → judgmentSexp j ≡ judgmentSexp k → j ≡ k
+  unfolding judgmentSexp symbolName
   judgment-told (well-sorted {name = n} {ins = is} {ts = ts} p gs) (well-sorted {name = m} {ins = js} {ts = us} q hs) e =
       ap₂ node (predicate-told n m is js p q cc) (terms-told gs hs cc)
 
-  goal-told : (g h : Goal) → WellSorted th (goalJudgment g) → WellSorted th (goalJudgment h) → goalForm g ≡ goalForm h → g ≡ h
-  unfolding goalForm goalJudgment
+  goal-told : (g h : Goal) → WellSorted th (goalJudgment g) → WellSorted th (goalJudgment h) → goalSexp g ≡ goalSexp h → g ≡ h
+  unfolding goalSexp goalJudgment
   goal-told (goal n j) (goal m k) v w e = let same = judgment-told v w cc in cc
 
   goals-told : (gs hs : List Goal) → Each (WellSorted th) (map goalJudgment gs) → Each (WellSorted th) (map goalJudgment hs)
-      → map goalForm gs ≡ map goalForm hs
+      → map goalSexp gs ≡ map goalSexp hs
       → gs ≡ hs
   goals-told [] [] v w e = refl
   goals-told [] (h ∷ hs) v w e = cc
@@ -121,7 +121,7 @@ pub goals-fixed : (rulebook text : List ℕ) {th : Theory} {goals others : List 
 unfolding judgments
 goals-fixed rulebook text {goals} {others} e g h =
     goals-told (theory-looks rulebook e) goals others (g .sorted) (h .sorted)
-    (sym (top-back (map goalForm goals)) ∙ ap topForms (sym (g .forms) ∙ h .forms) ∙ top-back (map goalForm others))
+    (sym (top-back (map goalSexp goals)) ∙ ap topForms (sym (g .forms) ∙ h .forms) ∙ top-back (map goalSexp others))
 
 -- A goals text that is read without refusal has exactly the goals that reading gives.
 pub read-exactly : (limits : Setting) (rulebook text : List ℕ) {th : Theory} {goals others : List Goal} {store : Store} → theory rulebook ≡ ok th

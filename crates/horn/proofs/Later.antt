@@ -1,58 +1,140 @@
--- Refusals 1 and 2 come from the lengths alone: reading and judging a rulebook gives later ones.
+-- Refusals 1 and 2 come from the lengths alone: reading and judging a rulebook gives later ones, and so does all that reads goals
+-- and certificate.
 use Prim.Native.Nat.{ℕ, suc, _≤_}
-use mathlib.Core.Bool.{Bool, true, false}
-use mathlib.Core.List.{List}
+use mathlib.Core.List.{List, [], _∷_}
 use native.Mathlib.Omega.{arith}
-use Rattle.horn.specs.Refusals.{Refusal, number, Result, ok, refused, need, _>>=_}
+use lib.ListN.{getElem?}
+use Rattle.horn.specs.Refusals.{Refusal, number, Result}
+use Rattle.horn.specs.Setting.{Setting}
+use Rattle.horn.specs.Tokens.{tokens}
 use Rattle.horn.specs.NestedLists.{Item, word, group, Items, closed, ended, badLine, _then_, items, askedAt, absent}
 use Rattle.horn.specs.NestedLists.{sexp, members, sexps}
-use Rattle.horn.specs.Tokens.{tokens}
-use Rattle.horn.specs.Rulebook.{emptyTheory, theory}
-use Rattle.horn.proofs.Refusing.{Judges, judges-ok, judges-refused, judging-number, judges-declarations}
+use Rattle.horn.specs.Names.{Name}
+use Rattle.horn.specs.Rulebook.{Pattern, Theory, constructor, predicate, ruleNamed, emptyTheory, theory}
+use Rattle.horn.specs.StoredTerms.{Term, Store, holds, intern}
+use Rattle.horn.specs.Checker
+use Rattle.horn.specs.Matching
+use Rattle.horn.specs.Matching.{Step, Bind, match, judgmentOf}
+use Rattle.horn.specs.Certificate
+use Rattle.horn.proofs.Post.{either}
+use Rattle.horn.proofs.Refusing.{Refuses, refuses-none, refuses, refuses-bind, refuses-need, refuses-found}
+use Rattle.horn.proofs.Refusing.{Judges, judging-number, judges-declarations}
 
-pub data Later {A : Type 0} : Result A → Type 0 where
-  later-ok : {a : A} → Later (ok a)
-  later-refused : (r : Refusal) → 3 ≤ number r → Later (refused r)
-
-pub later-bind : {A B : Type 0} {m : Result A} (f : A → Result B) → Later m → ((a : A) → Later (f a)) → Later (m >>= f)
-unfolding _>>=_
-later-bind f (later-ok {a}) k = k a
-later-bind f (later-refused r h) k = later-refused r h
-
-pub later-need : (b : Bool) (r : Refusal) → 3 ≤ number r → Later (need b r)
-unfolding need
-later-need true r h = later-ok
-later-need false r h = later-refused r h
+abbrev pub Later : {A : Type 0} → Result A → Type 0
+Later = Refuses (λ r. 3 ≤ number r)
 
 pub later-asked : (depth : ℕ) → Later (askedAt depth)
 unfolding askedAt number
-later-asked depth = later-need _ Refusal.nesting (omega arith)
+later-asked depth = refuses-need _ Refusal.nesting (omega arith)
 
 mutual
   unfolding sexp absent number
 
   later-sexp : (depth : ℕ) (item : Item) → Later (sexp depth item)
-  later-sexp depth (word bytes) = later-ok
-  later-sexp depth (group inner) = later-bind _ (later-members (suc depth) inner) λ xs. later-ok
+  later-sexp depth (word bytes) = refuses-none
+  later-sexp depth (group inner) = refuses-bind _ (later-members (suc depth) inner) λ xs. refuses-none
 
   later-members : (depth : ℕ) (is : Items) → Later (members depth is)
-  later-members depth closed = later-ok
-  later-members depth badLine = later-refused Refusal.notUtf8 (omega arith)
-  later-members depth ended = later-bind _ (later-asked depth) λ _. later-refused Refusal.textEnds (omega arith)
-  later-members depth (item then rest) = later-bind _ (later-asked depth) λ _. later-bind _ (later-sexp depth item) λ x. later-bind _ (later-members depth rest) λ xs. later-ok
+  later-members depth closed = refuses-none
+  later-members depth badLine = refuses Refusal.notUtf8 (omega arith)
+  later-members depth ended = refuses-bind _ (later-asked depth) λ _. refuses Refusal.textEnds (omega arith)
+  later-members depth (item then rest) =
+      refuses-bind _ (later-asked depth) λ _.
+      refuses-bind _ (later-sexp depth item) λ x. refuses-bind _ (later-members depth rest) λ xs. refuses-none
 
-later-sexps : (is : Items) → Later (sexps is)
+pub later-sexps : (is : Items) → Later (sexps is)
 unfolding sexps number
-later-sexps ended = later-ok
-later-sexps badLine = later-refused Refusal.notUtf8 (omega arith)
-later-sexps closed = later-refused Refusal.strayClosing (omega arith)
-later-sexps (item then rest) = later-bind _ (later-sexp 0 item) λ x. later-bind _ (later-sexps rest) λ xs. later-ok
+later-sexps ended = refuses-none
+later-sexps badLine = refuses Refusal.notUtf8 (omega arith)
+later-sexps closed = refuses Refusal.strayClosing (omega arith)
+later-sexps (item then rest) = refuses-bind _ (later-sexp 0 item) λ x. refuses-bind _ (later-sexps rest) λ xs. refuses-none
 
-later-judges : {A : Type 0} {m : Result A} → Judges m → Later m
-later-judges judges-ok = later-ok
-later-judges (judges-refused r j) = let h = judging-number j in later-refused r (omega arith)
+pub later-judges : {A : Type 0} {m : Result A} → Judges m → Later m
+later-judges refuses-none = refuses-none
+later-judges (refuses r j) = let h = judging-number j in refuses r (omega arith)
 
 -- Reading a rulebook whole and judging it gives no refusal below 3.
 pub later-theory : (text : List ℕ) → Later (theory text)
 unfolding theory
-later-theory text = later-bind _ (later-sexps (items (tokens text))) λ xs. later-judges (judges-declarations emptyTheory xs)
+later-theory text = refuses-bind _ (later-sexps (items (tokens text))) λ xs. later-judges (judges-declarations emptyTheory xs)
+
+-- The parts that goals and certificate are read by and that do not touch the store.
+pub later-absent : {A : Type 0} (depth : ℕ) (r : Refusal) → 3 ≤ number r → Later (absent {A = A} depth r)
+unfolding absent
+later-absent depth r h = refuses-bind _ (later-asked depth) λ _. refuses r h
+
+pub later-word : (item : Item) → Later (Checker.wordDue item)
+unfolding Checker.wordDue number
+later-word (word name) = refuses-none
+later-word (group inner) = refuses Refusal.atomOrList (omega arith)
+
+pub later-group : (item : Item) → Later (Checker.groupDue item)
+unfolding Checker.groupDue number
+later-group (word name) = refuses Refusal.atomOrList (omega arith)
+later-group (group inner) = refuses-none
+
+pub later-ask : (depth : ℕ) (is : Items) → Later (Checker.ask depth is)
+unfolding Checker.ask number
+later-ask depth closed = later-absent depth Refusal.strayClosing (omega arith)
+later-ask depth ended = later-absent depth Refusal.textEnds (omega arith)
+later-ask depth badLine = later-absent depth Refusal.notUtf8 (omega arith)
+later-ask depth (item then rest) = refuses-bind _ (later-asked depth) λ _. refuses-none
+
+pub later-askWord : (depth : ℕ) (is : Items) → Later (Checker.askWord depth is)
+unfolding Checker.askWord
+later-askWord depth is = refuses-bind _ (later-ask depth is) λ p. refuses-bind _ (later-word (p .0)) λ _. refuses-none
+
+pub later-askGroup : (depth : ℕ) (is : Items) → Later (Checker.askGroup depth is)
+unfolding Checker.askGroup
+later-askGroup depth is = refuses-bind _ (later-ask depth is) λ p. refuses-bind _ (later-group (p .0)) λ _. refuses-none
+
+pub later-number : (item : Item) → Later (Checker.numberDue item)
+unfolding Checker.numberDue number
+later-number item = refuses-bind _ (later-word item) λ name. refuses-found _ Refusal.notNumber (omega arith)
+
+pub later-askNumber : (depth : ℕ) (is : Items) → Later (Checker.askNumber depth is)
+unfolding Checker.askNumber
+later-askNumber depth is = refuses-bind _ (later-ask depth is) λ p. refuses-bind _ (later-number (p .0)) λ _. refuses-none
+
+pub later-closing : (is : Items) → Later (Checker.closingDue is)
+unfolding Checker.closingDue number
+later-closing closed = refuses-none
+later-closing ended = refuses Refusal.textEnds (omega arith)
+later-closing badLine = refuses Refusal.notUtf8 (omega arith)
+later-closing (item then rest) = refuses Refusal.excess (omega arith)
+
+pub later-constructor : (th : Theory) (name : Name) → Later (constructor th name)
+unfolding constructor number
+later-constructor th name = refuses-found _ Refusal.unknown (omega arith)
+
+pub later-predicate : (th : Theory) (name : Name) → Later (predicate th name)
+unfolding predicate number
+later-predicate th name = refuses-found _ Refusal.unknown (omega arith)
+
+pub later-rule : (th : Theory) (name : Name) → Later (ruleNamed th name)
+unfolding ruleNamed number
+later-rule th name = refuses-found _ Refusal.unknown (omega arith)
+
+pub later-references : (is : Items) → Later (Certificate.references is)
+unfolding Certificate.references number
+later-references closed = refuses-none
+later-references badLine = refuses Refusal.notUtf8 (omega arith)
+later-references ended = later-absent 2 Refusal.textEnds (omega arith)
+later-references (item then rest) =
+    refuses-bind _ (later-asked 2) λ _.
+    refuses-bind _ (later-number item) λ n. refuses-bind _ (later-references rest) λ _. refuses-none
+
+pub later-premises : (steps : List Step) (ps : List Pattern) (ns : List ℕ) (binds : List Bind) → Later (Matching.matchPremises steps ps ns binds)
+unfolding Matching.matchPremises number
+later-premises steps [] [] binds = refuses-none
+later-premises steps [] (n ∷ ns) binds = refuses Refusal.referenceCount (omega arith)
+later-premises steps (p ∷ ps) [] binds = refuses Refusal.referenceCount (omega arith)
+later-premises steps (p ∷ ps) (n ∷ ns) binds =
+    refuses-bind _ (refuses-found (getElem? steps n) Refusal.noSuchStep (omega arith)) λ s.
+    refuses-bind _ (refuses-found (match p (judgmentOf s) binds) Refusal.badPremise (omega arith)) λ more.
+    later-premises steps ps ns more
+
+-- Storing a term.
+pub later-intern : (limits : Setting) (t : Term) (store : Store) → Later (intern limits t store)
+unfolding intern number
+later-intern limits t store = either Later (holds store t) refuses-none (refuses-bind _ (refuses-need _ Refusal.storeFull (omega arith)) λ _. refuses-none)

@@ -30,19 +30,27 @@ unfolding Utf8.within Utf8.tail Utf8.sequences Utf8.startedBy Utf8.resumed Utf8.
 openUtf8 = tt
 
 unfoldable pub openTokens : Unit {0}
-unfolding Tokens.before Tokens.onto Tokens.lines Tokens.characters Tokens.whiteRanges Tokens.inSome Tokens.white Tokens.kind Tokens.begins Tokens.continues Tokens.move Tokens.unended Tokens.tokensFrom Tokens.tokens
+unfolding Tokens.before Tokens.ontoFirstLine Tokens.lines Tokens.characters Tokens.whiteRanges Tokens.inSome Tokens.white Tokens.kind
+    Tokens.begins Tokens.continues Tokens.move Tokens.unended Tokens.tokensFrom Tokens.tokens
 openTokens = tt
 
 unfoldable pub openNestedLists : Unit {0}
-unfolding NestedLists.innermost NestedLists.outer NestedLists.add NestedLists.around NestedLists.items NestedLists.askedAt NestedLists.absent NestedLists.sexps NestedLists.sexp
+unfolding NestedLists.innermost NestedLists.outer NestedLists.add NestedLists.around NestedLists.items NestedLists.askedAt
+    NestedLists.absent NestedLists.sexps NestedLists.sexp
 openNestedLists = tt
 
 unfoldable pub openNames : Unit {0}
-unfolding Names.sameList Names.named Names.codes Names.questioned Names.bare Names.first Names.some-of
+unfolding Names.sameList Names.named Names.codes Names.questioned Names.bare Names.first Names.isZero Names.someOf
 openNames = tt
 
 unfoldable pub openRulebook : Unit {0}
-unfolding Rulebook.sameOutput Rulebook.sameSymbol Rulebook.inputs Rulebook.output Rulebook.sortOf Rulebook.variablesOf Rulebook.premisesOf Rulebook.conclusionOf Rulebook.isConstructor Rulebook.isPredicate Rulebook.isRule Rulebook.isVariable Rulebook.constructor Rulebook.predicate Rulebook.ruleNamed Rulebook.atomDue Rulebook.listDue Rulebook.declaredName Rulebook.sortNamed Rulebook.sortsNamed Rulebook.count Rulebook.fits Rulebook.schematic Rulebook.constant Rulebook.isEmpty Rulebook.judgmentOf Rulebook.judgmentPattern Rulebook.judgmentPatterns Rulebook.declareSort Rulebook.withSymbol Rulebook.declareConstructor Rulebook.declarePredicate Rulebook.declareRule Rulebook.oneMember Rulebook.twoMembers Rulebook.threeMembers Rulebook.keyword Rulebook.declare Rulebook.headed Rulebook.declaration Rulebook.declarations Rulebook.emptyTheory Rulebook.theory Rulebook.pattern
+unfolding Rulebook.sameOutput Rulebook.sameSymbol Rulebook.inputs Rulebook.output Rulebook.sortOf Rulebook.variablesOf Rulebook.premisesOf
+    Rulebook.conclusionOf Rulebook.isConstructor Rulebook.isPredicate Rulebook.isRule Rulebook.isVariable Rulebook.constructor
+    Rulebook.predicate Rulebook.ruleNamed Rulebook.atomDue Rulebook.listDue Rulebook.declaredName Rulebook.sortNamed Rulebook.sortsNamed
+    Rulebook.count Rulebook.fits Rulebook.variablePattern Rulebook.constantPattern Rulebook.judgmentMembers Rulebook.judgmentPattern
+    Rulebook.judgmentPatterns Rulebook.declareSort Rulebook.withSymbol Rulebook.declareConstructor Rulebook.declarePredicate
+    Rulebook.declareRule Rulebook.oneMember Rulebook.twoMembers Rulebook.threeMembers Rulebook.declarationWord Rulebook.declare
+    Rulebook.headedDeclaration Rulebook.declaration Rulebook.declarations Rulebook.emptyTheory Rulebook.theory Rulebook.pattern
 openRulebook = tt
 
 unfoldable pub openStoredTerms : Unit {0}
@@ -50,7 +58,10 @@ unfolding StoredTerms.width StoredTerms.nodeSize StoredTerms.size StoredTerms.ho
 openStoredTerms = tt
 
 unfoldable pub openChecker : Unit {0}
-unfolding Checker._>>=_ Checker.give Checker.lift Checker.wordDue Checker.groupDue Checker.ask Checker.askWord Checker.askGroup Checker.closingDue Checker.decimal Checker.digits Checker.numeral Checker.numberDue Checker.askNumber Checker.isDef Checker.meaning Checker.goalJudgment Checker.isGoal Checker.hasSort Checker.accepts Checker.isNil Checker.isEmptyList Checker.stored Checker.make Checker.atomTerm Checker.askTerm Checker.headedJudgment Checker.askJudgment Checker.goalForm Checker.goalForms Checker.goalsOf Checker.term
+unfolding Checker._>>=_ Checker.give Checker.lift Checker.wordDue Checker.groupDue Checker.ask Checker.askWord Checker.askGroup
+    Checker.closingDue Checker.decimal Checker.digits Checker.numeral Checker.numberDue Checker.askNumber Checker.isDef Checker.meaning
+    Checker.goalJudgment Checker.isGoal Checker.hasSort Checker.accepts Checker.stored Checker.make Checker.atomTerm Checker.askTerm
+    Checker.headedJudgment Checker.askJudgment Checker.goalForm Checker.goalForms Checker.goalsOf Checker.term
 openChecker = tt
 
 unfoldable pub openMatching : Unit {0}
@@ -58,11 +69,15 @@ unfolding Matching.judgmentOf Matching.lookup Matching.matchVar Matching.matchPr
 openMatching = tt
 
 unfoldable pub openCertificate : Unit {0}
-unfolding Certificate.references Certificate.isBound Certificate.isStated Certificate.without Certificate.keyword Certificate.defForm Certificate.resultForm Certificate.bindingItem Certificate.conclusionItem Certificate.stepItem Certificate.stepItems Certificate.conclude Certificate.stepForm Certificate.headedForm Certificate.certificateForm Certificate.certificateForms Certificate.certificateOf
+unfolding Certificate.references Certificate.isBound Certificate.isStated Certificate.without Certificate.formWord Certificate.defForm
+    Certificate.resultForm Certificate.bindingItem Certificate.conclusionItem Certificate.stepItem Certificate.stepItems
+    Certificate.conclude Certificate.stepForm Certificate.headedForm Certificate.certificateForm Certificate.certificateForms
+    Certificate.certificateOf
 openCertificate = tt
 
 unfoldable pub openCalls : Unit {0}
-unfolding Calls.constructorCount Calls.predicateCount Calls.areasLong Calls.rulebookJudged Calls.releaseJudged Calls.rulebookAnswer Calls.releaseAnswer Calls.rulebookCall Calls.releaseCall Calls.areaAfter Calls.leaving Calls.rulebookLeft Calls.releaseLeft
+unfolding Calls.constructorCount Calls.predicateCount Calls.areasLong Calls.rulebookJudged Calls.releaseJudged Calls.rulebookAnswer
+    Calls.releaseAnswer Calls.rulebookCall Calls.releaseCall Calls.areaAfter Calls.leaving Calls.rulebookLeft Calls.releaseLeft
 openCalls = tt
 
 -- 01's limits, but for those of the store.
@@ -78,9 +93,11 @@ storeOf nodes words =
       nodeWords = words;
     }
 
--- The call with three texts, on areas of some lengths, and on areas just long enough.
+-- The call with three texts, on areas of given lengths (`releaseOn`) and on areas just long enough (`release`), for a store of given
+-- limits.
 unfoldable pub releaseOn : ℕ → ℕ → ℕ → ℕ → ℕ → ℕ → List ℕ → List ℕ → List ℕ → Report
-unfolding storeOf openRefusals openSetting openUtf8 openTokens openNestedLists openNames openRulebook openStoredTerms openChecker openMatching openCertificate openCalls
+unfolding storeOf openRefusals openSetting openUtf8 openTokens openNestedLists openNames openRulebook openStoredTerms openChecker
+    openMatching openCertificate openCalls
 releaseOn a b c d nodes words rulebook goals certificate = releaseCall (storeOf nodes words) a b c d rulebook goals certificate
 
 unfoldable pub release : ℕ → ℕ → List ℕ → List ℕ → List ℕ → Report
@@ -89,7 +106,8 @@ release = releaseOn 16_384 16_384 16_384 16_384
 
 -- The same for the call with the rulebook alone.
 unfoldable pub rulebookOn : ℕ → ℕ → ℕ → ℕ → List ℕ → RulebookReport
-unfolding openRefusals openSetting openUtf8 openTokens openNestedLists openNames openRulebook openStoredTerms openChecker openMatching openCertificate openCalls
+unfolding openRefusals openSetting openUtf8 openTokens openNestedLists openNames openRulebook openStoredTerms openChecker openMatching
+    openCertificate openCalls
 rulebookOn a b c d text = rulebookCall document01 a b c d text
 
 unfoldable pub rulebook : List ℕ → RulebookReport

@@ -8,21 +8,21 @@ use Rattle.horn.specs.Setting.{Setting}
 use Rattle.horn.specs.Names.{Name, named}
 use Rattle.horn.specs.Rulebook.{Symbol, symbol, sort, judgment, sameSymbol, Variable, variable, Pattern, var, app, Patterns, []ₚ, _∷ₚ_, Theory}
 use Rattle.horn.specs.StoredTerms.{Term, node, Terms, []ₜ, _∷ₜ_, sameTerm, Store}
-use Rattle.horn.specs.Checker.{stored}
 use Rattle.horn.specs.Matching.{Bind, bind, lookup, matchVar, match, matches, build, builds}
-use Rattle.horn.specs.Forced.{Ground, ground, Grounds, none-left, and-then, WellSorted, well-sorted, Assignment, substitute, substituteAll}
+use Rattle.horn.specs.Forced.{Ground, ground, Grounds, no-ground, ground-then, WellSorted, well-sorted, Assignment, substitute, substituteAll}
 use Rattle.horn.proofs.Equality.{chosen, chose-true, chose-false, named-decides, sameSymbol-decides, sameTerm-decides}
-use Rattle.horn.proofs.Inversion.{none-some, some-equal, ok-equal, afterᵣ, after, given-is, lifted, was-found, chosen-option}
+use Rattle.horn.proofs.Inversion.{none-some, some-equal, after, given-is, lifted, was-found, chosen-option}
+use Rattle.horn.proofs.WasRead.{after-stored}
 use Rattle.horn.proofs.SoundnessWords.{Sorted, a-variable, a-term, AllSorted, no-pattern, pattern-then, SortedJudgment, a-judgment}
 use Rattle.horn.proofs.SoundnessWords.{Throughout, at-variable, in-term, ThroughoutAll, in-none, in-next, throughout-by, OneSort}
 
--- A name is bound; more bindings keep those before; an assignment agrees with bindings.
+-- A name has a binding (`Bound`), some bindings keep others (`KeepsBinds`), an assignment agrees with bindings (`Agrees`).
 pub record Bound (binds : List Bind) (name : Name) : Type 0 where
   pub to : Term
   pub is : lookup name binds ≡ some to
 
-abbrev pub Keeps : List Bind → List Bind → Type 0
-Keeps binds more = (name : Name) (t : Term) → lookup name binds ≡ some t → lookup name more ≡ some t
+abbrev pub KeepsBinds : List Bind → List Bind → Type 0
+KeepsBinds binds more = (name : Name) (t : Term) → lookup name binds ≡ some t → lookup name more ≡ some t
 
 abbrev pub Agrees : Assignment → List Bind → Type 0
 Agrees σ binds = (name : Name) (t : Term) → lookup name binds ≡ some t → σ name ≡ t
@@ -32,7 +32,7 @@ abbrev pub GroundBinds : Theory → List Variable → List Bind → Type 0
 GroundBinds th vs binds = (name s : Name) (t : Term) → List·Memᴰ (variable name s) vs → lookup name binds ≡ some t → Ground th s t
 
 -- One binding more.
-lookup-kept : (binds : List Bind) (n : Name) (u : Term) → Keeps binds (binds ++ (bind n u ∷ []))
+lookup-kept : (binds : List Bind) (n : Name) (u : Term) → KeepsBinds binds (binds ++ (bind n u ∷ []))
 unfolding lookup
 lookup-kept [] n u name t e = none-some e
 lookup-kept (bind m v ∷ binds) n u name t e =
@@ -70,21 +70,21 @@ ground-binds-more {th} {vs} {n} {s} {u} binds one m g b name r t m′ e =
     (λ p q. subst (Ground th r) q
     (subst (λ z. Ground th z u) (one n s r m (subst (λ z. List·Memᴰ (variable z r) vs) p m′)) g))
 
-pub bound-in-more : {binds more : List Bind} {p : Pattern} → Keeps binds more → Throughout (Bound binds) p → Throughout (Bound more) p
+pub bound-in-more : {binds more : List Bind} {p : Pattern} → KeepsBinds binds more → Throughout (Bound binds) p → Throughout (Bound more) p
 bound-in-more k = throughout-by (λ n b. record { to = b .to; is = k n (b .to) (b .is) })
 
 -- What a match has brought about.
 pub record Matched (binds more : List Bind) (p : Pattern) (t : Term) : Type 0 where
-  pub keep : Keeps binds more
+  pub keep : KeepsBinds binds more
   pub gives : (σ : Assignment) → Agrees σ more → substitute σ p ≡ t
   pub bound : Throughout (Bound more) p
 
 pub record AllMatched (binds more : List Bind) (ps : Patterns) (ts : Terms) : Type 0 where
-  pub keep : Keeps binds more
+  pub keep : KeepsBinds binds more
   pub gives : (σ : Assignment) → Agrees σ more → substituteAll σ ps ≡ ts
   pub bound : ThroughoutAll (Bound more) ps
 
--- The same bindings of the same variable give the same term.
+-- A variable that is bound to a term matches that term, and no binding is added.
 at-bound : {binds : List Bind} {name : Name} {t : Term} → lookup name binds ≡ some t → Matched binds binds (var name) t
 unfolding substitute
 at-bound {binds} {name} {t} e =
@@ -174,12 +174,13 @@ module _ {th : Theory} {vs : List Variable} (one : OneSort vs) where
         matches-ground ps (subst (λ z. Grounds th z ts) same-inputs gs) binds q b)
         (λ p q. none-some q)
 
-    matches-ground : {ss : List Name} {ps : Patterns} {ts : Terms} → AllSorted (th .symbols) vs ss ps → Grounds th ss ts → (binds : List Bind) {more : List Bind}
+    matches-ground : {ss : List Name} {ps : Patterns} {ts : Terms} → AllSorted (th .symbols) vs ss ps
+        → Grounds th ss ts → (binds : List Bind) {more : List Bind}
         → matches ps ts binds ≡ some more
         → GroundBinds th vs binds
         → GroundBinds th vs more
-    matches-ground no-pattern none-left binds e b = subst (GroundBinds th vs) (some-equal e) b
-    matches-ground (pattern-then {p = p} sp sps) (and-then {t = t} g gs) binds e b =
+    matches-ground no-pattern no-ground binds e b = subst (GroundBinds th vs) (some-equal e) b
+    matches-ground (pattern-then {p = p} sp sps) (ground-then {t = t} g gs) binds e b =
         chosen-option (match p t binds) e
         (λ h q. none-some q)
         (λ more h q. matches-ground sps gs more q (match-ground sp g binds h b))
@@ -197,11 +198,6 @@ module _ {th : Theory} {vs : List Variable} (one : OneSort vs) where
       matches-ground ps (subst (λ z. Grounds th z ts) same-inputs gs) binds q b)
       (λ p q. none-some q)
 
--- What is put into the store is what was to be put there.
-pub stored-is : (limits : Setting) (t : Term) (s : Store) {s′ : Store} {u : Term} → stored limits t s ≡ ok (u, s′) → t ≡ u
-unfolding stored
-stored-is limits t s e = afterᵣ _ e λ a e₁ e₂. ap (λ q. q .0) (ok-equal e₂)
-
 -- Building gives the pattern under the bindings.
 module _ (limits : Setting) (binds : List Bind) where
   mutual
@@ -211,7 +207,7 @@ module _ (limits : Setting) (binds : List Bind) where
     built (var name) s e = lifted _ e λ h q. was-found _ _ h λ f. at-bound f
     built (app c ps) s e =
         after _ e λ ts s₁ e₁ e₂.
-        subst (Matched binds binds (app c ps)) (stored-is limits (node c ts) s₁ e₂) (in-matched-term refl (all-built ps s e₁))
+        after-stored limits (node c ts) s₁ e₂ λ i same. subst (Matched binds binds (app c ps)) same (in-matched-term refl (all-built ps s e₁))
 
     pub all-built : (ps : Patterns) (s : Store) {s′ : Store} {ts : Terms} → builds limits binds ps s ≡ ok (ts, s′) → AllMatched binds binds ps ts
     all-built []ₚ s e = given-is e λ p q. subst (AllMatched binds binds []ₚ) p (matched-none binds)

@@ -1,15 +1,16 @@
 -- Of an accepted release each step is concluded by an instance of its own rule, from derivable premises.
 use Prim.Native.Nat.{ℕ}
 use mathlib.Core.Path.{_≡_}
-use mathlib.Core.List.{List, [], List·Memᴰ}
+use mathlib.Core.List.{List, List·Memᴰ}
 use Rattle.horn.specs.Setting.{Setting}
 use Rattle.horn.specs.Matching.{Step, judgmentOf, ruleOf}
 use Rattle.horn.specs.Calls.{Report, releaseCall}
 use Rattle.horn.specs.Forced.{Concluded}
 use Rattle.horn.proofs.SoundnessRulebook.{theory-formed}
-use Rattle.horn.proofs.SoundnessReading.{goals-read}
+use Rattle.horn.proofs.SoundnessReading.{one-each-read}
+use Rattle.horn.proofs.WasRead.{text-read}
 use Rattle.horn.proofs.SoundnessCertificate.{steps-sound}
-use Rattle.horn.proofs.Soundness.{AcceptedRun, accepted-run}
+use Rattle.horn.proofs.Accepting.{AcceptedRun, accepted-run}
 
 -- The run of an accepted release, with what is said of its steps.
 pub record Stepwise (limits : Setting) (rulebook text certificate : List ℕ) (answer : Report) : Type 0 where
@@ -21,7 +22,8 @@ pub release-steps : (limits : Setting) (a b c d : ℕ) (rulebook text certificat
     → Stepwise limits rulebook text certificate (releaseCall limits a b c d rulebook text certificate)
 release-steps limits a b c d rulebook text certificate zero-number =
     let x = accepted-run limits a b c d rulebook text certificate zero-number in
-    let (one, some) = goals-read limits (x .th) text [] (x .read) in
+    let (some, read) = text-read limits (x .th) text (x .read) in
+    let one = one-each-read read (λ n g h m. elim m [ ]) in
     record {
       run = x;
       each = steps-sound limits (x .th) (theory-formed rulebook (x .gives)) (x .goals) certificate (x .store) one (x .taken);

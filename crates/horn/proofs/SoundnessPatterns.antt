@@ -1,8 +1,8 @@
--- A rule's patterns that were read are well-sorted under the variables that were read with them.
+-- The patterns of a rule, as they are read, are well-sorted by the variables that are read with them.
 use Prim.Native.Nat.{ℕ, zero}
 use mathlib.Core.Path.{_≡_, refl, sym, ap, subst, _∙_}
 use mathlib.Core.Bool.{true, false, true≢false}
-use mathlib.Core.List.{List, [], _∷_, _++_, List·Memᴰ, List·Memᴰ·head, List·Memᴰ·tail}
+use mathlib.Core.List.{List, [], _∷_, _++_, List·Memᴰ, List·Memᴰ·head, List·Memᴰ·tail, Memᴰ·append-left, Memᴰ·append-right}
 use mathlib.Core.Option.{none, some}
 use lib.Dec.{eqb}
 use lib.ListN.{length}
@@ -13,30 +13,13 @@ use Rattle.horn.specs.NestedLists.{Sexp, leaf, list, Sexps, []ₛ, _∷�
 use Rattle.horn.specs.Rulebook
 use Rattle.horn.specs.Rulebook.{Symbol, symbol, Output, sameOutput, sort, judgment, Variable, variable, Pattern, var, app, Patterns, []ₚ, _∷ₚ_}
 use Rattle.horn.specs.Rulebook.{Theory}
-use Rattle.horn.proofs.Equality.{case, apart, differ, both, chosen, eqb-decides, named-decides, sameOutput-decides, first-some, first-none}
-use Rattle.horn.proofs.Inversion.{not-ok, none-some, ok-equal, afterᵣ, afterNeedᵣ, was-found, chosen-option}
+use Rattle.horn.proofs.Equality.{case, apart, differ, both, chosen, eqb-decides, named-decides, sameOutput-decides, first-some, first-none, in-or-last}
+use Rattle.horn.proofs.Inversion.{not-ok, none-some, ok-equal, afterᵣ, after-needᵣ, was-found, chosen-option}
 use Rattle.horn.proofs.SoundnessWords.{Sorted, a-variable, a-term, AllSorted, no-pattern, pattern-then, SortedJudgment}
 use Rattle.horn.proofs.SoundnessWords.{a-judgment, sorted-in-more, judgment-in-more, Throughout}
 use Rattle.horn.proofs.SoundnessWords.{at-variable, in-term, ThroughoutAll, in-next, Covers, OneSort, Apart, no-names, name-apart}
 
--- Members of a list with one entry more.
-pub in-longer : {A : Type 0} {a : A} {xs : List A} (ys : List A) → List·Memᴰ a xs → List·Memᴰ a (xs ++ ys)
-in-longer ys (List·Memᴰ·head e) = List·Memᴰ·head e
-in-longer ys (List·Memᴰ·tail m) = List·Memᴰ·tail (in-longer ys m)
-
-pub at-end : {A : Type 0} (a : A) (xs : List A) → List·Memᴰ a (xs ++ (a ∷ []))
-at-end a [] = List·Memᴰ·head refl
-at-end a (x ∷ xs) = List·Memᴰ·tail (at-end a xs)
-
-pub in-or-last {ℓ} : {A : Type 0} {C : Type ℓ} {a b : A} (xs : List A) → List·Memᴰ a (xs ++ (b ∷ []))
-    → (List·Memᴰ a xs → C)
-    → (a ≡ b → C)
-    → C
-in-or-last [] (List·Memᴰ·head e) f g = g e
-in-or-last (x ∷ xs) (List·Memᴰ·head e) f g = f (List·Memᴰ·head e)
-in-or-last (x ∷ xs) (List·Memᴰ·tail m) f g = in-or-last xs m (λ n. f (List·Memᴰ·tail n)) g
-
--- Symbols by their names.
+-- A symbol that is found by its name is declared, and has that name.
 pub constructor-declared : (th : Theory) (name : Name) {c : Symbol} → Rulebook.constructor th name ≡ ok c
     → List·Memᴰ c (th .symbols) × (Rulebook.isConstructor name c ≡ true)
 unfolding Rulebook.constructor
@@ -57,7 +40,7 @@ pub record Extends (uses : (Name → Type 0) → Type 0) (vs ws : List Variable)
 extends-none : {uses : (Name → Type 0) → Type 0} (vs : List Variable) → Extends uses vs vs
 extends-none vs = record { grow = λ v m. m; keep = λ o. o; apart = λ a. a; occur = λ P u c. c }
 
--- One part after another.
+-- What reading one part and then another does.
 extends-both : {A B both : (Name → Type 0) → Type 0} {us vs ws : List Variable} → Extends A us vs → Extends B vs ws
     → ((P : Name → Type 0) → both P → A P × B P)
     → Extends both us ws
@@ -73,7 +56,7 @@ extends-by : {A B : (Name → Type 0) → Type 0} {vs ws : List Variable} → Ex
     → Extends B vs ws
 extends-by x f = record { grow = x .grow; keep = x .keep; apart = x .apart; occur = λ P u c. x .occur P (f P u) c }
 
--- A new variable.
+-- A variable that was not met before.
 variable-equal : {n m s t : Name} → variable n s ≡ variable m t → (n ≡ m) × (s ≡ t)
 variable-equal e = (cc, cc)
 
@@ -86,7 +69,7 @@ in-term-of (in-term ps) = ps
 in-next-of : {P : Name → Type 0} {p : Pattern} {ps : Patterns} → ThroughoutAll P (p ∷ₚ ps) → Throughout P p × ThroughoutAll P ps
 in-next-of (in-next p ps) = (p, ps)
 
--- A name that no variable has, behind them.
+-- The variables stay apart when one of a new name is added behind them.
 none-behind : (key name s : Name) (vs : List Variable) → first (Rulebook.isVariable key) vs ≡ none → named key name ≡ false
     → first (Rulebook.isVariable key) (vs ++ (variable name s ∷ [])) ≡ none
 unfolding first Rulebook.isVariable
@@ -112,7 +95,7 @@ extends-new : (name s : Name) (vs : List Variable) → first (Rulebook.isVariabl
 unfolding Rulebook.isVariable
 extends-new name s vs e =
     record {
-      grow = λ v m. in-longer _ m;
+      grow = λ v m. Memᴰ·append-left _ m;
       keep = λ o n t u m₁ m₂.
           in-or-last vs m₁
           (λ m₁′. in-or-last vs m₂ (λ m₂′. o n t u m₁′ m₂′) (λ q. absurd (other t m₁′ ((variable-equal q) .0))))
@@ -128,7 +111,8 @@ extends-new name s vs e =
     other {n} t m p =
         true≢false (sym (named-decides .same name) ∙ ap (named name) (sym p) ∙ first-none (Rulebook.isVariable name) vs e (variable n t) m)
 
--- What is known of a pattern that was read at a sort, with the variables after it; of arguments; of a judgment.
+-- What is known of a pattern that was read at a place of some sort, with the variables after it; the same of arguments, of a judgment and
+-- of judgments.
 pub record ReadAs (symbols : List Symbol) (vs : List Variable) (s : Name) (q : Pattern × List Variable) : Type 1 where
   pub extends : Extends (λ P. Throughout P (q .0)) vs (q .1)
   pub sorted : Sorted symbols (q .1) s (q .0)
@@ -160,21 +144,21 @@ known-variable symbols name s n t vs f p =
 parts : (v : Variable) → (n : Name) × (t : Name) × (v ≡ variable n t)
 parts (variable n t) = (n, t, refl)
 
-read-schematic : (symbols : List Symbol) (name s : Name) (vs : List Variable) {q : Pattern × List Variable}
-    → Rulebook.schematic name s vs ≡ ok q
+read-variable-pattern : (symbols : List Symbol) (name s : Name) (vs : List Variable) {q : Pattern × List Variable}
+    → Rulebook.variablePattern name s vs ≡ ok q
     → ReadAs symbols vs s q
-unfolding Rulebook.schematic
-read-schematic symbols name s vs e =
-    afterNeedᵣ _ _ _ e λ p e₁.
+unfolding Rulebook.variablePattern
+read-variable-pattern symbols name s vs e =
+    after-needᵣ _ _ _ e λ p e₁.
     chosen-option (first (Rulebook.isVariable name) vs) e₁
     (λ f e₂. subst (ReadAs symbols vs s) (ok-equal e₂)
-    record { extends = extends-new name s vs f; sorted = a-variable (at-end (variable name s) vs) })
+    record { extends = extends-new name s vs f; sorted = a-variable (Memᴰ·append-right vs (List·Memᴰ·head refl)) })
     (λ v f e₂.
     let (n, t, is) = parts v in
-    afterNeedᵣ _ _ _ (rw is at e₂) λ h e₃.
+    after-needᵣ _ _ _ (rw is at e₂) λ h e₃.
     subst (ReadAs symbols vs s) (ok-equal e₃) (known-variable symbols name s n t vs (f ∙ ap some is) h))
 
--- A constructor over arguments that were read, and a predicate.
+-- A constructor, or a predicate, with arguments that were read.
 read-term : {symbols : List Symbol} {vs : List Variable} (name s : Name) (n : ℕ) (c : Symbol) {q : Patterns × List Variable}
     → List·Memᴰ c symbols × (Rulebook.isConstructor name c ≡ true)
     → Rulebook.fits c (sort s) n ≡ true
@@ -207,12 +191,12 @@ read-no-arguments (symbol m (i ∷ is) t) o f =
     let z = eqb-decides .equal (length (i ∷ is)) zero ((both (sameOutput t o) (eqb (length (i ∷ is)) zero) f) .1) in
     absurd (omega (arith, z))
 
--- A pattern, and then more of them.
-read-next : {symbols : List Symbol} {vs : List Variable} {s : Name} {ss : List Name} {q : Pattern × List Variable} {r : Patterns × List Variable}
+-- One pattern or judgment, and then more.
+read-next-pattern : {symbols : List Symbol} {vs : List Variable} {s : Name} {ss : List Name} {q : Pattern × List Variable} {r : Patterns × List Variable}
     → ReadAs symbols vs s q
     → AllReadAs symbols (q .1) ss r
     → AllReadAs symbols vs (s ∷ ss) (q .0 ∷ₚ r .0, r .1)
-read-next x y =
+read-next-pattern x y =
     record {
       extends = extends-both (x .extends) (y .extends) (λ P u. in-next-of u);
       sorted = pattern-then (sorted-in-more (λ c m. m) (y .extends .grow) (x .sorted)) (y .sorted);
@@ -242,12 +226,12 @@ read-next-judgment {symbols} {q} {r} x y =
     sorted-one (List·Memᴰ·tail m) = y .sorted _ m
 
 module _ (th : Theory) where
-  read-constant : (name s : Name) (vs : List Variable) {q : Pattern × List Variable} → Rulebook.constant th name s vs ≡ ok q
+  read-constant-pattern : (name s : Name) (vs : List Variable) {q : Pattern × List Variable} → Rulebook.constantPattern th name s vs ≡ ok q
       → ReadAs (th .symbols) vs s q
-  unfolding Rulebook.constant
-  read-constant name s vs e =
+  unfolding Rulebook.constantPattern
+  read-constant-pattern name s vs e =
       afterᵣ _ e λ c e₁ e₂.
-      afterNeedᵣ _ _ _ e₂ λ f e₃.
+      after-needᵣ _ _ _ e₂ λ f e₃.
       subst (ReadAs (th .symbols) vs s) (ok-equal e₃)
       (read-term name s zero c (constructor-declared th name e₁) f (read-no-arguments c (sort s) f))
 
@@ -257,17 +241,17 @@ module _ (th : Theory) where
     read-pattern : (x : Sexp) (s : Name) (vs : List Variable) {q : Pattern × List Variable} → Rulebook.pattern th x s vs ≡ ok q
         → ReadAs (th .symbols) vs s q
     read-pattern (leaf name) s vs e =
-        chosen (questioned name) e (λ p e₁. read-schematic (th .symbols) name s vs e₁) (λ p e₁. read-constant name s vs e₁)
-    read-pattern (list xs) s vs e = read-compound xs s vs e
+        chosen (questioned name) e (λ p e₁. read-variable-pattern (th .symbols) name s vs e₁) (λ p e₁. read-constant-pattern name s vs e₁)
+    read-pattern (list xs) s vs e = read-compound-pattern xs s vs e
 
-    read-compound : (xs : Sexps) (s : Name) (vs : List Variable) {q : Pattern × List Variable} → Rulebook.compound th xs s vs ≡ ok q
+    read-compound-pattern : (xs : Sexps) (s : Name) (vs : List Variable) {q : Pattern × List Variable} → Rulebook.compoundPattern th xs s vs ≡ ok q
         → ReadAs (th .symbols) vs s q
-    read-compound []ₛ s vs e = not-ok e
-    read-compound (x ∷ₛ xs) s vs e =
+    read-compound-pattern []ₛ s vs e = not-ok e
+    read-compound-pattern (x ∷ₛ xs) s vs e =
         afterᵣ _ e λ name e₁ e₂.
-        afterNeedᵣ _ _ _ e₂ λ p e₃.
+        after-needᵣ _ _ _ e₂ λ p e₃.
         afterᵣ _ e₃ λ c e₄ e₅.
-        afterNeedᵣ _ _ _ e₅ λ f e₆.
+        after-needᵣ _ _ _ e₅ λ f e₆.
         afterᵣ _ e₆ λ q e₇ e₈.
         subst (ReadAs (th .symbols) vs s) (ok-equal e₈)
         (read-term name s (Rulebook.count xs) c (constructor-declared th name e₄) f (read-patterns xs (Rulebook.inputs c) vs e₇))
@@ -280,16 +264,16 @@ module _ (th : Theory) where
     read-patterns (x ∷ₛ xs) (s ∷ ss) vs e =
         afterᵣ _ e λ q e₁ e₂.
         afterᵣ _ e₂ λ r e₃ e₄.
-        subst (AllReadAs (th .symbols) vs (s ∷ ss)) (ok-equal e₄) (read-next (read-pattern x s vs e₁) (read-patterns xs ss (q .1) e₃))
+        subst (AllReadAs (th .symbols) vs (s ∷ ss)) (ok-equal e₄) (read-next-pattern (read-pattern x s vs e₁) (read-patterns xs ss (q .1) e₃))
 
-  read-judgment : (xs : Sexps) (vs : List Variable) {q : Pattern × List Variable} → Rulebook.judgmentOf th xs vs ≡ ok q
+  read-judgment-members : (xs : Sexps) (vs : List Variable) {q : Pattern × List Variable} → Rulebook.judgmentMembers th xs vs ≡ ok q
       → JudgmentRead (th .symbols) vs q
-  unfolding Rulebook.judgmentOf
-  read-judgment []ₛ vs e = not-ok e
-  read-judgment (x ∷ₛ xs) vs e =
+  unfolding Rulebook.judgmentMembers
+  read-judgment-members []ₛ vs e = not-ok e
+  read-judgment-members (x ∷ₛ xs) vs e =
       afterᵣ _ e λ name e₁ e₂.
       afterᵣ _ e₂ λ c e₃ e₄.
-      afterNeedᵣ _ _ _ e₄ λ f e₅.
+      after-needᵣ _ _ _ e₄ λ f e₅.
       afterᵣ _ e₅ λ q e₆ e₇.
       subst (JudgmentRead (th .symbols) vs) (ok-equal e₇)
       (read-judgment-over name c (predicate-declared th name e₃) (read-patterns xs (Rulebook.inputs c) vs e₆))
@@ -297,7 +281,7 @@ module _ (th : Theory) where
   pub read-judgment-pattern : (x : Sexp) (vs : List Variable) {q : Pattern × List Variable} → Rulebook.judgmentPattern th x vs ≡ ok q
       → JudgmentRead (th .symbols) vs q
   unfolding Rulebook.judgmentPattern
-  read-judgment-pattern x vs e = afterᵣ _ e λ xs e₁ e₂. read-judgment xs vs e₂
+  read-judgment-pattern x vs e = afterᵣ _ e λ xs e₁ e₂. read-judgment-members xs vs e₂
 
   pub read-judgment-patterns : (xs : Sexps) (vs : List Variable) {q : List Pattern × List Variable} → Rulebook.judgmentPatterns th xs vs ≡ ok q
       → JudgmentsRead (th .symbols) vs q

@@ -1,10 +1,9 @@
 -- Every step is sound: an instance of its own rule concludes it, whose premises are derivable.
-use Prim.Native.Nat.{ℕ, zero, suc}
+use Prim.Native.Nat.{ℕ}
 use mathlib.Core.Path.{_≡_, refl, sym, subst}
 use mathlib.Core.Bool.{true, not}
 use mathlib.Core.List.{List, [], _∷_, _++_, map, List·Memᴰ, List·Memᴰ·head, List·Memᴰ·tail}
 use mathlib.Core.Option.{Option, none, some}
-use lib.ListN.{getElem?}
 use Rattle.horn.specs.Refusals.{ok}
 use Rattle.horn.specs.Setting.{Setting}
 use Rattle.horn.specs.Names.{Name, questioned}
@@ -18,12 +17,14 @@ use Rattle.horn.specs.Certificate
 use Rattle.horn.specs.Certificate.{Given, given}
 use Rattle.horn.specs.Forced.{Ground, WellSorted, Assignment, substitute, premises, conclusion, Derivable}
 use Rattle.horn.specs.Forced.{derive, Derivables, all-derived, derived, Concluded}
-use Rattle.horn.proofs.Equality.{both, case, named-decides, first-some}
-use Rattle.horn.proofs.Inversion.{not-ok, none-some, ok-equal, some-equal, after, given-is, was-found, afterₗ, afterNeed, afterFound, afterFoundᵣ}
+use Rattle.horn.proofs.Equality.{both, case, named-decides, first-some, at-member}
+use Rattle.horn.proofs.Inversion.{not-ok, none-some, ok-equal, after, given-is, was-found, afterₗ, after-need, after-found, after-foundᵣ}
 use Rattle.horn.proofs.SoundnessWords.{SortedJudgment, Throughout, OneSort, WellFormed, derivable-well-sorted}
-use Rattle.horn.proofs.SoundnessMatching.{Bound, Keeps, Agrees, GroundBinds, ground-binds-more, bound-in-more, Matched, matched}
+use Rattle.horn.proofs.SoundnessMatching.{Bound, KeepsBinds, Agrees, GroundBinds, ground-binds-more, bound-in-more, Matched, matched}
 use Rattle.horn.proofs.SoundnessMatching.{match-judgment-ground, built}
-use Rattle.horn.proofs.SoundnessReading.{lift-absent, lift-refused, SomeSort, has-sort, GroundDefs, asked-term-read, judgment-read}
+use Rattle.horn.proofs.Inversion.{lift-absent, lift-refused}
+use Rattle.horn.proofs.SoundnessReading.{SomeSort, has-sort, GroundDefs, term-sorted, judgment-sorted}
+use Rattle.horn.proofs.WasRead.{asked-term-read, judgment-read}
 
 pub concluded-derivable : {th : Theory} {j : Term} {r : Rule} → Concluded th j r → Derivable th j
 concluded-derivable c = derive (c .by) (c .is) (c .from) (c .equal)
@@ -31,12 +32,7 @@ concluded-derivable c = derive (c .by) (c .is) (c .from) (c .equal)
 abbrev pub SoundSteps : Theory → List Step → Type 0
 SoundSteps th steps = (s : Step) → List·Memᴰ s steps → Concluded th (judgmentOf s) (ruleOf s)
 
-pub at-member : {A : Type 0} (xs : List A) (n : ℕ) {a : A} → getElem? xs n ≡ some a → List·Memᴰ a xs
-at-member [] n e = none-some e
-at-member (x ∷ xs) zero e = List·Memᴰ·head (sym (some-equal e))
-at-member (x ∷ xs) (suc n) e = List·Memᴰ·tail (at-member xs n e)
-
--- The assignment of some bindings; names that are not bound have any term.
+-- The assignment that bindings give. A name that is not bound gets some term, it does not matter which.
 unfoldable assign : List Bind → Assignment
 assign binds name = elim (lookup name binds) [ none ↦ node (symbol [] [] judgment) []ₜ | some t ↦ t ]
 
@@ -46,14 +42,14 @@ assign-agrees binds name t e = rw (e, assign)
 
 -- What matching the premises has brought about.
 record PremisesMatched (th : Theory) (vs : List Variable) (binds more : List Bind) (ps : List Pattern) : Type 0 where
-  keep : Keeps binds more
+  keep : KeepsBinds binds more
   gives : (σ : Assignment) → Agrees σ more → Derivables th (map (substitute σ) ps)
   bound : (p : Pattern) → List·Memᴰ p ps → Throughout (Bound more) p
-  ground : GroundBinds th vs more
+  ground-binds : GroundBinds th vs more
 
 no-premise : {th : Theory} {vs : List Variable} (binds : List Bind) → GroundBinds th vs binds → PremisesMatched th vs binds binds []
 no-premise binds b =
-    record { keep = λ n t h. h; gives = λ σ a. all-derived; bound = λ p m. elim m [ ]; ground = b }
+    record { keep = λ n t h. h; gives = λ σ a. all-derived; bound = λ p m. elim m [ ]; ground-binds = b }
 
 next-premise : {th : Theory} {vs : List Variable} {binds more most : List Bind} {p : Pattern} {ps : List Pattern} {j : Term} → Derivable th j
     → Matched binds more p j
@@ -64,7 +60,7 @@ next-premise {th} {most} {p} {ps} d x y =
       keep = λ n t h. y .keep n t (x .keep n t h);
       gives = λ σ a. derived (subst (Derivable th) (sym (x .gives σ (λ n t h. a n t (y .keep n t h)))) d) (y .gives σ a);
       bound = λ q m. bound-one m;
-      ground = y .ground;
+      ground-binds = y .ground-binds;
     }
   where
     bound-one : {q : Pattern} → List·Memᴰ q (p ∷ ps) → Throughout (Bound most) q
@@ -82,14 +78,14 @@ module _ (th : Theory) (w : WellFormed th) (steps : List Step) (sound : SoundSte
   premises-matched [] (n ∷ ns) binds sorted b e = not-ok e
   premises-matched (p ∷ ps) [] binds sorted b e = not-ok e
   premises-matched (p ∷ ps) (n ∷ ns) binds sorted b e =
-      afterFoundᵣ _ _ _ e λ s f e₁.
-      afterFoundᵣ _ _ _ e₁ λ more g e₂.
+      after-foundᵣ _ _ _ e λ s f e₁.
+      after-foundᵣ _ _ _ e₁ λ more g e₂.
       let d = concluded-derivable (sound s (at-member steps n f)) in
       let b′ = match-judgment-ground one (sorted p (List·Memᴰ·head refl)) (derivable-well-sorted w (judgmentOf s) d) binds g b in
       next-premise d (matched p (judgmentOf s) binds g)
       (premises-matched ps ns more (λ q m. sorted q (List·Memᴰ·tail m)) b′ e₂)
 
--- Once premises and conclusion are matched, or it is built, the bindings are an instance.
+-- Once the premises are matched, and the conclusion is matched or built, the bindings are an instance of the rule.
 instance-of : {th : Theory} (w : WellFormed th) (r : Rule) → List·Memᴰ r (th .rules)
     → {j : Term} {binds final : List Bind}
     → PremisesMatched th (variablesOf r) binds final (premisesOf r)
@@ -105,7 +101,7 @@ instance-of {th} w r m {final} x gives bound =
         declared = m;
         sorted = λ name s v.
             let b = (w .formed r m) .occur (Bound final) (x .bound) bound name s v in
-            subst (Ground th s) (sym (assign-agrees final name (b .to) (b .is))) (x .ground name s (b .to) v (b .is));
+            subst (Ground th s) (sym (assign-agrees final name (b .to) (b .is))) (x .ground-binds name s (b .to) v (b .is));
       };
       from = x .gives (assign final) (assign-agrees final);
       equal = sym (gives (assign final) (assign-agrees final));
@@ -124,16 +120,16 @@ data SoundGiven (th : Theory) (vs : List Variable) : Given → Type 0 where
   sound-given : {binds : List Bind} {stated : Option Term} → GroundBinds th vs binds → Stated th stated → SoundGiven th vs (given binds stated)
 
 module _ (limits : Setting) (th : Theory) (w : WellFormed th) where
-  concluded : (steps : List Step) → SoundSteps th steps → (r : Rule) → List·Memᴰ r (th .rules) → (refs : List ℕ) (binds : List Bind) (stated : Option Term)
+  conclude-sound : (steps : List Step) → SoundSteps th steps → (r : Rule) → List·Memᴰ r (th .rules) → (refs : List ℕ) (binds : List Bind) (stated : Option Term)
       → GroundBinds th (variablesOf r) binds
       → Stated th stated
       → (s : Store) {s′ : Store} {j : Term}
       → Certificate.conclude limits th steps r refs (given binds stated) s ≡ ok (j, s′)
       → Concluded th j r
   unfolding Certificate.conclude
-  concluded steps sound r m refs binds (some c) b ws s e =
+  conclude-sound steps sound r m refs binds (some c) b ws s e =
       let f = w .formed r m in
-      afterFound _ _ _ _ e λ more g e₁.
+      after-found _ _ _ _ e λ more g e₁.
       afterₗ _ _ _ e₁ λ final h e₂.
       given-is e₂ λ same q.
       let x = matched (conclusionOf r) c binds g in
@@ -141,7 +137,7 @@ module _ (limits : Setting) (th : Theory) (w : WellFormed th) where
       let y = premises-matched th w steps sound (f .one-sort) (premisesOf r) refs more (f .sorted-premises) b′ h in
       subst (λ z. Concluded th z r) same
       (instance-of w r m y (λ σ a. x .gives σ (λ n t k. a n t (y .keep n t k))) (bound-in-more (y .keep) (x .bound)))
-  concluded steps sound r m refs binds none b ws s e =
+  conclude-sound steps sound r m refs binds none b ws s e =
       let f = w .formed r m in
       afterₗ _ _ _ e λ final h e₁.
       let y = premises-matched th w steps sound (f .one-sort) (premisesOf r) refs binds (f .sorted-premises) b h in
@@ -165,12 +161,12 @@ module _ (limits : Setting) (th : Theory) (w : WellFormed th) where
         → SoundGiven th (variablesOf r) more
     unfolding Certificate.bindingItem
     binding-given name is (given binds stated) (sound-given b st) s e =
-        afterFound _ _ _ _ e λ v f e₁.
+        after-found _ _ _ _ e λ v f e₁.
         after _ e₁ λ p s₁ e₂ e₃.
         afterₗ _ _ _ e₃ λ u e₄ e₅.
-        afterNeed _ _ _ _ e₅ λ h e₆.
+        after-need _ _ _ _ e₅ λ h e₆.
         given-is e₆ λ same q.
-        let t = asked-term-read limits th defs ground-defs 2 is s e₂ in
+        let t = term-sorted ground-defs ((asked-term-read limits th defs 2 is s e₂) .1) in
         let sorted = (both (not (Certificate.isBound name binds)) (hasSort (sortOf v) (p .0)) h) .1 in
         subst (SoundGiven th (variablesOf r)) same
         (sound-given (binding-ground binds name v one (first-some (isVariable name) (variablesOf r) f) t sorted b) st)
@@ -181,9 +177,9 @@ module _ (limits : Setting) (th : Theory) (w : WellFormed th) where
     unfolding Certificate.conclusionItem
     conclusion-given name is (given binds stated) (sound-given b st) s e =
         after _ e λ j s₁ e₁ e₂.
-        afterNeed _ _ _ _ e₂ λ h e₃.
+        after-need _ _ _ _ e₂ λ h e₃.
         given-is e₃ λ same q.
-        subst (SoundGiven th (variablesOf r)) same (sound-given b (judgment-read limits th defs ground-defs 2 name is s e₁))
+        subst (SoundGiven th (variablesOf r)) same (sound-given b (judgment-sorted ground-defs (judgment-read limits th defs 2 name is s e₁)))
 
     item-given : (item : Item) (g : Given) → SoundGiven th (variablesOf r) g → (s : Store) {s′ : Store} {more : Given}
         → Certificate.stepItem limits th defs r item g s ≡ ok (more, s′)
@@ -207,18 +203,18 @@ module _ (limits : Setting) (th : Theory) (w : WellFormed th) where
         afterₗ _ _ _ e λ u e₁ e₂.
         after _ e₂ λ more s₁ e₃ e₄. items-given rest more (item-given item g sg s e₃) s₁ e₄
 
-  rule-declared : (name : Name) {r : Rule} → ruleNamed th name ≡ ok r → List·Memᴰ r (th .rules)
+  rule-found : (name : Name) {r : Rule} → ruleNamed th name ≡ ok r → List·Memᴰ r (th .rules)
   unfolding ruleNamed
-  rule-declared name e = was-found _ _ e λ p. (first-some (isRule name) (th .rules) p) .0
+  rule-found name e = was-found _ _ e λ p. (first-some (isRule name) (th .rules) p) .0
 
-  -- A step that was taken in is sound.
+  -- A step whose items were read and whose conclusion was matched or built is sound.
   pub step-concluded : (defs : List Def) → GroundDefs th defs → (steps : List Step) → SoundSteps th steps → (name : Name) {r : Rule} → ruleNamed th name ≡ ok r
       → (refs : List ℕ) (is : Items) (g : Given) (s : Store) {s₁ s₂ : Store} {j : Term}
       → Certificate.stepItems limits th defs r is (given [] none) s ≡ ok (g, s₁)
       → Certificate.conclude limits th steps r refs g s₁ ≡ ok (j, s₂)
       → Concluded th j r
   step-concluded defs ground-defs steps sound name {r} e refs is g s {s₁} e₁ e₂ =
-      let m = rule-declared name e in
+      let m = rule-found name e in
       by-given g (items-given defs ground-defs r ((w .formed r m) .one-sort) is (given [] none) (sound-given none-bound tt) s e₁) e₂
     where
       none-bound : GroundBinds th (variablesOf r) []
@@ -226,4 +222,4 @@ module _ (limits : Setting) (th : Theory) (w : WellFormed th) where
 
       by-given : (g : Given) → SoundGiven th (variablesOf r) g → {j : Term} {s₂ : Store} → Certificate.conclude limits th steps r refs g s₁ ≡ ok (j, s₂)
           → Concluded th j r
-      by-given (given binds stated) (sound-given b st) h = concluded steps sound r (rule-declared name e) refs binds stated b st s₁ h
+      by-given (given binds stated) (sound-given b st) h = conclude-sound steps sound r (rule-found name e) refs binds stated b st s₁ h

@@ -1,5 +1,5 @@
--- Well-formed rules, and `Derivable` is right: in a well-formed theory it is closed under the rules, and it lies in every
--- closed set.
+-- Well-formed rules and theories. `Derivable` is what 01 calls forced: it is closed under the rules, it lies in every closed set, and in a
+-- well-formed theory its members are well-sorted.
 use mathlib.Core.Path.{_≡_, refl, sym, subst}
 use mathlib.Core.Logic.{Lift}
 use mathlib.Core.List.{List, [], _∷_, List·Memᴰ}
@@ -8,11 +8,12 @@ use Rattle.horn.specs.Names.{Name, first}
 use Rattle.horn.specs.Rulebook.{Symbol, symbol, sort, judgment, Variable, variable, Pattern, var, app, Patterns, []ₚ, _∷ₚ_}
 use Rattle.horn.specs.Rulebook.{isVariable, Rule, Theory, variablesOf, premisesOf, conclusionOf}
 use Rattle.horn.specs.StoredTerms.{Term}
-use Rattle.horn.specs.Forced.{Ground, ground, Grounds, none-left, and-then, WellSorted, well-sorted, Assignment, substitute}
+use Rattle.horn.specs.Forced.{Ground, ground, Grounds, no-ground, ground-then, WellSorted, well-sorted, Assignment, substitute}
 use Rattle.horn.specs.Forced.{substituteAll, Instance, IsInstance, premises, conclusion, Each, IsClosed, Forced, ForcedAmongSorted, Derivable}
 use Rattle.horn.specs.Forced.{derive, Derivables, all-derived, derived}
 
--- A pattern of a sort, by the symbols declared and the variables of its rule.
+-- A pattern is well-sorted, by the symbols that are declared and the variables of its rule: as a term of a sort, as arguments, as a
+-- judgment.
 mutual
   pub data Sorted (symbols : List Symbol) (vs : List Variable) : Name → Pattern → Type 0 where
     a-variable : {name s : Name} → List·Memᴰ (variable name s) vs → Sorted symbols vs s (var name)
@@ -28,7 +29,7 @@ pub data SortedJudgment (symbols : List Symbol) (vs : List Variable) : Pattern �
   a-judgment : {name : Name} {ins : List Name} {ps : Patterns}
       → List·Memᴰ (symbol name ins judgment) symbols → AllSorted symbols vs ins ps → SortedJudgment symbols vs (app (symbol name ins judgment) ps)
 
--- More symbols and more variables do no harm.
+-- A pattern that is well-sorted stays so where there are more symbols and more variables.
 module _ {symbols more : List Symbol} {vs ws : List Variable}
     (f : (c : Symbol) → List·Memᴰ c symbols → List·Memᴰ c more) (g : (v : Variable) → List·Memᴰ v vs → List·Memᴰ v ws) where
   mutual
@@ -75,8 +76,9 @@ pub data Apart : List Variable → Type 0 where
   no-names : Apart []
   name-apart : {name s : Name} {vs : List Variable} → first (isVariable name) vs ≡ none → Apart vs → Apart (variable name s ∷ vs)
 
--- A rule is well-formed: its judgments are sorted by its variables, which have one sort and different
--- names, and none of them occurs nowhere, which is said so: what holds throughout its judgments holds of each.
+-- A rule is well-formed: its judgments are well-sorted by its variables; a variable has one sort; no two have one name; and each variable
+-- occurs in the judgments. The last is said so (`occur`): if something holds of each name that stands in them as a variable, it holds of
+-- each of the rule's variables.
 pub record RuleFormed (symbols : List Symbol) (r : Rule) : Type 1 where
   pub sorted-premises : (p : Pattern) → List·Memᴰ p (premisesOf r) → SortedJudgment symbols (variablesOf r) p
   pub sorted-conclusion : SortedJudgment symbols (variablesOf r) (conclusionOf r)
@@ -89,7 +91,7 @@ pub record RuleFormed (symbols : List Symbol) (r : Rule) : Type 1 where
 pub record WellFormed (th : Theory) : Type 1 where
   pub formed : (r : Rule) → List·Memᴰ r (th .rules) → RuleFormed (th .symbols) r
 
--- A sorted pattern becomes a ground term, under ground terms for its variables.
+-- A well-sorted pattern becomes a ground term, where ground terms are put for its variables.
 module _ {th : Theory} {vs : List Variable} (σ : Assignment)
     (sorted : (name s : Name) → List·Memᴰ (variable name s) vs → Ground th s (σ name)) where
   mutual
@@ -101,8 +103,8 @@ module _ {th : Theory} {vs : List Variable} (σ : Assignment)
 
     pub substitute-grounds : {ss : List Name} {ps : Patterns} → AllSorted (th .symbols) vs ss ps
         → Grounds th ss (substituteAll σ ps)
-    substitute-grounds no-pattern = none-left
-    substitute-grounds (pattern-then p ps) = and-then (substitute-ground p) (substitute-grounds ps)
+    substitute-grounds no-pattern = no-ground
+    substitute-grounds (pattern-then p ps) = ground-then (substitute-ground p) (substitute-grounds ps)
 
   pub substitute-judgment : {p : Pattern} → SortedJudgment (th .symbols) vs p → WellSorted th (substitute σ p)
   unfolding substitute
@@ -117,7 +119,7 @@ conclusion-well-sorted w i is =
 module _ {ℓ} {th : Theory} (S : Term → Type ℓ) (set : IsClosed th S) where
   mutual
     pub derivable-least : {j : Term} → Derivable th j → S j
-    derivable-least (derive i is ds e) = subst S (sym e) (set .closed i is (derivables-least ds))
+    derivable-least (derive i is ds e) = subst S (sym e) (set .has-conclusion i is (derivables-least ds))
 
     pub derivables-least : {js : List Term} → Derivables th js → Each S js
     derivables-least all-derived = tt
@@ -129,7 +131,7 @@ forced d S set = derivable-least S set d
 pub forced-among-sorted {ℓ} : {th : Theory} {j : Term} → Forced {ℓ} th j → ForcedAmongSorted {ℓ} th j
 forced-among-sorted f S set sorted = f S set
 
--- They are closed under the rules, and well-sorted.
+-- The derivable judgments are closed under the rules, and well-sorted.
 pub derivables : {th : Theory} (js : List Term) → Each (Derivable th) js → Derivables th js
 derivables [] ds = all-derived
 derivables (j ∷ js) ds = derived (ds .0) (derivables js (ds .1))
@@ -138,17 +140,17 @@ pub derivable-well-sorted : {th : Theory} → WellFormed th → (j : Term) → D
 derivable-well-sorted {th} w j (derive i is ds e) = subst (WellSorted th) (sym e) (conclusion-well-sorted w i is)
 
 pub derivable-closed : {th : Theory} → IsClosed th (Derivable th)
-derivable-closed = record { closed = λ i is ds. derive i is (derivables (premises i) ds) refl }
+derivable-closed = record { has-conclusion = λ i is ds. derive i is (derivables (premises i) ds) refl }
 
--- There is such a set at every level, so that what is forced among well-sorted judgments at any level is derivable: the
--- three words are one.
+-- The derivable judgments are a closed set at every level. So what is forced among well-sorted judgments, at any level, is derivable:
+-- derivable, forced, and forced among well-sorted judgments are one.
 lowered {ℓ} : (th : Theory) (js : List Term) → Each (λ j. Lift {0, ℓ} (Derivable th j)) js → Each (Derivable th) js
 lowered th [] ds = tt
 lowered th (j ∷ js) ds = (ds .0 .lower, lowered th js (ds .1))
 
 derivable-closed-at {ℓ} : (th : Theory) → IsClosed th (λ j. Lift {0, ℓ} (Derivable th j))
 derivable-closed-at th =
-    record { closed = λ i is ds. record { lower = derive i is (derivables (premises i) (lowered th (premises i) ds)) refl } }
+    record { has-conclusion = λ i is ds. record { lower = derive i is (derivables (premises i) (lowered th (premises i) ds)) refl } }
 
 pub derivable-of-forced {ℓ} : {th : Theory} {j : Term} → WellFormed th → ForcedAmongSorted {ℓ} th j → Derivable th j
 derivable-of-forced {th} w f =

@@ -17,8 +17,8 @@ use Rattle.horn.specs.Certificate.{Progress, begun, certificateForm, cer
 
 -- The theories between declarations: the one so far, and those after each declaration that is not refused.
 pub data Declares : Theory → Sexps → Theory → Type 0 where
-  so-far : {th : Theory} {xs : Sexps} → Declares th xs th
-  one-more : {th next later : Theory} {x : Sexp} {xs : Sexps} → declaration th x ≡ ok next → Declares next xs later
+  declares-none : {th : Theory} {xs : Sexps} → Declares th xs th
+  declares-next : {th next later : Theory} {x : Sexp} {xs : Sexps} → declaration th x ≡ ok next → Declares next xs later
       → Declares th (x ∷ₛ xs) later
 
 -- A theory that arises in judging a rulebook, in either call. A longer rulebook is refused before any arises.
@@ -30,7 +30,7 @@ pub record TheoryArises (limits : Setting) (rulebook : List ℕ) (th : Theory) :
 
 module _ (limits : Setting) where
   -- How a reading is put together: a value, a result that does not touch the store, a term that is stored, and one reading
-  -- after another. All reading of goals and certificate is put together so (proofs/Made).
+  -- after another. All reading of goals and certificate is put together so (proofs/Readings).
   pub data Made : (A : Type 0) → Reading A → Type 1 where
     made-give : {A : Type 0} (a : A) → Made A (give a)
     made-lift : {A : Type 0} (r : Result A) → Made A (lift r)
@@ -46,10 +46,10 @@ module _ (limits : Setting) where
   Passes (made-stored t) s u = (s ≡ u) ⊎ (intern limits t s ≡ ok u)
   Passes (made-after {A} {m} p k) s u = Passes p s u ⊎ ((q : A × Store) × (m s ≡ ok q) × Passes (k (q .0)) (q .1) u)
 
-  -- What a certificate's forms have left, and the store then, after each form that is not refused.
+  -- What a certificate's forms have come to, and the store then: before the first form, and after each form that is not refused.
   pub data Proceeds (th : Theory) : Progress → Items → Store → Progress → Store → Type 0 where
-    so-far : {now : Progress} {is : Items} {s : Store} → Proceeds th now is s now s
-    one-more : {now next later : Progress} {item : Item} {rest : Items} {s t u : Store} → certificateForm limits th now item s ≡ ok (next, t)
+    proceeds-none : {now : Progress} {is : Items} {s : Store} → Proceeds th now is s now s
+    proceeds-next : {now next later : Progress} {item : Item} {rest : Items} {s t u : Store} → certificateForm limits th now item s ≡ ok (next, t)
         → Proceeds th next rest t later u
         → Proceeds th now (item then rest) s later u
 
@@ -70,5 +70,5 @@ module _ (limits : Setting) where
     pub goals : List Goal
     pub store : Store
     pub read : goalsOf limits th text [] ≡ ok (goals, store)
-    pub then-store : Store
-    pub proceeds : Proceeds th (begun goals) (items (tokens certificate)) store now then-store
+    pub thenStore : Store
+    pub proceeds : Proceeds th (begun goals) (items (tokens certificate)) store now thenStore

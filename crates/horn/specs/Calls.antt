@@ -34,13 +34,13 @@ pub record Report : Type 0 where
 abbrev pub report : ℕ → ℕ → ℕ → ℕ → ℕ → Report
 report n s g t b = record { number = n; steps = s; goals = g; terms = t; bytes = b }
 
--- How many symbols are constructors,
+-- How many symbols are constructors.
 unfoldable pub constructorCount : List Symbol → ℕ
 constructorCount [] = zero
 constructorCount (symbol name ins (sort s) ∷ rest) = suc (constructorCount rest)
 constructorCount (symbol name ins judgment ∷ rest) = constructorCount rest
 
--- and how many are predicates.
+-- How many symbols are predicates.
 unfoldable pub predicateCount : List Symbol → ℕ
 predicateCount [] = zero
 predicateCount (symbol name ins (sort s) ∷ rest) = predicateCount rest
@@ -81,16 +81,16 @@ rulebookAnswer (refused r) = rulebookReport (number r) 0 0 0 0
 rulebookAnswer (ok th) =
     rulebookReport 0 (length (th .sorts)) (constructorCount (th .symbols)) (predicateCount (th .symbols)) (length (th .rules))
 
--- The same for the call with three texts.
+-- "Number 0 is accepted; a refusal has zero counts": the same for the call with three texts.
 unfoldable pub releaseAnswer : Result Report → Report
 releaseAnswer (refused r) = report (number r) 0 0 0 0
 releaseAnswer (ok accepted) = accepted
 
--- The two calls: from the lengths of the four areas and the bytes of the texts to the report.
+-- The call with the rulebook alone: from the lengths of the four areas and the bytes of the text to the report.
 unfoldable pub rulebookCall : Setting → ℕ → ℕ → ℕ → ℕ → List ℕ → RulebookReport
 rulebookCall limits a b c d rulebook = rulebookAnswer (rulebookJudged limits a b c d rulebook)
 
--- The call with three texts.
+-- The call with three texts, in the same way.
 unfoldable pub releaseCall : Setting → ℕ → ℕ → ℕ → ℕ → List ℕ → List ℕ → List ℕ → Report
 releaseCall limits a b c d rulebook goals certificate =
     releaseAnswer (releaseJudged limits a b c d rulebook goals certificate)
@@ -113,7 +113,7 @@ pub record Called (R : Type 0) : Type 0 where
 abbrev pub called : {R : Type 0} → R → List ℕ → List ℕ → List ℕ → List ℕ → Called R
 called r a b c d = record { answer = r; first = a; second = b; third = c; fourth = d }
 
--- A call that answers this report, of this number, and was lent these areas.
+-- The call that answers a report of this number, and was lent these areas.
 unfoldable pub leaving : {R : Type 0} → Setting → R → ℕ → List ℕ → List ℕ → List ℕ → List ℕ → Called R
 leaving limits r n a b c d =
     called r

@@ -9,16 +9,16 @@ use Rattle.horn.specs.Refusals.{Result, ok, refused, need, found, _>>=_ 
 use Rattle.horn.specs.Refusals.{notUtf8, textEnds, strayClosing, form, variableName, unknown, duplicate, stepOrder}
 use Rattle.horn.specs.Refusals.{referenceCount, badBinding, secondConclusion, badConclusion, noSuchStep, otherJudgment, goalOpen}
 use Rattle.horn.specs.Setting.{Setting}
-use Rattle.horn.specs.Names.{Name, named, codes, questioned, bare, first, some-of}
+use Rattle.horn.specs.Names.{Name, named, codes, questioned, bare, first, isZero, someOf}
 use Rattle.horn.specs.Tokens.{tokens}
 use Rattle.horn.specs.NestedLists.{Item, Items, closed, ended, badLine, _then_, items, askedAt, absent}
 use Rattle.horn.specs.Rulebook.{isVariable, sortOf, Rule, variablesOf, premisesOf, conclusionOf, Theory, ruleNamed}
 use Rattle.horn.specs.StoredTerms.{Term, sameTerm}
 use Rattle.horn.specs.Checker.{Reading, _>>=_, give, lift, groupDue, askWord, askGroup, askNumber, numberDue, closingDue}
-use Rattle.horn.specs.Checker.{Def, def, isDef, Goal, isGoal, goalJudgment, hasSort, isEmptyList, askTerm, headedJudgment}
+use Rattle.horn.specs.Checker.{Def, def, isDef, Goal, isGoal, goalJudgment, hasSort, askTerm, headedJudgment}
 use Rattle.horn.specs.Matching.{Step, step, judgmentOf, Bind, bind, lookup, match, matchPremises, build}
 
--- What the forms so far have left: abbreviations, goals still open, steps.
+-- What the forms so far have come to: the abbreviations, the goals still open and the steps.
 pub record Progress : Type 0 where
   pub defs : List Def
   pub openGoals : List Goal
@@ -43,7 +43,7 @@ references (item then rest) =
     references rest >>=ᵣ λ ns.
     ok (n ∷ ns)
 
--- "Bound already".
+-- "Bound already": whether a variable is.
 unfoldable pub isBound : Name → List Bind → Bool
 isBound name binds = elim (lookup name binds) [ none ↦ false | some t ↦ true ]
 
@@ -52,23 +52,23 @@ unfoldable pub isStated : Option Term → Bool
 isStated none = false
 isStated (some j) = true
 
--- The goals without those of a name.
+-- The goals that are still open once the goal of a name has its result.
 unfoldable pub without : Name → List Goal → List Goal
 without name [] = []
 without name (g ∷ gs) = elim (isGoal name g) [ true ↦ without name gs | false ↦ g ∷ without name gs ]
 
--- The three forms by their heads,
-pub data Keyword : Type 0 where
-  stepWord resultWord defWord otherWord : Keyword
+-- The heads of the three forms of a certificate, and any other head.
+pub data FormWord : Type 0 where
+  stepWord resultWord defWord otherForm : FormWord
 
--- and which of them a name is.
-unfoldable pub keyword : Name → Keyword
-keyword name =
+-- Which of these heads a name is.
+unfoldable pub formWord : Name → FormWord
+formWord name =
     elim (named name (codes "step")) [
       | true ↦ stepWord
       | false ↦ elim (named name (codes "result")) [
         | true ↦ resultWord
-        | false ↦ elim (named name (codes "def")) [ true ↦ defWord | false ↦ otherWord ]
+        | false ↦ elim (named name (codes "def")) [ true ↦ defWord | false ↦ otherForm ]
       ]
     ]
 
@@ -79,7 +79,7 @@ module _ (limits : Setting) (th : Theory) where
     (name, is₁) ← lift (askWord 1 is)
     _ ← lift (need (questioned name && not (bare name)) variableName)
     (t, is₂) ← askTerm limits th (now .defs) 1 is₁
-    _ ← lift (need (not (some-of (isDef name) (now .defs))) duplicate)
+    _ ← lift (need (not (someOf (isDef name) (now .defs))) duplicate)
     _ ← lift (closingDue is₂)
     give record { defs = now .defs ++ (def name t ∷ []); openGoals = now .openGoals; steps = now .steps }
 
@@ -157,18 +157,18 @@ module _ (limits : Setting) (th : Theory) where
     give record { defs = now .defs; openGoals = now .openGoals; steps = now .steps ++ (step j r ∷ []) }
 
   -- "Another head is 9."
-  unfoldable pub headedForm : Keyword → Progress → Items → Reading Progress
+  unfoldable pub headedForm : FormWord → Progress → Items → Reading Progress
   headedForm stepWord now is = stepForm now is
   headedForm resultWord now is = resultForm now is
   headedForm defWord now is = defForm now is
-  headedForm otherWord now is = lift (refused form)
+  headedForm otherForm now is = lift (refused form)
 
   -- One form: its opening, its head, its members.
   unfoldable pub certificateForm : Progress → Item → Reading Progress
   certificateForm now item = do
     inner ← lift (groupDue item)
     (head, is) ← lift (askWord 1 inner)
-    headedForm (keyword head) now is
+    headedForm (formWord head) now is
 
   -- All forms, in order.
   unfoldable pub certificateForms : Progress → Items → Reading Progress
@@ -183,5 +183,5 @@ module _ (limits : Setting) (th : Theory) where
   unfoldable pub certificateOf : List Goal → List ℕ → Reading (List Step)
   certificateOf goals text = do
     final ← certificateForms (begun goals) (items (tokens text))
-    _ ← lift (need (isEmptyList (final .openGoals)) goalOpen)
+    _ ← lift (need (isZero (length (final .openGoals))) goalOpen)
     give (final .steps)

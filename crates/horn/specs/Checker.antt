@@ -4,6 +4,7 @@ use mathlib.Core.Bool.{Bool, true, false, not, _&&_}
 use mathlib.Core.List.{List, [], _∷_, _++_}
 use mathlib.Core.Option.{Option, none, some}
 use lib.Dec.{eqb, ltb}
+use lib.ListN.{length}
 use Rattle.horn.specs.Refusals.{Result, ok, refused, need, found, _>>=_ as _>>=ᵣ_}
 use Rattle.horn.specs.Refusals.{notUtf8, textEnds, strayClosing, atomOrList, form, excess, variableName, unknown}
 use Rattle.horn.specs.Refusals.{duplicate, sortArity, bracketedConstant, noGoal, notNumber}
@@ -11,9 +12,9 @@ use Rattle.horn.specs.Setting.{Setting}
 use Rattle.horn.specs.Utf8.{range, within}
 use Rattle.horn.specs.Tokens.{tokens}
 use Rattle.horn.specs.NestedLists.{Item, word, group, Items, closed, ended, badLine, _then_, items, askedAt, absent}
-use Rattle.horn.specs.Names.{Name, named, codes, questioned, first, some-of}
+use Rattle.horn.specs.Names.{Name, named, codes, questioned, first, isZero, someOf}
 use Rattle.horn.specs.Rulebook.{Symbol, inputs, output, sameOutput, sort, Theory, constructor, predicate}
-use Rattle.horn.specs.StoredTerms.{Term, node, Terms, []ₜ, _∷ₜ_, Store, intern}
+use Rattle.horn.specs.StoredTerms.{Term, node, Terms, []ₜ, _∷ₜ_, Store, width, intern}
 
 -- Reading with the store at hand: a value and the store afterwards, or the first refusal.
 abbrev pub Reading : Type 0 → Type 0
@@ -32,12 +33,12 @@ give a store = ok (a, store)
 unfoldable pub lift : {A : Type 0} → Result A → Reading A
 lift r store = r >>=ᵣ λ a. ok (a, store)
 
--- "A list where an atom is due, or the reverse, is 7."
+-- "A list where an atom is due, or the reverse, is 7." What must be an atom.
 unfoldable pub wordDue : Item → Result Name
 wordDue (word name) = ok name
 wordDue (group inner) = refused atomOrList
 
--- The reverse.
+-- "Or the reverse": what must be a list.
 unfoldable pub groupDue : Item → Result Items
 groupDue (word name) = refused atomOrList
 groupDue (group inner) = ok inner
@@ -64,17 +65,17 @@ closingDue ended = refused textEnds
 closingDue badLine = refused notUtf8
 closingDue (item then rest) = refused excess
 
--- "A number is an optional `+`, then one or more ASCII digits, below 2 to the 64."
+-- "A number is an optional `+`, then one or more ASCII digits, below 2 to the 64." The digits, after those that give n.
 unfoldable pub decimal : ℕ → Name → Option ℕ
 decimal n [] = elim (ltb n (2 ^ 64)) [ true ↦ some n | false ↦ none ]
 decimal n (b ∷ bs) = elim (within (range 0x30 0x39) b) [ true ↦ decimal (n * 10 + (b - 0x30)) bs | false ↦ none ]
 
--- "One or more ASCII digits".
+-- "One or more ASCII digits": a number without a sign.
 unfoldable pub digits : Name → Option ℕ
 digits [] = none
 digits (b ∷ bs) = decimal 0 (b ∷ bs)
 
--- "An optional `+`".
+-- "An optional `+`": a number.
 unfoldable pub numeral : Name → Option ℕ
 numeral [] = none
 numeral (b ∷ bs) = elim (eqb b 0x2B) [ true ↦ digits bs | false ↦ digits (b ∷ bs) ]
@@ -87,14 +88,15 @@ numberDue item = wordDue item >>=ᵣ λ name. found (numeral name) notNumber
 unfoldable pub askNumber : ℕ → Items → Result (ℕ × Items)
 askNumber depth is = ask depth is >>=ᵣ λ p. numberDue (p .0) >>=ᵣ λ n. ok (n, p .1)
 
--- An abbreviation, and a goal with its judgment.
+-- An abbreviation: its name, and the term that it stands for.
 pub data Def : Type 0 where
   def : Name → Term → Def
 
+-- A goal: its name, and its judgment.
 pub data Goal : Type 0 where
   goal : Name → Term → Goal
 
--- Whether an abbreviation has a name.
+-- Whether an abbreviation has this name.
 unfoldable pub isDef : Name → Def → Bool
 isDef name (def n t) = named name n
 
@@ -106,11 +108,11 @@ meaning (def n t) = t
 unfoldable pub goalJudgment : Goal → Term
 goalJudgment (goal name j) = j
 
--- Whether a goal has a name.
+-- Whether a goal has this name.
 unfoldable pub isGoal : Name → Goal → Bool
 isGoal name (goal n j) = named name n
 
--- Whether a term has a sort.
+-- Whether a term has this sort.
 unfoldable pub hasSort : Name → Term → Bool
 hasSort s (node c ts) = sameOutput (output c) (sort s)
 
@@ -121,17 +123,7 @@ accepts [] (t ∷ₜ ts) = false
 accepts (s ∷ ss) []ₜ = false
 accepts (s ∷ ss) (t ∷ₜ ts) = hasSort s t && accepts ss ts
 
--- Whether there is no argument.
-unfoldable pub isNil : Terms → Bool
-isNil []ₜ = true
-isNil (t ∷ₜ ts) = false
-
--- Whether a table is empty.
-unfoldable pub isEmptyList : {A : Type 0} → List A → Bool
-isEmptyList [] = true
-isEmptyList (a ∷ as′) = false
-
--- Puts a term into the store.
+-- A term that is put into the store, if it is not there yet.
 unfoldable pub stored : Setting → Term → Reading Term
 stored limits t store = intern limits t store >>=ᵣ λ after. ok (t, after)
 
@@ -154,20 +146,20 @@ module _ (limits : Setting) (th : Theory) where
   unfoldable mutual
     pub term : List Def → ℕ → Item → Reading Term
     term defs depth (word name) = atomTerm defs name
-    term defs depth (group inner) = compound defs (suc depth) inner
+    term defs depth (group inner) = compoundTerm defs (suc depth) inner
 
     -- "After the closing come 16 for a bracketed constructor without arguments, then 15 for arity and sorts, then the
     -- store." Its head is asked for without a look ahead.
-    pub compound : List Def → ℕ → Items → Reading Term
-    compound defs depth closed = lift (absent depth strayClosing)
-    compound defs depth ended = lift (absent depth textEnds)
-    compound defs depth badLine = lift (absent depth notUtf8)
-    compound defs depth (item then rest) = do
+    pub compoundTerm : List Def → ℕ → Items → Reading Term
+    compoundTerm defs depth closed = lift (absent depth strayClosing)
+    compoundTerm defs depth ended = lift (absent depth textEnds)
+    compoundTerm defs depth badLine = lift (absent depth notUtf8)
+    compoundTerm defs depth (item then rest) = do
       _ ← lift (askedAt depth)
       name ← lift (wordDue item)
       c ← lift (constructor th name)
       ts ← arguments defs depth rest
-      _ ← lift (need (not (isNil ts)) bracketedConstant)
+      _ ← lift (need (not (isZero (width ts))) bracketedConstant)
       make limits c ts
 
     -- "Each argument is a term", asked for until a closing is next.
@@ -213,7 +205,7 @@ module _ (limits : Setting) (th : Theory) where
     _ ← lift (need (not (questioned name)) variableName)
     (j, is₃) ← askJudgment [] 1 is₂
     _ ← lift (closingDue is₃)
-    _ ← lift (need (not (some-of (isGoal name) goals)) duplicate)
+    _ ← lift (need (not (someOf (isGoal name) goals)) duplicate)
     give (goals ++ (goal name j ∷ []))
 
   -- All goals, in order.
@@ -229,5 +221,5 @@ module _ (limits : Setting) (th : Theory) where
   unfoldable pub goalsOf : List ℕ → Reading (List Goal)
   goalsOf text = do
     goals ← goalForms [] (items (tokens text))
-    _ ← lift (need (not (isEmptyList goals)) noGoal)
+    _ ← lift (need (not (isZero (length goals))) noGoal)
     give goals

@@ -1,5 +1,5 @@
--- Demand 3 in the words of "Words of demand 3" and "Layout for the converse" in document 01: what the contract of the call with
--- three texts says of its report besides the report itself.
+-- Demand 3 in the words of "Words of demand 3" and "Layout for the converse" in document 01: what the contract of the call with three
+-- texts says of its report, besides which report it is.
 use Prim.Native.Nat.{ℕ, _≤_}
 use mathlib.Core.Path.{_≡_}
 use mathlib.Core.List.{List, List·Memᴰ}
@@ -11,7 +11,7 @@ use Rattle.horn.specs.StoredTerms.{Term}
 use Rattle.horn.specs.Checker.{Goal, goalJudgment}
 use Rattle.horn.specs.Calls.{Report, report}
 use Rattle.horn.specs.Forced.{Instance, Derivable, Accepted, ReadWithoutRefusal, HasGoals}
-use Rattle.horn.specs.Layout.{laidOut, spread, Proves, WithinLimits}
+use Rattle.horn.specs.Layout.{laidOut, distinctTerms, Proves, WithinLimits}
 
 -- What is said of a rulebook and a goals text: the rulebook is accepted and gives a theory; the goals text is read without
 -- refusal and has goals, at least one, and each goal's judgment is such as is said.
@@ -25,15 +25,16 @@ pub record Established {ℓ} (limits : Setting) (rulebook text : List ℕ) (Said
   pub some-goal : 1 ≤ length goals
   pub each : (g : Goal) → List·Memᴰ g goals → Said th (goalJudgment g)
 
--- Sound: a report with number 0 means that each goal's judgment is derivable. (It then lies in every closed set, proofs/Soundness; sets
--- of any size cannot stand in a contract.)
+-- Sound: a report with number 0 means that each goal's judgment is derivable. That it then lies in every closed set is a theorem
+-- (`soundness-forced` in proofs/Soundness), since a contract cannot speak of sets of any size.
 pub record Sound (limits : Setting) (rulebook text : List ℕ) (answer : Report) : Type 0 where
   pub established : answer .number ≡ 0 → Established limits rulebook text Derivable
 
--- Complete: "the laid-out certificate of any list of instances that proves the goals, within 01's limits, is accepted" with as many steps as
--- instances, as many goals as the goals text has, and as many terms as the judgments of goals and conclusions have distinct subterms.
+-- Complete: the laid-out certificate of any list of instances that proves the goals, if it is within the limits, is accepted. Its report
+-- has as many steps as there are instances, as many goals as the goals text has, and as many terms as there are distinct judgments of
+-- goals and conclusions, with all their subterms.
 pub record Complete (limits : Setting) (a b c d : ℕ) (rulebook text certificate : List ℕ) (answer : Report) : Type 0 where
-  pub accepts : (th : Theory) (goals : List Goal) (is : List Instance)
+  pub accepts-layout : (th : Theory) (goals : List Goal) (is : List Instance)
       → Accepted limits rulebook
       → theory rulebook ≡ ok th
       → ReadWithoutRefusal limits th text
@@ -41,4 +42,4 @@ pub record Complete (limits : Setting) (a b c d : ℕ) (rulebook text certificat
       → Proves th goals is
       → WithinLimits limits a b c d goals is
       → certificate ≡ laidOut goals is
-      → answer ≡ report 0 (length is) (length goals) (length (spread goals is)) (length certificate)
+      → answer ≡ report 0 (length is) (length goals) (length (distinctTerms goals is)) (length certificate)

@@ -15,7 +15,7 @@ use Rattle.horn.specs.Rulebook.{Rule, Theory, variablesOf, premisesOf, c
 use Rattle.horn.specs.StoredTerms.{Term, node, Terms, []ₜ, _∷ₜ_}
 use Rattle.horn.specs.Checker.{Goal, goalJudgment, goalsOf}
 use Rattle.horn.specs.Calls.{rulebookCall}
-use Rattle.horn.specs.Written.{goalForm}
+use Rattle.horn.specs.Written.{goalSexp}
 
 -- "A ground term of a sort is a constructor declared with that output and, for each input in order, a ground term of the
 -- input's sort; it is finite."
@@ -25,8 +25,8 @@ mutual
         → List·Memᴰ (symbol name ins (sort s)) (th .symbols) → Grounds th ins ts → Ground th s (node (symbol name ins (sort s)) ts)
 
   pub data Grounds (th : Theory) : List Name → Terms → Type 0 where
-    none-left : Grounds th [] []ₜ
-    and-then : {s : Name} {ss : List Name} {t : Term} {ts : Terms} → Ground th s t → Grounds th ss ts → Grounds th (s ∷ ss) (t ∷ₜ ts)
+    no-ground : Grounds th [] []ₜ
+    ground-then : {s : Name} {ss : List Name} {t : Term} {ts : Terms} → Ground th s t → Grounds th ss ts → Grounds th (s ∷ ss) (t ∷ₜ ts)
 
 -- "A well-sorted ground judgment is a declared predicate with such terms for its inputs."
 pub data WellSorted (th : Theory) : Term → Type 0 where
@@ -37,6 +37,7 @@ pub data WellSorted (th : Theory) : Term → Type 0 where
 abbrev pub Assignment : Type 0
 Assignment = Name → Term
 
+-- A pattern with the terms in place of its variables.
 unfoldable mutual
   pub substitute : Assignment → Pattern → Term
   substitute σ (var name) = σ name
@@ -51,11 +52,11 @@ pub record Instance : Type 0 where
   pub byRule : Rule
   pub assignment : Assignment
 
--- Its premises,
+-- The premises of an instance.
 unfoldable pub premises : Instance → List Term
 premises i = map (substitute (i .assignment)) (premisesOf (i .byRule))
 
--- and its conclusion.
+-- The conclusion of an instance.
 unfoldable pub conclusion : Instance → Term
 conclusion i = substitute (i .assignment) (conclusionOf (i .byRule))
 
@@ -64,7 +65,7 @@ pub record IsInstance (th : Theory) (i : Instance) : Type 0 where
   pub declared : List·Memᴰ (i .byRule) (th .rules)
   pub sorted : (name s : Name) → List·Memᴰ (variable name s) (variablesOf (i .byRule)) → Ground th s (i .assignment name)
 
--- Every term of a list is in a set.
+-- Each term of a list is in a set: "whose premises it has".
 abbrev pub Each {ℓ} : (Term → Type ℓ) → List Term → Type ℓ
 Each S [] = Unit
 Each S (j ∷ js) = S j × Each S js
@@ -72,18 +73,19 @@ Each S (j ∷ js) = S j × Each S js
 -- "A set, finite or not, is closed under the rules if it has the conclusion of every such instance whose premises it
 -- has", whatever else it has.
 pub record IsClosed {ℓ} (th : Theory) (S : Term → Type ℓ) : Type ℓ where
-  pub closed : (i : Instance) → IsInstance th i → Each S (premises i) → S (conclusion i)
+  pub has-conclusion : (i : Instance) → IsInstance th i → Each S (premises i) → S (conclusion i)
 
 -- "A judgment is forced if it lies in every such set."
 abbrev pub Forced {ℓ} : Theory → Term → Type (ℓ + 1)
 Forced th j = (S : Term → Type ℓ) → IsClosed th S → S j
 
--- The narrower words of demand 3: it lies in every such set of well-sorted ground judgments.
+-- The narrower reading of it: a judgment lies in every such set that has only well-sorted ground judgments.
 abbrev pub ForcedAmongSorted {ℓ} : Theory → Term → Type (ℓ + 1)
 ForcedAmongSorted th j = (S : Term → Type ℓ) → IsClosed th S → ((k : Term) → S k → WellSorted th k) → S j
 
--- The least closed set, as a type that a contract may name. For the theory of a rulebook it is proved to be closed, to have
--- well-sorted members only, to lie in every closed set and to hold all that is forced among them (proofs/Soundness).
+-- The least closed set, as a type that a contract may name. It is proved that it is closed (`derivable-is-closed` in proofs/Soundness) and
+-- lies in every closed set (`derivable-least` in proofs/SoundnessWords), and, for the theory of a rulebook, that its members are well-sorted
+-- and that all that is forced among well-sorted judgments is in it (`derivable-is-sorted`, `forced-is-derivable` in proofs/Soundness).
 mutual
   pub data Derivable (th : Theory) : Term → Type 0 where
     derive : {j : Term} (i : Instance) → IsInstance th i → Derivables th (premises i) → j ≡ conclusion i → Derivable th j
@@ -92,8 +94,8 @@ mutual
     all-derived : Derivables th []
     derived : {j : Term} {js : List Term} → Derivable th j → Derivables th js → Derivables th (j ∷ js)
 
--- What is said of each step of an accepted release (proofs/SoundnessOfSteps): an instance of its own rule concludes it, from derivable
--- premises.
+-- What is proved of each step of an accepted release (proofs/SoundnessOfSteps): an instance of its own rule concludes it, and the
+-- premises of that instance are derivable.
 pub record Concluded (th : Theory) (j : Term) (r : Rule) : Type 0 where
   pub by : Instance
   pub own : by .byRule ≡ r
@@ -109,7 +111,7 @@ judgments = map goalJudgment
 -- order, each J a well-sorted ground judgment written out. No store and no limit is in it, and under one rulebook a text
 -- has at most one list of goals (proofs/GoalsFixed).
 pub record HasGoals (th : Theory) (text : List ℕ) (goals : List Goal) : Type 0 where
-  pub forms : items (tokens text) ≡ topItems (map goalForm goals)
+  pub forms : items (tokens text) ≡ topItems (map goalSexp goals)
   pub sorted : Each (WellSorted th) (judgments goals)
 
 -- "Areas long enough".

@@ -5,29 +5,29 @@ use mathlib.Core.List.{List, [], _∷_, _++_, map, reverse, List·Memᴰ}
 use lib.Dec.{eqb}
 use lib.ListN.{length}
 use Rattle.horn.specs.Setting.{Setting}
-use Rattle.horn.specs.Names.{Name, some-of, codes}
+use Rattle.horn.specs.Names.{Name, someOf, codes}
 use Rattle.horn.specs.NestedLists.{Sexp, leaf, list, Sexps, []ₛ, _∷ₛ_}
 use Rattle.horn.specs.Rulebook.{Rule, rule, Theory}
 use Rattle.horn.specs.StoredTerms.{Term, node, Terms, []ₜ, _∷ₜ_, sameTerm, size}
 use Rattle.horn.specs.Checker.{Goal, goal}
-use Rattle.horn.specs.Written.{judgmentForm}
+use Rattle.horn.specs.Written.{judgmentSexp}
 use Rattle.horn.specs.Forced.{Instance, IsInstance, premises, conclusion, Each, judgments, LongEnough}
 
--- "Plain decimal numbers": the digits from the last, counted up from 0.
+-- The digits of the next number, from those of a number, the last digit first.
 unfoldable pub next : List ℕ → List ℕ
 next [] = 1 ∷ []
 next (d ∷ ds) = elim (eqb d 9) [ true ↦ 0 ∷ next ds | false ↦ suc d ∷ ds ]
 
--- The digits of a number, the last one first.
+-- The decimal digits of a number, the last one first, counted up from 0.
 unfoldable pub countedTo : ℕ → List ℕ
 countedTo zero = 0 ∷ []
 countedTo (suc n) = next (countedTo n)
 
--- A number as it is written.
+-- "Plain decimal numbers": a number as it is written.
 unfoldable pub plain : ℕ → Name
 plain n = map (λ d. 0x30 + d) (reverse (countedTo n))
 
--- "(refs)": numbers as members.
+-- "(refs)": numbers as the members of a list.
 unfoldable pub plainAll : List ℕ → Sexps
 plainAll [] = []ₛ
 plainAll (n ∷ ns) = leaf (plain n) ∷ₛ plainAll ns
@@ -36,38 +36,38 @@ plainAll (n ∷ ns) = leaf (plain n) ∷ₛ plainAll ns
 unfoldable pub ruleName : Rule → Name
 ruleName (rule name vs ps c) = name
 
--- "A reference is the lowest earlier step that concludes the premise, a result the lowest that concludes the goal": the
--- place of a judgment among conclusions.
+-- "A reference is the lowest earlier step that concludes the premise, a result the lowest that concludes the goal": the number of
+-- the first of these conclusions that is this judgment. Where none is, it answers how many conclusions there are.
 unfoldable pub lowest : List Term → Term → ℕ
 lowest [] j = zero
 lowest (c ∷ cs) j = elim (sameTerm c j) [ true ↦ zero | false ↦ suc (lowest cs j) ]
 
--- "For each instance `(step N R (refs) J)`, J its conclusion": after the steps with the conclusions given.
-unfoldable pub stepForm : List Term → Instance → Sexp
-stepForm earlier i =
+-- "For each instance `(step N R (refs) J)`, J its conclusion": the form, after steps that have the conclusions given.
+unfoldable pub stepSexp : List Term → Instance → Sexp
+stepSexp earlier i =
     list
     (leaf (codes "step")
     ∷ₛ leaf (plain (length earlier))
     ∷ₛ leaf (ruleName (i .byRule))
     ∷ₛ list (plainAll (map (lowest earlier) (premises i)))
-    ∷ₛ judgmentForm (conclusion i)
+    ∷ₛ judgmentSexp (conclusion i)
     ∷ₛ []ₛ)
 
--- The steps, one for each instance.
-unfoldable pub stepForms : List Term → List Instance → List Sexp
-stepForms earlier [] = []
-stepForms earlier (i ∷ is) = stepForm earlier i ∷ stepForms (earlier ++ (conclusion i ∷ [])) is
+-- The forms of all steps, one for each instance, after steps that have the conclusions given.
+unfoldable pub stepSexps : List Term → List Instance → List Sexp
+stepSexps earlier [] = []
+stepSexps earlier (i ∷ is) = stepSexp earlier i ∷ stepSexps (earlier ++ (conclusion i ∷ [])) is
 
--- "Then `(result G N)` for each goal in goals order."
-unfoldable pub resultForm : List Term → Goal → Sexp
-resultForm conclusions (goal name j) =
+-- "Then `(result G N)` for each goal in goals order": the form for one goal, after steps that have the conclusions given.
+unfoldable pub resultSexp : List Term → Goal → Sexp
+resultSexp conclusions (goal name j) =
     list (leaf (codes "result") ∷ₛ leaf name ∷ₛ leaf (plain (lowest conclusions j)) ∷ₛ []ₛ)
 
 -- All forms: the steps, then the results.
-unfoldable pub forms : List Goal → List Instance → List Sexp
-forms goals is = stepForms [] is ++ map (resultForm (map conclusion is)) goals
+unfoldable pub layoutForms : List Goal → List Instance → List Sexp
+layoutForms goals is = stepSexps [] is ++ map (resultSexp (map conclusion is)) goals
 
--- "Single spaces".
+-- "Single spaces": the bytes of a form.
 unfoldable mutual
   pub printed : Sexp → List ℕ
   printed (leaf name) = name
@@ -88,9 +88,10 @@ printedLines (x ∷ xs) = printed x ++ 0x0A ∷ printedLines xs
 
 -- The laid-out certificate.
 unfoldable pub laidOut : List Goal → List Instance → List ℕ
-laidOut goals is = printedLines (forms goals is)
+laidOut goals is = printedLines (layoutForms goals is)
 
--- How deep the deepest item of a form lies under it, and of a list's members under the list.
+-- By how much the deepest item within a form is deeper than the form: 0 for an atom and for `()`. `heights` says it of a list, by its
+-- members.
 unfoldable mutual
   pub height : Sexp → ℕ
   height (leaf name) = zero
@@ -100,7 +101,7 @@ unfoldable mutual
   heights []ₛ = zero
   heights (x ∷ₛ xs) = max (suc (height x)) (heights xs)
 
--- The depth of the deepest item of a certificate, whose forms have depth 0.
+-- "No item deeper than 256": the depth of the deepest item of a certificate, by its forms, which have depth 0.
 unfoldable pub depth : List Sexp → ℕ
 depth [] = zero
 depth (x ∷ xs) = max (height x) (depth xs)
@@ -114,7 +115,7 @@ unfoldable mutual
   subtermsOf []ₜ = []
   subtermsOf (t ∷ₜ ts) = subterms t ++ subtermsOf ts
 
--- The same of some terms.
+-- Some terms with all their subterms.
 unfoldable pub allSubterms : List Term → List Term
 allSubterms [] = []
 allSubterms (t ∷ ts) = subterms t ++ allSubterms ts
@@ -122,31 +123,32 @@ allSubterms (t ∷ ts) = subterms t ++ allSubterms ts
 -- Each term once.
 unfoldable pub distinct : List Term → List Term
 distinct [] = []
-distinct (t ∷ ts) = elim (some-of (sameTerm t) ts) [ true ↦ distinct ts | false ↦ t ∷ distinct ts ]
+distinct (t ∷ ts) = elim (someOf (sameTerm t) ts) [ true ↦ distinct ts | false ↦ t ∷ distinct ts ]
 
 -- "The distinct judgments of goals and conclusions, with all their subterms".
-unfoldable pub spread : List Goal → List Instance → List Term
-spread goals is = distinct (allSubterms (judgments goals ++ map conclusion is))
+unfoldable pub distinctTerms : List Goal → List Instance → List Term
+distinctTerms goals is = distinct (allSubterms (judgments goals ++ map conclusion is))
 
 -- "Within the limits means: areas long enough, the certificate's length, no item deeper than 256, and the distinct
 -- judgments of goals and conclusions, with all their subterms, within the store's two limits."
 pub record WithinLimits (limits : Setting) (a b c d : ℕ) (goals : List Goal) (is : List Instance) : Type 0 where
   pub areas : LongEnough limits a b c d
   pub short : length (laidOut goals is) ≤ limits .certificateBytes
-  pub shallow : depth (forms goals is) ≤ 256
-  pub few : length (spread goals is) ≤ limits .nodes
-  pub small : size (spread goals is) ≤ limits .nodeWords
+  pub shallow : depth (layoutForms goals is) ≤ 256
+  pub few : length (distinctTerms goals is) ≤ limits .nodes
+  pub small : size (distinctTerms goals is) ≤ limits .nodeWords
 
--- A list of instances that proves goals: well-sorted instances, each premise an earlier instance's conclusion, each
--- goal's judgment some instance's conclusion.
+-- Instances, one after another, after steps that have the conclusions given: each is well-sorted, and each of its premises is an
+-- earlier conclusion.
 pub data Supported (th : Theory) : List Term → List Instance → Type 0 where
-  none-left : {earlier : List Term} → Supported th earlier []
-  and-then : {earlier : List Term} {i : Instance} {is : List Instance} → IsInstance th i
+  no-instance : {earlier : List Term} → Supported th earlier []
+  instance-then : {earlier : List Term} {i : Instance} {is : List Instance} → IsInstance th i
       → Each (λ j. List·Memᴰ j earlier) (premises i)
       → Supported th (earlier ++ (conclusion i ∷ [])) is
       → Supported th earlier (i ∷ is)
 
--- The list proves these goals.
+-- A list of instances that proves goals: it is supported from the first instance on, and each goal's judgment is some instance's
+-- conclusion.
 pub record Proves (th : Theory) (goals : List Goal) (is : List Instance) : Type 0 where
   pub supported : Supported th [] is
   pub reached : Each (λ j. List·Memᴰ j (map conclusion is)) (judgments goals)

@@ -12,16 +12,16 @@ use Rattle.horn.specs.Rulebook.{sameSymbol, Pattern, var, app, Patterns,
 use Rattle.horn.specs.StoredTerms.{Term, node, Terms, []ₜ, _∷ₜ_, sameTerm}
 use Rattle.horn.specs.Checker.{Reading, _>>=_, give, lift, stored}
 
--- A step: its judgment, and the rule that gave it. No answer depends on the rule. It is there for what is proved of a step:
--- an instance of this very rule concludes it (`release-steps` in proofs/SoundnessOfSteps).
+-- A step: the judgment that it concludes, and the rule that its form names. No answer of a call depends on the rule. It is kept so
+-- that a theorem can say: an instance of this rule concludes this judgment (`release-steps` in proofs/SoundnessOfSteps).
 pub data Step : Type 0 where
   step : Term → Rule → Step
 
--- The judgment of a step,
+-- The judgment that a step concludes.
 unfoldable pub judgmentOf : Step → Term
 judgmentOf (step j r) = j
 
--- and its rule.
+-- The rule that a step names.
 unfoldable pub ruleOf : Step → Rule
 ruleOf (step j r) = r
 
@@ -40,7 +40,7 @@ matchVar name t binds none = some (binds ++ (bind name t ∷ []))
 matchVar name t binds (some u) = elim (sameTerm t u) [ true ↦ some binds | false ↦ none ]
 
 -- "Matching goes one level of the pattern at a time": a pattern against a term, under the bindings so far. A pattern and a
--- term of one head have as many arguments, so that the uneven cases are never met.
+-- term of the same head have equally many arguments, so that the uneven cases are never met.
 unfoldable mutual
   pub match : Pattern → Term → List Bind → Option (List Bind)
   match (var name) t binds = matchVar name t binds (lookup name binds)
@@ -52,7 +52,8 @@ unfoldable mutual
   matches (p ∷ₚ ps) []ₜ binds = none
   matches (p ∷ₚ ps) (t ∷ₜ ts) binds = elim (match p t binds) [ none ↦ none | some more ↦ matches ps ts more ]
 
--- "For each premise in order, no earlier step 24, mismatch 25". Their numbers were compared before.
+-- "For each premise in order, no earlier step 24, mismatch 25". There are as many references as premises, so that the uneven cases
+-- are never met.
 unfoldable pub matchPremises : List Step → List Pattern → List ℕ → List Bind → Result (List Bind)
 matchPremises steps [] [] binds = ok binds
 matchPremises steps [] (n ∷ ns) binds = refused referenceCount

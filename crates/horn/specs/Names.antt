@@ -1,5 +1,5 @@
--- Names, and tables in order of declaration. "Names are equal when their bytes are."
-use Prim.Native.Nat.{ℕ}
+-- "Names are equal when their bytes are", in document 01's "Rulebook": names, and how they are looked up in lists.
+use Prim.Native.Nat.{ℕ, zero, suc}
 use Prim.Native.Char.{code}
 use Prim.Native.String as Str
 use Prim.Native.String.{String}
@@ -23,26 +23,31 @@ sameList test (a ∷ as′) (b ∷ bs) = elim (test a b) [ true ↦ sameList tes
 unfoldable pub named : Name → Name → Bool
 named = sameList eqb
 
--- The bytes of a text of ASCII characters.
+-- The bytes of ASCII characters, for words that 01 writes out, such as `goal`.
 unfoldable pub codes : String → Name
 codes Str.[] = []
 codes (Str._∷_ c cs) = code c ∷ codes cs
 
--- A name with a leading `?`.
+-- "With a leading `?`": whether a name has one.
 unfoldable pub questioned : Name → Bool
 questioned [] = false
 questioned (b ∷ bs) = eqb b 0x3F
 
--- Whether it is `?` alone.
+-- "`?` alone": whether that is the whole name.
 unfoldable pub bare : Name → Bool
 bare name = named name (codes "?")
 
--- The first entry that passes a test.
+-- The first entry of a list that passes a test: how a name is looked up among what is known.
 unfoldable pub first : {A : Type 0} → (A → Bool) → List A → Option A
 first test [] = none
 first test (a ∷ as′) = elim (test a) [ true ↦ some a | false ↦ first test as′ ]
 
--- Whether some entry passes a test.
-unfoldable pub some-of : {A : Type 0} → (A → Bool) → List A → Bool
-some-of test [] = false
-some-of test (a ∷ as′) = elim (test a) [ true ↦ true | false ↦ some-of test as′ ]
+-- Whether a count is 0: that of the members of a list, the arguments of a term or the entries of a table.
+unfoldable pub isZero : ℕ → Bool
+isZero zero = true
+isZero (suc n) = false
+
+-- Whether some entry of a list passes a test: how a duplicate is found, and a sort that is unknown.
+unfoldable pub someOf : {A : Type 0} → (A → Bool) → List A → Bool
+someOf test [] = false
+someOf test (a ∷ as′) = elim (test a) [ true ↦ true | false ↦ someOf test as′ ]

@@ -31,7 +31,7 @@ innermost atEnd = ended
 innermost atBadLine = badLine
 innermost (items inside around) = items
 
--- The same of the list around it, and so on.
+-- What is left of the lists around that one.
 unfoldable pub outer : Around → Around
 outer atEnd = atEnd
 outer atBadLine = atBadLine
@@ -62,9 +62,8 @@ unfoldable mutual
   written badLine ts = bad
   written (item then rest) ts = writtenItem item (written rest ts)
 
--- All that stands around a reader as tokens. For all tokens `writtenOut (around ts) ≡ ts` is proved (`cut` in proofs/Cut): what comes
--- first in the items is the next token, what follows are the tokens behind it, and nothing is lost or added. So nothing that is
--- read by items differs from reading token by token.
+-- All that stands around a reader as tokens. That `writtenOut (around ts)` is `ts`, for all tokens, is proved (`cut` in proofs/Cut). So
+-- nothing is lost or added where a text is cut into items: what is read by items is what would be read token by token.
 unfoldable pub writtenOut : Around → Stream Token
 writtenOut atEnd = end
 writtenOut atBadLine = bad
@@ -83,7 +82,7 @@ askedAt depth = need (leb depth 256) nesting
 unfoldable pub absent : {A : Type 0} → ℕ → Refusal → Result A
 absent depth r = askedAt depth >>= λ _. refused r
 
--- A nested list that was read whole.
+-- A nested list that was read whole: an atom's bytes, or a list of such.
 mutual
   pub data Sexp : Type 0 where
     leaf : List ℕ → Sexp
@@ -94,7 +93,7 @@ mutual
     _∷ₛ_ : Sexp → Sexps → Sexps
 
 infixr 20 _∷ₛ_
--- A nested list as it stands in a text, and forms as they stand at top level, up to the end of the text.
+-- A nested list as it stands in a text.
 unfoldable mutual
   pub asItem : Sexp → Item
   asItem (leaf name) = word name
@@ -104,6 +103,7 @@ unfoldable mutual
   asItems []ₛ = closed
   asItems (x ∷ₛ xs) = asItem x then asItems xs
 
+-- Nested lists one after another at top level, up to the end of the text.
 unfoldable pub topItems : List Sexp → Items
 topItems [] = ended
 topItems (x ∷ xs) = asItem x then topItems xs

@@ -53,12 +53,12 @@ unfoldable pub _>>=_ : {A B : Type 0} → Result A → (A → Result B) → Resu
 ok a >>= f = f a
 refused r >>= f = refused r
 
--- Goes on where the test holds, and is refused where it does not.
+-- A test: where it does not hold, this is the refusal.
 unfoldable pub need : Bool → Refusal → Result (Unit {0})
 need true r = ok tt
 need false r = refused r
 
--- Goes on with the value that was found, and is refused where there is none.
+-- A search: the value that was found; where there is none, this is the refusal.
 unfoldable pub found : {A : Type 0} → Option A → Refusal → Result A
 found (some a) r = ok a
 found none r = refused r

@@ -1,4 +1,4 @@
--- "Rulebook" in document 01.
+-- "Rulebook" in document 01: what a rulebook declares, and how its declarations are judged.
 use Prim.Native.Nat.{ℕ, zero, suc}
 use mathlib.Core.Bool.{Bool, true, false, not, _&&_}
 use mathlib.Core.List.{List, [], _∷_, _++_}
@@ -7,11 +7,11 @@ use lib.Dec.{eqb}
 use lib.ListN.{length}
 use Rattle.horn.specs.Refusals.{Result, ok, refused, _>>=_, need, found}
 use Rattle.horn.specs.Refusals.{atomOrList, emptyList, form, variableName, unknown, duplicate, twoSorts, sortArity, bracketedConstant}
-use Rattle.horn.specs.Names.{Name, named, sameList, codes, questioned, bare, first, some-of}
+use Rattle.horn.specs.Names.{Name, named, sameList, codes, questioned, bare, first, isZero, someOf}
 use Rattle.horn.specs.Tokens.{tokens}
 use Rattle.horn.specs.NestedLists.{Sexp, leaf, list, Sexps, []ₛ, _∷ₛ_, items, sexps}
 
--- A symbol is a constructor, with the sort that it gives, or a predicate, which gives a judgment. A sort is its name.
+-- What a symbol gives: a constructor gives a term of a sort, a predicate a judgment. A sort is its name.
 pub data Output : Type 0 where
   sort : Name → Output
   judgment : Output
@@ -23,7 +23,7 @@ sameOutput (sort s) judgment = false
 sameOutput judgment (sort t) = false
 sameOutput judgment judgment = true
 
--- Its name, its inputs and its output.
+-- A constructor or a predicate: its name, the sorts of its inputs, and what it gives.
 pub data Symbol : Type 0 where
   symbol : Name → List Name → Output → Symbol
 
@@ -47,6 +47,7 @@ pub data Variable : Type 0 where
 unfoldable pub sortOf : Variable → Name
 sortOf (variable name s) = s
 
+-- A term or a judgment in a rule: a variable, or a symbol with its arguments.
 mutual
   pub data Pattern : Type 0 where
     var : Name → Pattern
@@ -57,65 +58,65 @@ mutual
     _∷ₚ_ : Pattern → Patterns → Patterns
 
 infixr 20 _∷ₚ_
--- Its name, its variables, its premises and its conclusion.
+-- A rule: its name, its variables, its premises and its conclusion.
 pub data Rule : Type 0 where
   rule : Name → List Variable → List Pattern → Pattern → Rule
 
--- The parts of a rule: its variables,
+-- The variables of a rule.
 unfoldable pub variablesOf : Rule → List Variable
 variablesOf (rule name vs premises conclusion) = vs
 
--- its premises
+-- The premises of a rule.
 unfoldable pub premisesOf : Rule → List Pattern
 premisesOf (rule name vs premises conclusion) = premises
 
--- and its conclusion.
+-- The conclusion of a rule.
 unfoldable pub conclusionOf : Rule → Pattern
 conclusionOf (rule name vs premises conclusion) = conclusion
 
--- What is declared, in order of declaration.
+-- What is declared so far, each kind in order of declaration.
 pub record Theory : Type 0 where
   pub sorts : List Name
   pub symbols : List Symbol
   pub rules : List Rule
 
--- Whether a symbol is the constructor of a name. "Sorts, constructors, predicates and rules have separate names": each kind
--- has a test of its own, and sorts a list of their own.
+-- Whether a symbol is the constructor of this name. "Sorts, constructors, predicates and rules have separate names": so each of
+-- them has its own test, or its own list.
 unfoldable pub isConstructor : Name → Symbol → Bool
 isConstructor name (symbol n ins (sort s)) = named name n
 isConstructor name (symbol n ins judgment) = false
 
--- The same of a predicate,
+-- Whether a symbol is the predicate of this name.
 unfoldable pub isPredicate : Name → Symbol → Bool
 isPredicate name (symbol n ins (sort s)) = false
 isPredicate name (symbol n ins judgment) = named name n
 
--- of a rule,
+-- Whether a rule has this name.
 unfoldable pub isRule : Name → Rule → Bool
 isRule name (rule n vs premises conclusion) = named name n
 
--- and of a variable of a rule.
+-- Whether a variable of a rule has this name.
 unfoldable pub isVariable : Name → Variable → Bool
 isVariable name (variable n s) = named name n
 
--- A constructor, a predicate or a rule by its name: "unknown is 12".
+-- The constructor of a name: "An atom is a constructor (12)."
 unfoldable pub constructor : Theory → Name → Result Symbol
 constructor th name = found (first (isConstructor name) (th .symbols)) unknown
 
--- "A predicate (12)".
+-- The predicate of a name: "a predicate (12)".
 unfoldable pub predicate : Theory → Name → Result Symbol
 predicate th name = found (first (isPredicate name) (th .symbols)) unknown
 
--- "R 12".
+-- The rule of a name: "R 12".
 unfoldable pub ruleNamed : Theory → Name → Result Rule
 ruleNamed th name = found (first (isRule name) (th .rules)) unknown
 
--- An atom where one is due: a list there is 7.
+-- What must be an atom: "a head that is a list 7".
 unfoldable pub atomDue : Sexp → Result Name
 atomDue (leaf name) = ok name
 atomDue (list xs) = refused atomOrList
 
--- A list where one is due: an atom there is 7.
+-- What must be a list: "inputs or premises given as an atom 7".
 unfoldable pub listDue : Sexp → Result Sexps
 listDue (leaf name) = refused atomOrList
 listDue (list xs) = ok xs
@@ -131,10 +132,10 @@ declaredName x = do
 unfoldable pub sortNamed : Theory → Sexp → Result Name
 sortNamed th x = do
   name ← declaredName x
-  _ ← need (some-of (named name) (th .sorts)) unknown
+  _ ← need (someOf (named name) (th .sorts)) unknown
   ok name
 
--- "Inputs left to right".
+-- "Inputs left to right": each is a sort.
 unfoldable pub sortsNamed : Theory → Sexps → Result (List Name)
 sortsNamed th []ₛ = ok []
 sortsNamed th (x ∷ₛ xs) = do
@@ -151,13 +152,13 @@ count (x ∷ₛ xs) = suc (count xs)
 unfoldable pub fits : Symbol → Output → ℕ → Bool
 fits (symbol name ins out) expected arguments = sameOutput out expected && eqb (length ins) arguments
 
--- A pattern, and the rule's variables so far.
+-- What is read in a rule, and the rule's variables up to there.
 abbrev pub Read : Type 0 → Type 0
 Read A = Result (A × List Variable)
 
 -- "In a term, `?` alone is 11; `?v` takes its place's sort, and at another sort is 14."
-unfoldable pub schematic : Name → Name → List Variable → Read Pattern
-schematic name s vs = do
+unfoldable pub variablePattern : Name → Name → List Variable → Read Pattern
+variablePattern name s vs = do
   _ ← need (not (bare name)) variableName
   elim (first (isVariable name) vs) [
     | none ↦ ok (var name, vs ++ (variable name s ∷ []))
@@ -165,30 +166,25 @@ schematic name s vs = do
   ]
 
 -- "An atom is a constructor (12)." "Then, atom or list, output sort and length, 15".
-unfoldable pub constant : Theory → Name → Name → List Variable → Read Pattern
-constant th name s vs = do
+unfoldable pub constantPattern : Theory → Name → Name → List Variable → Read Pattern
+constantPattern th name s vs = do
   c ← constructor th name
   _ ← need (fits c (sort s) zero) sortArity
   ok (app c []ₚ, vs)
 
--- Whether a list has no member.
-unfoldable pub isEmpty : Sexps → Bool
-isEmpty []ₛ = true
-isEmpty (x ∷ₛ xs) = false
-
--- A term at a place of sort s.
+-- A term of a rule, at a place of sort s.
 unfoldable mutual
   pub pattern : Theory → Sexp → Name → List Variable → Read Pattern
-  pattern th (leaf name) s vs = elim (questioned name) [ true ↦ schematic name s vs | false ↦ constant th name s vs ]
-  pattern th (list xs) s vs = compound th xs s vs
+  pattern th (leaf name) s vs = elim (questioned name) [ true ↦ variablePattern name s vs | false ↦ constantPattern th name s vs ]
+  pattern th (list xs) s vs = compoundPattern th xs s vs
 
   -- "A list: empty 8, head not an atom 7, length one 16, unknown 12. Then, atom or list, output sort and length, 15, before
   -- the arguments."
-  pub compound : Theory → Sexps → Name → List Variable → Read Pattern
-  compound th []ₛ s vs = refused emptyList
-  compound th (x ∷ₛ xs) s vs = do
+  pub compoundPattern : Theory → Sexps → Name → List Variable → Read Pattern
+  compoundPattern th []ₛ s vs = refused emptyList
+  compoundPattern th (x ∷ₛ xs) s vs = do
     name ← atomDue x
-    _ ← need (not (isEmpty xs)) bracketedConstant
+    _ ← need (not (isZero (count xs))) bracketedConstant
     c ← constructor th name
     _ ← need (fits c (sort s) (count xs)) sortArity
     (ps, ws) ← patterns th xs (inputs c) vs
@@ -206,9 +202,9 @@ unfoldable mutual
 
 -- "A judgment J is a list (else 7), not empty (8), its head an atom (7) and a predicate (12), its length right (15),
 -- then its terms."
-unfoldable pub judgmentOf : Theory → Sexps → List Variable → Read Pattern
-judgmentOf th []ₛ vs = refused emptyList
-judgmentOf th (x ∷ₛ xs) vs = do
+unfoldable pub judgmentMembers : Theory → Sexps → List Variable → Read Pattern
+judgmentMembers th []ₛ vs = refused emptyList
+judgmentMembers th (x ∷ₛ xs) vs = do
   name ← atomDue x
   p ← predicate th name
   _ ← need (fits p judgment (count xs)) sortArity
@@ -217,7 +213,7 @@ judgmentOf th (x ∷ₛ xs) vs = do
 
 -- "A judgment J is a list (else 7)".
 unfoldable pub judgmentPattern : Theory → Sexp → List Variable → Read Pattern
-judgmentPattern th x vs = listDue x >>= λ xs. judgmentOf th xs vs
+judgmentPattern th x vs = listDue x >>= λ xs. judgmentMembers th xs vs
 
 -- "Premises left to right".
 unfoldable pub judgmentPatterns : Theory → Sexps → List Variable → Read (List Pattern)
@@ -231,7 +227,7 @@ judgmentPatterns th (x ∷ₛ xs) vs = do
 unfoldable pub declareSort : Theory → Sexp → Result Theory
 declareSort th n = do
   name ← declaredName n
-  _ ← need (not (some-of (named name) (th .sorts))) duplicate
+  _ ← need (not (someOf (named name) (th .sorts))) duplicate
   ok record { sorts = th .sorts ++ (name ∷ []); symbols = th .symbols; rules = th .rules }
 
 -- A theory with one more symbol.
@@ -246,7 +242,7 @@ declareConstructor th n is o = do
   xs ← listDue is
   ins ← sortsNamed th xs
   out ← sortNamed th o
-  _ ← need (not (some-of (isConstructor name) (th .symbols))) duplicate
+  _ ← need (not (someOf (isConstructor name) (th .symbols))) duplicate
   ok (withSymbol th (symbol name ins (sort out)))
 
 -- "`(pred N (S...))`": the same, without an output.
@@ -255,7 +251,7 @@ declarePredicate th n is = do
   name ← declaredName n
   xs ← listDue is
   ins ← sortsNamed th xs
-  _ ← need (not (some-of (isPredicate name) (th .symbols))) duplicate
+  _ ← need (not (someOf (isPredicate name) (th .symbols))) duplicate
   ok (withSymbol th (symbol name ins judgment))
 
 -- "`(rule N (J...) J)`: premises left to right, conclusion, N, duplicate."
@@ -265,63 +261,63 @@ declareRule th n js j = do
   (premises, us) ← judgmentPatterns th xs []
   (conclusion, vs) ← judgmentPattern th j us
   name ← declaredName n
-  _ ← need (not (some-of (isRule name) (th .rules))) duplicate
+  _ ← need (not (someOf (isRule name) (th .rules))) duplicate
   ok record { sorts = th .sorts; symbols = th .symbols; rules = th .rules ++ (rule name vs premises conclusion ∷ []) }
 
--- "A head and length other than these 9": what follows the head is one, two or three members.
+-- "A head and length other than these 9": behind the head there must be one member.
 unfoldable pub oneMember : {A : Type 0} → Sexps → (Sexp → Result A) → Result A
 oneMember []ₛ f = refused form
 oneMember (x ∷ₛ []ₛ) f = f x
 oneMember (x ∷ₛ y ∷ₛ xs) f = refused form
 
--- The same for two members,
+-- The same where there must be two members.
 unfoldable pub twoMembers : {A : Type 0} → Sexps → (Sexp → Sexp → Result A) → Result A
 twoMembers []ₛ f = refused form
 twoMembers (x ∷ₛ xs) f = oneMember xs (f x)
 
--- and for three.
+-- The same where there must be three members.
 unfoldable pub threeMembers : {A : Type 0} → Sexps → (Sexp → Sexp → Sexp → Result A) → Result A
 threeMembers []ₛ f = refused form
 threeMembers (x ∷ₛ xs) f = twoMembers xs (f x)
 
--- The four forms by their heads.
-pub data Keyword : Type 0 where
-  sortWord ctorWord predWord ruleWord otherWord : Keyword
+-- The heads of the four forms of a declaration, and any other head.
+pub data DeclarationWord : Type 0 where
+  sortWord ctorWord predWord ruleWord otherDeclaration : DeclarationWord
 
--- Which of them a name is.
-unfoldable pub keyword : Name → Keyword
-keyword name =
+-- Which of these heads a name is.
+unfoldable pub declarationWord : Name → DeclarationWord
+declarationWord name =
     elim (named name (codes "sort")) [
       | true ↦ sortWord
       | false ↦ elim (named name (codes "ctor")) [
         | true ↦ ctorWord
         | false ↦ elim (named name (codes "pred")) [
           | true ↦ predWord
-          | false ↦ elim (named name (codes "rule")) [ true ↦ ruleWord | false ↦ otherWord ]
+          | false ↦ elim (named name (codes "rule")) [ true ↦ ruleWord | false ↦ otherDeclaration ]
         ]
       ]
     ]
 
 -- The four forms, each with its length: `(sort N)`, `(ctor N (S...) S)`, `(pred N (S...))`, `(rule N (J...) J)`.
-unfoldable pub declare : Theory → Keyword → Sexps → Result Theory
+unfoldable pub declare : Theory → DeclarationWord → Sexps → Result Theory
 declare th sortWord xs = oneMember xs (declareSort th)
 declare th ctorWord xs = threeMembers xs (declareConstructor th)
 declare th predWord xs = twoMembers xs (declarePredicate th)
 declare th ruleWord xs = threeMembers xs (declareRule th)
-declare th otherWord xs = refused form
+declare th otherDeclaration xs = refused form
 
 -- "Declarations, in order: an atom is 7, `()` 8, a head that is a list 7".
-unfoldable pub headed : Theory → Sexps → Result Theory
-headed th []ₛ = refused emptyList
-headed th (x ∷ₛ xs) = do
+unfoldable pub headedDeclaration : Theory → Sexps → Result Theory
+headedDeclaration th []ₛ = refused emptyList
+headedDeclaration th (x ∷ₛ xs) = do
   name ← atomDue x
-  declare th (keyword name) xs
+  declare th (declarationWord name) xs
 
--- "An atom is 7": one declaration.
+-- One declaration: "an atom is 7".
 unfoldable pub declaration : Theory → Sexp → Result Theory
-declaration th x = listDue x >>= headed th
+declaration th x = listDue x >>= headedDeclaration th
 
--- "Declarations, in order".
+-- "Declarations, in order", after those that have given a theory.
 unfoldable pub declarations : Theory → Sexps → Result Theory
 declarations th []ₛ = ok th
 declarations th (x ∷ₛ xs) = do

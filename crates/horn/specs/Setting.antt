@@ -1,16 +1,17 @@
--- "The texts and the work areas" in document 01: the limits, as a parameter of everything below, and 01's own value.
+-- "The texts and the work areas" in document 01: the limits, which the definitions take as a parameter, and 01's own values.
 use Prim.Native.Nat.{ℕ}
 
--- The limits that another setting may change. Depth 256 and numbers below 2 to the 64 are the same in all.
+-- What may differ from setting to setting. The greatest depth, 256, and the bound of numbers, 2 to the 64, are the same in all.
 pub record Setting : Type 0 where
-  -- words that each of the first three work areas must have, and that are cleared in it; the same of the fourth
+  -- how many words each of the first three work areas must have; as many are zero after a call, but for refusals 1 and 2
   pub areaWords : ℕ
+  -- the same for the fourth work area
   pub lastAreaWords : ℕ
-  -- bytes that each text may have
+  -- how many bytes each text may have
   pub rulebookBytes : ℕ
   pub goalsBytes : ℕ
   pub certificateBytes : ℕ
-  -- nodes that the store may have, and words of them all
+  -- how many nodes the store may hold, and how many words they may take together
   pub nodes : ℕ
   pub nodeWords : ℕ
 

@@ -7,7 +7,7 @@ use lib.Dec.{leb}
 use lib.ListN.{length}
 use Rattle.horn.specs.Refusals.{Result, ok, _>>=_, need, storeFull}
 use Rattle.horn.specs.Setting.{Setting}
-use Rattle.horn.specs.Names.{some-of}
+use Rattle.horn.specs.Names.{someOf}
 use Rattle.horn.specs.Rulebook.{Symbol, sameSymbol}
 
 -- "A node is a head and argument numbers; equal nodes get one number": equal trees are one entry of the store.
@@ -44,14 +44,14 @@ width (t ∷ₜ ts) = suc (width ts)
 unfoldable pub nodeSize : Term → ℕ
 nodeSize (node head arguments) = 1 + width arguments
 
--- The words of all nodes.
+-- The words of all nodes together.
 unfoldable pub size : Store → ℕ
 size [] = zero
 size (t ∷ ts) = nodeSize t + size ts
 
--- Whether a node is held.
+-- "A node not yet held": whether a term is held.
 unfoldable pub holds : Store → Term → Bool
-holds store t = some-of (sameTerm t) store
+holds store t = someOf (sameTerm t) store
 
 -- "At most 2,048 nodes and 8,192 words".
 unfoldable pub withinLimits : Setting → Store → Bool

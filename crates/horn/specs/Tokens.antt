@@ -17,15 +17,15 @@ unfoldable pub before : {A : Type 0} → List A → Stream A → Stream A
 before [] s = s
 before (a ∷ as′) s = a ▹ before as′ s
 
--- A byte put before the first of some lines.
-unfoldable pub onto : ℕ → List (List ℕ) → List (List ℕ)
-onto b [] = (b ∷ []) ∷ []
-onto b (line ∷ rest) = (b ∷ line) ∷ rest
+-- Lines with a byte put at the beginning of the first line. Where there is no line, the byte makes one.
+unfoldable pub ontoFirstLine : ℕ → List (List ℕ) → List (List ℕ)
+ontoFirstLine b [] = (b ∷ []) ∷ []
+ontoFirstLine b (line ∷ rest) = (b ∷ line) ∷ rest
 
 -- "A text is read by lines, each up to and with byte 0A (hexadecimal) or to the end."
 unfoldable pub lines : List ℕ → List (List ℕ)
 lines [] = []
-lines (b ∷ bs) = elim (eqb b 0x0A) [ true ↦ (b ∷ []) ∷ lines bs | false ↦ onto b (lines bs) ]
+lines (b ∷ bs) = elim (eqb b 0x0A) [ true ↦ (b ∷ []) ∷ lines bs | false ↦ ontoFirstLine b (lines bs) ]
 
 -- "A line is tested as UTF-8 when it is first needed; a bad one is refusal 3, after anything refused earlier": the
 -- characters of all lines before the first bad one. Refusal 3 is given where what stands behind them is asked for.
@@ -53,7 +53,7 @@ unfoldable pub inSome : List Range → ℕ → Bool
 inSome [] value = false
 inSome (r ∷ rs) value = within r value || inSome rs value
 
--- White space, by a character's value.
+-- Whether a character is white space, by its value.
 unfoldable pub white : ℕ → Bool
 white value = inSome whiteRanges value
 
@@ -85,11 +85,11 @@ pub data Place : Type 0 where
   between inComment : Place
   inAtom : List ℕ → Place
 
--- What one character does: the tokens that it ends, and where the reader stands after it.
+-- What one character does: the tokens that end with it or before it, and where the reader stands after it.
 abbrev pub Move : Type 0
 Move = List Token × Place
 
--- A character between tokens.
+-- What a character does between tokens, by its kind.
 unfoldable pub begins : Kind → List ℕ → Move
 begins blank bytes = ([], between)
 begins opens bytes = (opening ∷ [], between)
@@ -112,7 +112,7 @@ move (inAtom atomBytes) (char bytes value) = continues atomBytes (kind value) by
 -- "`;` runs to the end of its line."
 move inComment (char bytes value) = elim (eqb value 0x0A) [ true ↦ ([], between) | false ↦ ([], inComment) ]
 
--- The atom that the end of the text ends, if the reader stands in one.
+-- The atom that the end of the text ends, if the reader stands in one: an atom runs to that end too.
 unfoldable pub unended : Place → List Token
 unended between = []
 unended inComment = []

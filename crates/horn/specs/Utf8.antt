@@ -19,7 +19,7 @@ within (range low high) n = leb low n && leb n high
 pub data Sequence : Type 0 where
   sequence : Range → ℕ → List Range → Sequence
 
--- "UTF8-tail = %x80-BF"
+-- UTF8-tail of the grammar, %x80-BF.
 unfoldable pub tail : Range
 tail = range 0x80 0xBF
 
@@ -47,8 +47,8 @@ startedBy b (sequence first mark rest ∷ others) =
 pub data Char : Type 0 where
   char : List ℕ → ℕ → Char
 
--- The characters of some bytes, or none if they are not UTF-8, in the midst of a character: its bytes so far, its value
--- so far and the ranges of its bytes to come. Each byte after the first brings six bits.
+-- The characters of bytes that begin in the midst of a character, of which are given: its bytes so far, its value so far, and the ranges
+-- of its bytes to come. `none` if this is not UTF-8. Each byte after the first brings six bits.
 unfoldable pub resumed : List ℕ → ℕ → List Range → List ℕ → Option (List Char)
 resumed taken value (r ∷ rs) [] = none
 resumed taken value (r ∷ rs) (b ∷ bs) =
@@ -60,7 +60,7 @@ resumed taken value [] (b ∷ bs) =
       | some (sequence first mark rest) ↦ Option·map (λ cs. char taken value ∷ cs) (resumed (b ∷ []) (b - mark) rest bs)
     ]
 
--- The characters of some bytes: none if they are not UTF-8.
+-- The characters of some bytes; `none` if they are not UTF-8.
 unfoldable pub decoded : List ℕ → Option (List Char)
 decoded [] = some []
 decoded (b ∷ bs) =

@@ -10,23 +10,24 @@ use Rattle.horn.specs.Checker.{Goal, goal}
 unfoldable pub symbolName : Symbol → Name
 symbolName (symbol name ins out) = name
 
--- A constant is an atom, any other term a list. A judgment is always a list.
+-- A name before its arguments: an atom where there is none, and a list otherwise. So a constant is an atom, any other term a list.
 unfoldable pub constantOr : Name → Sexps → Sexp
 constantOr name []ₛ = leaf name
 constantOr name (x ∷ₛ xs) = list (leaf name ∷ₛ x ∷ₛ xs)
 
+-- A term as it is written.
 unfoldable mutual
-  pub termForm : Term → Sexp
-  termForm (node c ts) = constantOr (symbolName c) (termForms ts)
+  pub termSexp : Term → Sexp
+  termSexp (node c ts) = constantOr (symbolName c) (termSexps ts)
 
-  pub termForms : Terms → Sexps
-  termForms []ₜ = []ₛ
-  termForms (t ∷ₜ ts) = termForm t ∷ₛ termForms ts
+  pub termSexps : Terms → Sexps
+  termSexps []ₜ = []ₛ
+  termSexps (t ∷ₜ ts) = termSexp t ∷ₛ termSexps ts
 
--- A judgment as it is written.
-unfoldable pub judgmentForm : Term → Sexp
-judgmentForm (node c ts) = list (leaf (symbolName c) ∷ₛ termForms ts)
+-- A judgment as it is written: a list, even without arguments.
+unfoldable pub judgmentSexp : Term → Sexp
+judgmentSexp (node c ts) = list (leaf (symbolName c) ∷ₛ termSexps ts)
 
 -- "`(goal N J)`": the form of a goal.
-unfoldable pub goalForm : Goal → Sexp
-goalForm (goal name j) = list (leaf (codes "goal") ∷ₛ leaf name ∷ₛ judgmentForm j ∷ₛ []ₛ)
+unfoldable pub goalSexp : Goal → Sexp
+goalSexp (goal name j) = list (leaf (codes "goal") ∷ₛ leaf name ∷ₛ judgmentSexp j ∷ₛ []ₛ)

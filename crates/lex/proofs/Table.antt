@@ -1,16 +1,17 @@
 -- The table's rule, proved at all of its entries by tests that antt computes, one entry after the other.
 -- Assumes nothing.
-use mathlib.Core.Path.{_≡_, _∙_, subst, sym}
+use mathlib.Core.Path.{_≡_, subst, sym}
 use mathlib.Core.Bool.{Bool, true, false, _&&_}
 use mathlib.Core.List.{List, [], _∷_}
 use mathlib.Core.Option.{Option, none, some}
-use Prim.Native.Nat.{ℕ, zero, suc, _+_, _-_, _%_, _<_}
-use native.Mathlib.Nat.{add-zero, zero-add, add-suc, suc-add, le-of-suc-le-suc, not-suc-le-zero}
+use Prim.Native.Nat.{ℕ, zero, suc, _*_, _-_, _/_, _%_, _^_, _<_}
+use native.Mathlib.Nat.{not-suc-le-zero}
+use native.Mathlib.Omega.{arith}
 use lib.Dec.{T, eqb, ltb, eqb→eq, ltb→lt}
-use lib.ListN.{length, getD}
+use lib.ListN.{getD}
 use Rattle.horn.specs.Utf8.{Range, range, within, Sequence, sequence, sequences, startedBy, tail}
 use Rattle.horn.specs.Tokens.{kind, white, whiteRanges, inSome}
-use Rattle.lex.specs.Classes.{kindNumber, leadNumber, classOf, lowOf, highOf, table}
+use Rattle.lex.specs.Classes.{kindNumber, leadNumber, classOf, lowOf, highOf, rows}
 
 pub and-left : (a b : Bool) → T (a && b) → T a
 and-left true b t = tt
@@ -20,28 +21,37 @@ pub and-right : (a b : Bool) → T (a && b) → T b
 and-right true b t = t
 and-right false b t = absurd t
 
--- The test f passes at each entry of the list and its place, counted from i.
-every : (ℕ → ℕ → Bool) → ℕ → List ℕ → Bool
-every f i [] = true
-every f i (x ∷ xs) = f i x && every f (suc i) xs
+-- The test f passes at each number below n.
+every : (ℕ → Bool) → ℕ → Bool
+every f zero = true
+every f (suc n) = f n && every f n
 
-from : (f : ℕ → ℕ → Bool) (xs : List ℕ) (i : ℕ) → T (every f i xs) → (k : ℕ) → k < length xs → T (f (i + k) (getD xs k 0))
+at : (f : ℕ → Bool) (n : ℕ) → T (every f n) → (k : ℕ) → k < n → T (f k)
 unfolding every
-from f [] i t k h = absurd (not-suc-le-zero h)
-from f (x ∷ xs) i t zero h = subst (λ (m : ℕ). T (f m x)) (sym (add-zero i)) (and-left (f i x) (every f (suc i) xs) t)
-from f (x ∷ xs) i t (suc k) h =
-    subst (λ (m : ℕ). T (f m (getD xs k 0))) (suc-add i k ∙ sym (add-suc i k))
-    (from f xs (suc i) (and-right (f i x) (every f (suc i) xs) t) k (le-of-suc-le-suc h))
+at f zero t k h = absurd (not-suc-le-zero h)
+at f (suc n) t k h = by (native.Mathlib.Decide.ℕ-discrete k n) (at f n (and-right (f n) (every f n) t) k) where
+  by : Dec (k ≡ n) → (k < n → T (f k)) → T (f k)
+  by (yes e) below = subst (λ (m : ℕ). T (f m)) (sym e) (and-left (f n) (every f n) t)
+  by (no d) below = below (omega arith)
 
-at : (f : ℕ → ℕ → Bool) (xs : List ℕ) → T (every f 0 xs) → (k : ℕ) → k < length xs → T (f k (getD xs k 0))
-at f xs t k h = subst (λ (m : ℕ). T (f m (getD xs k 0))) (zero-add k) (from f xs 0 t k h)
+-- The class that the table has for a byte.
+unfoldable pub digit : ℕ → ℕ
+digit b = getD rows (b / 16) 0 / 2 ^ (4 * (b % 16)) % 16
 
-right : ℕ → ℕ → Bool
-right b c = eqb c (classOf b)
+right : ℕ → Bool
+right b = eqb (digit b) (classOf b)
 
-pub class-at : (b : ℕ) → b < 256 → getD table b 0 ≡ classOf b
-unfolding right every table classOf startedBy sequences within tail kind white whiteRanges inSome kindNumber leadNumber
-class-at b h = eqb→eq (getD table b 0) (classOf b) (at right table tt b h)
+pub class-at : (b : ℕ) → b < 256 → digit b ≡ classOf b
+unfolding right every digit rows classOf startedBy sequences within tail kind white whiteRanges inSome kindNumber leadNumber
+class-at b h = eqb→eq (digit b) (classOf b) (at right 256 tt b h)
+
+single : ℕ → Bool
+single b = ltb (classOf b) 5
+
+-- Every byte of ASCII is a character.
+pub ascii-class : (b : ℕ) → b < 128 → classOf b < 5
+unfolding single every classOf startedBy sequences within tail kind white whiteRanges inSome kindNumber leadNumber
+ascii-class b h = ltb→lt (classOf b) 5 (at single 128 tt b h)
 
 -- What the class of a byte says of the sequence that it begins, as a test.
 unfoldable pub ruled : ℕ → ℕ → Option Sequence → Bool
@@ -55,9 +65,9 @@ ruled b c (some (sequence r m (range lo hi ∷ range lo₂ hi₂ ∷ range lo₃
     && eqb hi₃ 0xBF
 ruled b c (some (sequence r m (range lo hi ∷ range lo₂ hi₂ ∷ range lo₃ hi₃ ∷ r₄ ∷ rs))) = false
 
-ruledBy : ℕ → ℕ → Bool
-ruledBy b c = ruled b (classOf b) (startedBy b sequences)
+ruledBy : ℕ → Bool
+ruledBy b = ruled b (classOf b) (startedBy b sequences)
 
 pub ruled-at : (b : ℕ) → b < 256 → T (ruled b (classOf b) (startedBy b sequences))
-unfolding ruledBy ruled every table classOf startedBy sequences within tail kind white whiteRanges inSome kindNumber leadNumber lowOf highOf
-ruled-at b h = at ruledBy table tt b h
+unfolding ruledBy ruled every classOf startedBy sequences within tail kind white whiteRanges inSome kindNumber leadNumber lowOf highOf
+ruled-at b h = at ruledBy 256 tt b h

@@ -1,21 +1,24 @@
 -- One turn of each loop, and what a step over a character keeps. Assumes nothing.
 use mathlib.Core.Path.{_≡_, _∙_, refl, ap, sym}
+use mathlib.Core.Bool.{Bool, true, false}
 use mathlib.Core.List.{List, [], _∷_}
 use mathlib.Core.Option.{Option, none, some}
 use Prim.Native.Nat.{ℕ, zero, suc, _+_, _*_, _-_, _≤_, _<_}
 use native.Mathlib.Nat.{add-zero}
 use native.Mathlib.Omega.{arith}
-use borrow.Author.Tests.{lt-ltb, le-ltb, eq-eqb, ne-eqb}
+use borrow.Author.Tests.{lt-ltb, le-ltb, eq-eqb, ne-eqb, eqb-true, eqb-false}
+use lib.Dec.{eqb, ltb}
 use lib.ListN.{length, getD, take, drop, length-drop, drop-of-length-le}
 use lib.Seq.{take-all, getD-drop}
 use Rattle.horn.specs.Utf8.{Range, within, Sequence, sequence, sequences, startedBy}
 use Rattle.horn.specs.Tokens.{kind}
-use Rattle.lex.specs.Classes.{kindNumber, classOf}
-use Rattle.lex.specs.Characters.{First, broken, found, oneMore, rest, first, width, value, kindAt}
-use Rattle.lex.specs.Scan.{blanks, atomEnd, lineEnd}
+use Rattle.lex.specs.Classes.{kindNumber, classOf, lowOf, highOf}
+use Rattle.lex.specs.Characters.{First, broken, found, oneMore, rest, first, width, value, kindAt, inRange, longerBy, byClass}
+use Rattle.lex.specs.Scan.{stopped, blanks, atomEnd, lineEnd}
 use Rattle.lex.specs.declared.Line.the-variants.{Good, Bad}
 use Rattle.horn.proofs.Equality.{case}
-use Rattle.lex.proofs.Grammar.{first-one, kind-one}
+use Rattle.lex.proofs.Table.{ascii-class}
+use Rattle.lex.proofs.Grammar.{first-one, first-none, first-longer, kind-one, lt-of-le-of-ne, below-range}
 
 -- A character has at least one byte, and no more than there are.
 unfoldable pub Sound : First → ℕ → Type 0
@@ -106,6 +109,82 @@ module _ (text : List ℕ) (p : ℕ) where
       → k ≡ kindNumber (kind v) → k ≡ kindAt (first (drop p text))
   look-longer w v k e g d h = h ∙ rw g (width-kind (first (drop p text)) (λ z. d (e ∙ z)))
 
+-- What `look_longer` answers, by a class from 5 on.
+inside : (lo hi b : ℕ) (f : First) → (width f ≡ 0 → f ≡ broken) → width (inRange lo hi b f) ≡ 0 → inRange lo hi b f ≡ broken
+unfolding inRange
+inside lo hi b f k e =
+    case (ltb b lo)
+    (λ t. rw (t, inRange))
+    (λ n. case (ltb hi b) (λ t. rw (n, t, inRange)) (λ m. rw (n, m, inRange) (k (rw (n, m, inRange) at e))))
+
+never-zero : (n v : ℕ) → width (found (suc n) v) ≡ 0 → found (suc n) v ≡ broken
+unfolding width
+never-zero n v e = absurd (omega arith)
+
+either : (x : Bool) {f g : First} → (width f ≡ 0 → f ≡ broken) → (width g ≡ 0 → g ≡ broken)
+    → width (elim x [ true ↦ f | false ↦ g ]) ≡ 0 → elim x [ true ↦ f | false ↦ g ] ≡ broken
+either true p q = p
+either false p q = q
+
+longer-zero : (c b : ℕ) (bs : List ℕ) → width (longerBy c b bs) ≡ 0 → longerBy c b bs ≡ broken
+unfolding longerBy
+longer-zero c b bs =
+    inside _ _ _ _
+    (either (eqb c 6) (never-zero 1 _)
+    (inside _ _ _ _ (either (ltb c 10) (never-zero 2 _) (inside _ _ _ _ (never-zero 3 _)))))
+
+low-positive : (c : ℕ) → 0 < lowOf c
+unfolding lowOf
+low-positive c =
+    case (eqb c 7) (λ t. rw (t, lowOf) (omega arith))
+    (λ n. case (eqb c 10) (λ t. rw (n, t, lowOf) (omega arith)) (λ m. rw (n, m, lowOf) (omega arith)))
+
+longer-empty : (c : ℕ) → byClass c [] ≡ broken
+unfolding byClass longerBy
+longer-empty c =
+    case (eqb c 5) (λ t. rw (t, byClass)) (λ n. rw (n, byClass) (below-range (low-positive c) (highOf c) _))
+
+module _ (text : List ℕ) (p c : ℕ) where
+  -- At a byte of the class c it is the first character.
+  pub longer-is : p < length text → getD text p 0 < 256 → c ≡ classOf (getD text p 0) → 5 ≤ c
+      → byClass c (drop p text) ≡ first (drop p text)
+  unfolding byClass
+  longer-is h u e l =
+      let a : getD (drop p text) 0 0 ≡ getD text p 0 = at-drop text p in
+      let s : 0 < length (drop p text) = simp length-drop (omega arith) in
+      case (eqb c 5)
+      (λ t. rw (t, byClass) (sym (first-none (drop p text) s (rw a u) (rw (a, ← e) (eqb-true c 5 t)))))
+      (λ n. rw (n, byClass)
+      (ap (λ (x : ℕ). longerBy x (getD (drop p text) 0 0) (drop p text)) (e ∙ ap classOf (sym a))
+      ∙ sym (first-longer (drop p text) s (rw a u) (rw (a, ← e) (lt-of-le-of-ne l (eqb-false c 5 n))))))
+
+  pub longer-past : length text ≤ p → (5 ≡ kindAt (byClass c (drop p text))) × (0 ≡ width (byClass c (drop p text)))
+  unfolding kindAt width
+  longer-past h = let b = ap (byClass c) (drop-of-length-le text h) ∙ longer-empty c in (rw b, rw b)
+
+  pub longer-never : c ≡ 5 → (5 ≡ kindAt (byClass c (drop p text))) × (0 ≡ width (byClass c (drop p text)))
+  unfolding byClass kindAt width
+  longer-never e = (rw (e, byClass), rw (e, byClass))
+
+  longer-here : (c ≡ 5 → ⊥) → byClass c (drop p text) ≡ longerBy c (getD text p 0) (take (length text - p) (drop p text))
+  unfolding byClass
+  longer-here d = rw (ne-eqb c 5 d, byClass, rest-of text p) (ap (λ (b : ℕ). longerBy c b (drop p text)) (at-drop text p))
+
+  module _ (d : c ≡ 5 → ⊥) (w : ℕ) (e : w ≡ width (longerBy c (getD text p 0) (take (length text - p) (drop p text)))) where
+    pub longer-none : w ≡ 0 → (5 ≡ kindAt (byClass c (drop p text))) × (0 ≡ width (byClass c (drop p text)))
+    unfolding kindAt width
+    longer-none z = let b = longer-here d ∙ longer-zero _ _ _ (sym e ∙ z) in (rw b, rw b)
+
+    pub longer-seen : (v k : ℕ) → v ≡ value (longerBy c (getD text p 0) (take (length text - p) (drop p text))) → (w ≡ 0 → ⊥)
+        → k ≡ kindNumber (kind v) → (k ≡ kindAt (byClass c (drop p text))) × (w ≡ width (byClass c (drop p text)))
+    longer-seen v k g n h =
+        let b = longer-here d in
+        (h ∙ rw g (width-kind _ (λ z. n (e ∙ z)) ∙ ap kindAt (sym b)), e ∙ ap width (sym b))
+
+-- An ASCII character has one byte.
+pub ascii-width : (text : List ℕ) (p : ℕ) → p < length text → getD text p 0 < 128 → 1 ≡ width (first (drop p text))
+ascii-width text p h a = look-one text p h (omega arith) (classOf (getD text p 0)) refl (ascii-class (getD text p 0) a) .1
+
 -- A step over a character stays in the text and goes on.
 module _ (text : List ℕ) (q n : ℕ) (en : n ≡ width (first (drop q text))) where
   pub kind-steps : (k : ℕ) → k ≡ kindAt (first (drop q text)) → (k ≡ 5 → ⊥) → (q + n ≤ length text) × (q < q + n)
@@ -127,6 +206,10 @@ module _ (text : List ℕ) (end q k : ℕ) (ek : k ≡ kindAt (first (drop q tex
   pub blank-stop : (f : ℕ) → (k ≡ 4 → ⊥) → (k ≡ 1 → ⊥) → blanks (suc f) text end q ≡ q
   unfolding blanks
   blank-stop f d e = rw (lt-ltb q end h, ← ek, ne-eqb k 1 e, ← ek, ne-eqb k 4 d, blanks)
+
+  pub blank-stopped : (f : ℕ) → (k ≡ 1 → ⊥) → blanks (suc f) text end q ≡ stopped k end q
+  unfolding blanks stopped
+  blank-stopped f e = rw (lt-ltb q end h, ← ek, ne-eqb k 1 e, ← ek, blanks)
 
   pub comment-stop : (f : ℕ) → k ≡ 4 → blanks (suc f) text end q ≡ end
   unfolding blanks

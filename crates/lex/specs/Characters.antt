@@ -59,3 +59,7 @@ longerBy c b bs =
                 (found 4 (((b % 8 * 64 + getD bs 1 0 % 64) * 64 + getD bs 2 0 % 64) * 64 + getD bs 3 0 % 64))
           ])
     ])
+
+-- The same for the classes from 5 on: a byte of class 5 begins no character.
+unfoldable pub byClass : ℕ → List ℕ → First
+byClass c bs = elim (eqb c never) [ true ↦ broken | false ↦ longerBy c (getD bs 0 0) bs ]

@@ -2,8 +2,7 @@
 ghost use mathlib.Core.Path.{_≡_};
 ghost use Prim.Native.Nat.{suc, _≤_, _<_};
 ghost use lib.ListN.{length};
-ghost use Rattle.lex.specs.Classes.{table};
-ghost use Rattle.lex.specs.Scan.{blanks, atomEnd, lineEnd};
+ghost use Rattle.lex.specs.Scan.{stopped, blanks, atomEnd, lineEnd};
 ghost use Rattle.lex.specs.Answers.{answer, tokenAt, scanned, peeked, taken, start};
 
 mod classes;
@@ -42,20 +41,40 @@ pub enum Line {
     Bad,
 }
 
+// Where white space ends at a character of another kind: a comment runs to the end of its line.
+fn stop(kind: u8, end: usize, q: usize) -> usize
+    ensures { λ r. ⌜ r ≡ stopped kind end q ⌝ }
+{
+    if kind == classes::COMMENTS {
+        return end;
+    }
+    q
+}
+
 // Past white space and comments in a line that ends at `end`.
-fn skip_blanks(classes: &[u8; 256], text: &[u8], end: usize, p: usize) -> usize
-    requires { ⌜ now classes ≡ table ⌝ }
+fn skip_blanks(text: &[u8], end: usize, p: usize) -> usize
     ensures { λ r. ⌜ r ≡ blanks (suc (length (now (text .entry)))) (now (text .entry)) end p ⌝ }
 {
     let mut q = p;
     while q < end {
-        let seen = utf8::look(classes, text, q);
-        let kind = seen.kind;
-        if kind == classes::COMMENTS {
+        if text.len() <= q {
+            return q;
+        }
+        let c = classes::class(text[q]);
+        if c == classes::WHITE {
+            q += 1;
+            continue;
+        }
+        if c == classes::COMMENTS {
             return end;
         }
-        if kind != classes::WHITE {
+        if c < classes::NEVER {
             return q;
+        }
+        let seen = utf8::look_longer(text, q, c);
+        let kind = seen.kind;
+        if kind != classes::WHITE {
+            return stop(kind, end, q);
         }
         q += seen.width;
     }
@@ -63,13 +82,23 @@ fn skip_blanks(classes: &[u8; 256], text: &[u8], end: usize, p: usize) -> usize
 }
 
 // Past the characters of an atom.
-fn atom_end(classes: &[u8; 256], text: &[u8], end: usize, p: usize) -> usize
-    requires { ⌜ now classes ≡ table ⌝ }
+fn atom_end(text: &[u8], end: usize, p: usize) -> usize
     ensures { λ r. ⌜ r ≡ atomEnd (suc (length (now (text .entry)))) (now (text .entry)) end p ⌝ }
 {
     let mut q = p;
     while q < end {
-        let seen = utf8::look(classes, text, q);
+        if text.len() <= q {
+            return q;
+        }
+        let c = classes::class(text[q]);
+        if c == classes::ORDINARY {
+            q += 1;
+            continue;
+        }
+        if c < classes::NEVER {
+            return q;
+        }
+        let seen = utf8::look_longer(text, q, c);
         let kind = seen.kind;
         if kind != classes::ORDINARY {
             return q;
@@ -80,16 +109,20 @@ fn atom_end(classes: &[u8; 256], text: &[u8], end: usize, p: usize) -> usize
 }
 
 // The end of the line that starts at `p`, if it is UTF-8.
-fn line_end(classes: &[u8; 256], text: &[u8], p: usize) -> Line
-    requires { ⌜ now classes ≡ table ⌝ }
+fn line_end(text: &[u8], p: usize) -> Line
     ensures { λ r. ⌜ r ≡ lineEnd (suc (length (now (text .entry)))) (now (text .entry)) p ⌝ }
 {
     let mut q = p;
     while q < text.len() {
-        if text[q] == 0x0A {
+        let b = text[q];
+        if b == 0x0A {
             return Line::Good(q + 1);
         }
-        let found = utf8::first_of(classes, &text[q..]);
+        if b < 0x80 {
+            q += 1;
+            continue;
+        }
+        let found = utf8::first_of(&text[q..]);
         let width = found.width;
         if width == 0 {
             return Line::Bad;
@@ -100,15 +133,14 @@ fn line_end(classes: &[u8; 256], text: &[u8], p: usize) -> Line
 }
 
 // The token at a place where a character stands that is neither white nor `;`.
-fn token_at(classes: &[u8; 256], text: &[u8], end: usize, p: usize) -> Read
-    requires { ⌜ now classes ≡ table ⌝ }
+fn token_at(text: &[u8], end: usize, p: usize) -> Read
     ensures { λ r. ⌜ answer r ≡ tokenAt (now (text .entry)) end p ⌝ }
 {
-    let seen = utf8::look(classes, text, p);
+    let seen = utf8::look(text, p);
     let kind = seen.kind;
     let width = seen.width;
     if kind == classes::ORDINARY {
-        let q = atom_end(classes, text, end, p);
+        let q = atom_end(text, end, p);
         return Read::Got(
             Token::Atom(p, q),
             Reader {
@@ -145,21 +177,20 @@ fn token_at(classes: &[u8; 256], text: &[u8], end: usize, p: usize) -> Read
 fn scan(text: &[u8], end: usize, p: usize) -> Read
     ensures { λ r. ⌜ answer r ≡ scanned (suc (length (now (text .entry)))) (now (text .entry)) end p ⌝ }
 {
-    let classes = classes::classes();
     let mut e = end;
-    let mut q = skip_blanks(&classes, text, e, p);
+    let mut q = skip_blanks(text, e, p);
     while e <= q {
         if text.len() <= q {
             return Read::End;
         }
-        let line = line_end(&classes, text, q);
+        let line = line_end(text, q);
         let Line::Good(next) = line else {
             return Read::Bad;
         };
         e = next;
-        q = skip_blanks(&classes, text, e, q);
+        q = skip_blanks(text, e, q);
     }
-    token_at(&classes, text, e, q)
+    token_at(text, e, q)
 }
 
 impl Reader {

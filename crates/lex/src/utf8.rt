@@ -4,8 +4,8 @@ ghost use Prim.Native.Nat.{_+_, _*_, _%_};
 ghost use lib.ListN.{drop};
 ghost use Rattle.horn.specs.Tokens.{white, kind};
 ghost use Rattle.horn.specs.Utf8.{within, range};
-ghost use Rattle.lex.specs.Classes.{kindNumber, table};
-ghost use Rattle.lex.specs.Characters.{first, longerBy, width, value, kindAt};
+ghost use Rattle.lex.specs.Classes.{kindNumber};
+ghost use Rattle.lex.specs.Characters.{first, longerBy, byClass, width, value, kindAt};
 use crate::classes;
 
 // A character's width in bytes, 0 where there is none, and its value.
@@ -108,8 +108,7 @@ fn four(a: u8, b: u8, c: u8, d: u8) -> u32
 }
 
 // The first character of some bytes.
-pub fn first_of(classes: &[u8; 256], s: &[u8]) -> Character
-    requires { ⌜ now classes ≡ table ⌝ }
+pub fn first_of(s: &[u8]) -> Character
     ensures wide { λ r. ⌜ r .width ≡ width (first (now (s .entry))) ⌝ }
     ensures valued { λ r. ⌜ r .value ≡ value (first (now (s .entry))) ⌝ }
 {
@@ -117,7 +116,7 @@ pub fn first_of(classes: &[u8; 256], s: &[u8]) -> Character
         return Character { width: 0, value: 0 };
     }
     let b = s[0];
-    let c = classes::class(classes, b);
+    let c = classes::class(b);
     if c < classes::NEVER {
         return Character {
             width: 1,
@@ -175,8 +174,7 @@ fn longer(s: &[u8], b: u8, c: u8) -> Character
 }
 
 // What stands at a place: the number of the character's kind and its width.
-pub fn look(classes: &[u8; 256], text: &[u8], p: usize) -> Seen
-    requires { ⌜ now classes ≡ table ⌝ }
+pub fn look(text: &[u8], p: usize) -> Seen
     ensures kinds { λ r. ⌜ r .kind ≡ kindAt (first (drop p (now (text .entry)))) ⌝ }
     ensures wide { λ r. ⌜ r .width ≡ width (first (drop p (now (text .entry)))) ⌝ }
 {
@@ -186,11 +184,31 @@ pub fn look(classes: &[u8; 256], text: &[u8], p: usize) -> Seen
             width: 0,
         };
     }
-    let c = classes::class(classes, text[p]);
+    let c = classes::class(text[p]);
     if c < classes::NEVER {
         return Seen { kind: c, width: 1 };
     }
-    let found = first_of(classes, &text[p..]);
+    look_longer(text, p, c)
+}
+
+// The same where the byte at the place is no character by itself. It is apart so that a loop over characters of one byte stays small.
+pub fn look_longer(text: &[u8], p: usize, c: u8) -> Seen
+    ensures kinds { λ r. ⌜ r .kind ≡ kindAt (byClass c (drop p (now (text .entry)))) ⌝ }
+    ensures wide { λ r. ⌜ r .width ≡ width (byClass c (drop p (now (text .entry)))) ⌝ }
+{
+    if text.len() <= p {
+        return Seen {
+            kind: classes::NEVER,
+            width: 0,
+        };
+    }
+    if c == classes::NEVER {
+        return Seen {
+            kind: classes::NEVER,
+            width: 0,
+        };
+    }
+    let found = longer(&text[p..], text[p], c);
     if found.width == 0 {
         return Seen {
             kind: classes::NEVER,

@@ -1,14 +1,17 @@
 -- One turn of each loop, and one level of a pattern, on the side of the models.
 use Prim.Native.Nat.{ℕ, zero, suc, _+_, _-_, _<_, _≤_}
-use mathlib.Core.Path.{_≡_, refl}
+use mathlib.Core.Path.{_≡_, _∙_, refl, ap}
 use mathlib.Core.List.{List}
 use native.Mathlib.Omega.{arith}
 use lib.ListN.{getD}
-use Rattle.outcomes.specs.Outcomes.{ok, refused}
-use Rattle.outcomes.specs.Leaving.{Did, _leaving_, _>>=_}
-use Rattle.items.specs.Items.{itemDue, closingDue}
-use Rattle.leaves.specs.Leaves.{Areas, variableName, positionFrom, position}
-use Rattle.patterns.specs.Patterns.{argumentsFrom, pattern, patternOf, judgment, judgments}
+use Rattle.outcomes.specs.Outcomes.{Outcome, ok, refused}
+use Rattle.outcomes.specs.Leaving.{Did, _leaving_, _>>=_, beside}
+use Rattle.items.specs.Places as places
+use Rattle.items.specs.Items.{Met, atom, list, itemDue, closingDue}
+use Rattle.leaves.specs.Leaves.{Areas, leaf, compoundHead}
+use Rattle.patterns.specs.declared.Due.the-variants.{Term, Closing}
+use Rattle.patterns.specs.Lent.{Part, whole, head, after, mapped, each, termFrom, partDue}
+use Rattle.patterns.specs.Patterns.{argumentsFrom, pattern, patternOf, arguments, judgment, judgments}
 use Rattle.items.specs.declared.Walk.{Walk}
 
 module _ (read : ℕ → Walk → List ℕ → List ℕ → Did Areas Walk) (text : List ℕ) (c n : ℕ) (w : Walk) (vars heap : List ℕ) where
@@ -37,6 +40,56 @@ pub pattern-within : (left : ℕ) (text counts : List ℕ) (sort : ℕ) (w : Wal
 unfolding pattern
 pattern-within zero text counts sort w vars heap n = absurd (n refl)
 pattern-within (suc left) text counts sort w vars heap n = let e : suc left - 1 ≡ left = omega arith in rw e
+
+-- A term, once a part of it was taken: a whole one, or a head with its arguments still to read.
+abbrev continued : (ℕ → Walk → List ℕ → List ℕ → Did Areas Walk) → List ℕ → Did Areas Part → Did Areas Walk
+continued read text (refused n leaving s) = refused n leaving s
+continued read text (ok (whole q) leaving s) = ok q leaving s
+continued read text (ok (head (c, q)) leaving (vars, heap)) = argumentsFrom read (getD heap (c + places.arity) 0) text c 0 q vars heap
+
+module _ (read : ℕ → Walk → List ℕ → List ℕ → Did Areas Walk) (text counts : List ℕ) (sort : ℕ) (vars heap : List ℕ) where
+  leaf-parts : (d : Did Areas Walk) → d ≡ continued read text (each whole d)
+  leaf-parts (ok q leaving s) = refl
+  leaf-parts (refused n leaving s) = refl
+
+  head-parts : (d : Did (List ℕ) (ℕ × Walk)) → (do
+    ((c, q), (vars, heap)) ← beside vars d
+    argumentsFrom read (getD heap (c + places.arity) 0) text c 0 q vars heap) ≡ continued read text (each head (beside vars d))
+  head-parts (ok (c, q) leaving s) = refl
+  head-parts (refused n leaving s) = refl
+
+  item-parts : (i : Outcome Met) → (do
+    (i, (vars, heap)) ← i leaving (vars, heap)
+    patternOf read text counts sort i vars heap) ≡ continued read text (do
+      (i, (vars, heap)) ← i leaving (vars, heap)
+      termFrom text counts sort i vars heap)
+  item-parts (refused n) = refl
+  item-parts (ok (atom s t w)) = leaf-parts (leaf text s t sort w vars heap)
+  item-parts (ok (list members w)) = head-parts (compoundHead text counts sort members w heap)
+
+-- A term where some depth is left, by the part that was taken of it.
+module _ (left : ℕ) (text counts : List ℕ) (sort : ℕ) (w : Walk) (vars heap : List ℕ) (some : left ≡ 0 → ⊥) where
+  in-parts : pattern left text counts sort w vars heap ≡ continued (pattern (left - 1) text counts) text (partDue (Term sort) text counts w vars heap)
+  unfolding partDue
+  in-parts = pattern-within left text counts sort w vars heap some ∙ item-parts (pattern (left - 1) text counts) text counts sort vars heap (itemDue text counts w)
+
+  pub pattern-refused : {n : ℕ} {s : Areas} → (refused n leaving s) ≡ partDue (Term sort) text counts w vars heap → (refused n leaving s) ≡ pattern left text counts sort w vars heap
+  pattern-refused h = rw (in-parts, ← h)
+
+  pub pattern-whole : {q : Walk} {s : Areas} → (ok (whole q) leaving s) ≡ partDue (Term sort) text counts w vars heap → (ok q leaving s) ≡ pattern left text counts sort w vars heap
+  pattern-whole h = rw (in-parts, ← h)
+
+  pub pattern-head : {c : ℕ} {q : Walk} {vars′ heap′ : List ℕ} → (ok (head (c, q)) leaving (vars′, heap′)) ≡ partDue (Term sort) text counts w vars heap → arguments (left - 1) text counts c q vars′ heap′ ≡ pattern left text counts sort w vars heap
+  unfolding arguments
+  pattern-head h = rw (in-parts, ← h)
+
+closing-after : (o : Outcome Walk) (s : Areas) → (mapped after (mapped whole o) leaving s) ≡ (o leaving s)
+closing-after (ok w) s = refl
+closing-after (refused n) s = refl
+
+pub closing-taken : (text counts : List ℕ) (w : Walk) (vars heap : List ℕ) {o : Outcome Part} {s : Areas} → (o leaving s) ≡ partDue Closing text counts w vars heap → (mapped after o leaving s) ≡ (closingDue text w leaving (vars, heap))
+unfolding partDue
+closing-taken text counts w vars heap h = ap (each after) h ∙ closing-after (closingDue text w) (vars, heap)
 
 pub judgments-on : (text counts : List ℕ) (left : ℕ) (w : Walk) (vars heap : List ℕ) {q : Walk} {vars′ heap′ : List ℕ} → 0 < left → judgment text counts w vars heap ≡ (ok q leaving (vars′, heap′)) → judgments left text counts w vars heap ≡ judgments (left - 1) text counts q vars′ heap′
 unfolding judgments

@@ -1,8 +1,15 @@
 // The second walk over a rulebook: terms and judgments become flat words. It sees only texts that the first walk read whole, so that its
 // refusals 3 to 6 and 10 never come; they are answered all the same.
+//
+// A level of a term takes little stack: where the walk stands is in two arrays that all levels are lent (`place` has the reader's numbers
+// and the bounds of an atom held ahead, `tally` the walk's counts and the kind of the token held), and what reads the text is in `take`,
+// which returns before the next level begins.
 ghost use mathlib.Core.Path.{_≡_};
+ghost use mathlib.Core.List.{List};
+ghost use Prim.Native.Nat.{ℕ};
 ghost use Rattle.outcomes.specs.Leaving.{_leaving_};
-ghost use Rattle.items.specs.Items.{walked};
+ghost use Rattle.items.specs.Items.{walked, numbered};
+ghost use Rattle.patterns.specs.Lent.{aheadOf, lentWalk, mapped, Part, whole, head, after, takenPart, done, partDue};
 ghost use Rattle.patterns.specs.Patterns.{pattern, arguments, judgment, judgments};
 use items::Item;
 use items::Named;
@@ -10,37 +17,230 @@ use items::Numbered;
 use items::Walk;
 use items::Walked;
 use items::places;
+use lex::Ahead;
+use lex::Reader;
+use lex::Token;
 
-// A term at a place of a sort, with that much depth left.
-pub fn pattern(
+// What is due: a term of a sort, or the closing of a list.
+enum Due {
+    Term(u32),
+    Closing,
+}
+
+// What was taken: all of it, or a list's head with its address.
+enum Taken {
+    Whole,
+    Head(u32),
+    Refused(u32),
+}
+
+// Whether the walk goes on, in the arrays.
+enum Done {
+    On,
+    Refused(u32),
+}
+
+// A token held ahead: its kind (none, an opening, a closing, an atom), and an atom's bounds.
+struct Kept {
+    kind: u32,
+    start: usize,
+    end: usize,
+}
+
+fn held(ahead: Ahead) -> Kept
+    ensures { λ r. ⌜ aheadOf (r .kind) (r .start) (r .end) ≡ ahead ⌝ }
+{
+    match ahead {
+        Ahead::Nothing => Kept {
+            kind: 0,
+            start: 0,
+            end: 0,
+        },
+        Ahead::Held(token) => match token {
+            Token::Opening => Kept {
+                kind: 1,
+                start: 0,
+                end: 0,
+            },
+            Token::Closing => Kept {
+                kind: 2,
+                start: 0,
+                end: 0,
+            },
+            Token::Atom(s, t) => Kept {
+                kind: 3,
+                start: s,
+                end: t,
+            },
+        },
+    }
+}
+
+fn ahead_of(kind: u32, start: usize, end: usize) -> Ahead
+    ensures { λ r. ⌜ r ≡ aheadOf kind start end ⌝ }
+{
+    if kind == 1 {
+        return Ahead::Held(Token::Opening);
+    }
+    if kind == 2 {
+        return Ahead::Held(Token::Closing);
+    }
+    if kind == 3 {
+        return Ahead::Held(Token::Atom(start, end));
+    }
+    Ahead::Nothing
+}
+
+// The walk that the two arrays hold.
+fn lent_walk(place: &[usize; 4], tally: &[u32; 4]) -> Walk
+    ensures { λ r. ⌜ r ≡ lentWalk (now (place .entry)) (now (tally .entry)) ⌝ }
+{
+    let ahead = ahead_of(tally[3], place[2], place[3]);
+    let reader = Reader {
+        at: place[0],
+        end: place[1],
+        ahead,
+    };
+    Walk {
+        reader,
+        opened: tally[0],
+        top: tally[1],
+        variables: tally[2],
+    }
+}
+
+fn keep(place: &mut [usize; 4], tally: &mut [u32; 4], w: Walk)
+    ensures { λ _. ⌜ lentWalk (now (place .exit)) (now (tally .exit)) ≡ w ⌝ }
+{
+    let reader = w.reader;
+    let ahead = reader.ahead;
+    let h = held(ahead);
+    *place = [reader.at, reader.end, h.start, h.end];
+    *tally = [w.opened, w.top, w.variables, h.kind];
+}
+
+fn keep_whole(place: &mut [usize; 4], tally: &mut [u32; 4], w: Walked) -> Taken
+    ensures { λ r. ⌜ takenPart r (now (place .exit)) (now (tally .exit)) ≡ mapped whole (walked w) ⌝ }
+{
+    match w {
+        Walked::Refused(n) => Taken::Refused(n),
+        Walked::To(q) => {
+            keep(place, tally, q);
+            Taken::Whole
+        }
+    }
+}
+
+fn keep_head(place: &mut [usize; 4], tally: &mut [u32; 4], h: Numbered) -> Taken
+    ensures { λ r. ⌜ takenPart r (now (place .exit)) (now (tally .exit)) ≡ mapped head (numbered h) ⌝ }
+{
+    match h {
+        Numbered::Refused(n) => Taken::Refused(n),
+        Numbered::Got(c, q) => {
+            keep(place, tally, q);
+            Taken::Head(c)
+        }
+    }
+}
+
+// All that a level reads by itself. One function for terms and closings: called from two places it is not inlined, so that what it needs
+// is on the stack once and not in each level.
+fn take(
     text: &[u8],
     counts: &[u32],
     vars: &mut [u32],
     heap: &mut [u32],
-    sort: u32,
-    left: u32,
-    w: Walk,
-) -> Walked
-    ensures { λ r. ⌜ (walked r leaving (now (vars .exit), now (heap .exit))) ≡ pattern left (now (text .entry)) (now (counts .entry)) sort w (now (vars .entry)) (now (heap .entry)) ⌝ }
+    place: &mut [usize; 4],
+    tally: &mut [u32; 4],
+    due: Due,
+) -> Taken
+    ensures { λ r. ⌜ (takenPart r (now (place .exit)) (now (tally .exit)) leaving (now (vars .exit), now (heap .exit))) ≡ partDue due (now (text .entry)) (now (counts .entry)) (lentWalk (now (place .entry)) (now (tally .entry))) (now (vars .entry)) (now (heap .entry)) ⌝ }
 {
-    if left == 0 {
-        return Walked::Refused(4);
-    }
-    let i = items::next_item(text, counts, w);
-    match i {
-        Item::Refused(n) => Walked::Refused(n),
-        Item::Atom(s, t, q) => leaves::leaf(text, vars, heap, s, t, sort, q),
-        Item::List(members, q) => {
-            let h = leaves::compound_head(text, counts, heap, sort, members, q);
-            match h {
-                Numbered::Refused(n) => Walked::Refused(n),
-                Numbered::Got(c, p) => arguments(text, counts, vars, heap, c, left - 1, p),
+    let w = lent_walk(place, tally);
+    match due {
+        Due::Closing => {
+            let c = items::close(text, w);
+            keep_whole(place, tally, c)
+        }
+        Due::Term(sort) => {
+            let i = items::next_item(text, counts, w);
+            match i {
+                Item::Refused(n) => Taken::Refused(n),
+                Item::Atom(s, t, q) => {
+                    let l = leaves::leaf(text, vars, heap, s, t, sort, q);
+                    keep_whole(place, tally, l)
+                }
+                Item::List(members, q) => {
+                    let h = leaves::compound_head(text, counts, heap, sort, members, q);
+                    keep_head(place, tally, h)
+                }
             }
         }
     }
 }
 
+fn ended(t: Taken) -> Done
+    ensures { λ r. ⌜ ((p q : List ℕ) → done r p q ≡ mapped after (takenPart t p q)) ⌝ }
+{
+    match t {
+        Taken::Whole => Done::On,
+        Taken::Head(_) => Done::On,
+        Taken::Refused(n) => Done::Refused(n),
+    }
+}
+
+// A term at a place of a sort, with that much depth left.
+fn lent_pattern(
+    text: &[u8],
+    counts: &[u32],
+    vars: &mut [u32],
+    heap: &mut [u32],
+    place: &mut [usize; 4],
+    tally: &mut [u32; 4],
+    sort: u32,
+    left: u32,
+) -> Done
+    ensures { λ r. ⌜ (done r (now (place .exit)) (now (tally .exit)) leaving (now (vars .exit), now (heap .exit))) ≡ pattern left (now (text .entry)) (now (counts .entry)) sort (lentWalk (now (place .entry)) (now (tally .entry))) (now (vars .entry)) (now (heap .entry)) ⌝ }
+{
+    if left == 0 {
+        return Done::Refused(4);
+    }
+    let t = take(text, counts, vars, heap, place, tally, Due::Term(sort));
+    match t {
+        Taken::Refused(n) => Done::Refused(n),
+        Taken::Whole => Done::On,
+        Taken::Head(c) => lent_arguments(text, counts, vars, heap, place, tally, c, left - 1),
+    }
+}
+
 // All arguments of the symbol at c, then the closing. A term reads its arguments, and each argument is a term.
+fn lent_arguments(
+    text: &[u8],
+    counts: &[u32],
+    vars: &mut [u32],
+    heap: &mut [u32],
+    place: &mut [usize; 4],
+    tally: &mut [u32; 4],
+    c: u32,
+    left: u32,
+) -> Done
+    ensures { λ r. ⌜ (done r (now (place .exit)) (now (tally .exit)) leaving (now (vars .exit), now (heap .exit))) ≡ arguments left (now (text .entry)) (now (counts .entry)) c (lentWalk (now (place .entry)) (now (tally .entry))) (now (vars .entry)) (now (heap .entry)) ⌝ }
+{
+    let inputs = words::at(heap, c as usize + places::ARITY);
+    let mut k: u32 = 0;
+    while k < inputs {
+        let sort = words::at(heap, c as usize + places::INPUTS + k as usize);
+        let p = lent_pattern(text, counts, vars, heap, place, tally, sort, left);
+        if let Done::Refused(n) = p {
+            return Done::Refused(n);
+        }
+        k += 1;
+    }
+    let t = take(text, counts, vars, heap, place, tally, Due::Closing);
+    ended(t)
+}
+
+// The arguments of the symbol at c, on a walk of its own.
 pub fn arguments(
     text: &[u8],
     counts: &[u32],
@@ -52,19 +252,14 @@ pub fn arguments(
 ) -> Walked
     ensures { λ r. ⌜ (walked r leaving (now (vars .exit), now (heap .exit))) ≡ arguments left (now (text .entry)) (now (counts .entry)) c w (now (vars .entry)) (now (heap .entry)) ⌝ }
 {
-    let inputs = words::at(heap, c as usize + places::ARITY);
-    let mut v = w;
-    let mut k: u32 = 0;
-    while k < inputs {
-        let sort = words::at(heap, c as usize + places::INPUTS + k as usize);
-        let p = pattern(text, counts, vars, heap, sort, left, v);
-        let Walked::To(q) = p else {
-            return Walked::Refused(items::walked_refusal(p));
-        };
-        v = q;
-        k += 1;
+    let mut place: [usize; 4] = [0; 4];
+    let mut tally: [u32; 4] = [0; 4];
+    keep(&mut place, &mut tally, w);
+    let d = lent_arguments(text, counts, vars, heap, &mut place, &mut tally, c, left);
+    match d {
+        Done::Refused(n) => Walked::Refused(n),
+        Done::On => Walked::To(lent_walk(&place, &tally)),
     }
-    items::close(text, v)
 }
 
 // A judgment: "a list (else 7), not empty (8), its head an atom (7) and a predicate (12), its length right (15), then its terms".

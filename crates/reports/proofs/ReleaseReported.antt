@@ -8,8 +8,9 @@ use Rattle.horn.specs.Refusals.{number, Result}
 use Rattle.horn.specs.Setting.{document01}
 use Rattle.horn.specs.Calls as calls
 use Rattle.horn.specs.Calls.{report, releaseAnswer}
-use Rattle.horn.proofs.Later.{Later, later-ok, later-refused, later-bind, later-theory}
-use Rattle.horn.proofs.LaterReading.{later-goals, later-certificate}
+use Rattle.horn.proofs.Refusing.{refuses-none, refuses, refuses-bind}
+use Rattle.horn.proofs.Later.{Later, later-theory}
+use Rattle.horn.proofs.Readings.{later-goals, later-certificate}
 use Rattle.outcomes.specs.Leaving.{Did}
 use Rattle.outcomes.specs.Simulation.{Simulates, refuse, leave}
 use Rattle.certificates.specs.Certificates.{AllAreas}
@@ -23,17 +24,17 @@ use Rattle.reports.proofs.Reported.{Reported}
 later-judged : (rulebook goals certificate : List ℕ) → Later (judged rulebook goals certificate)
 unfolding judged
 later-judged rulebook goals certificate =
-    later-bind _ (later-theory rulebook) λ th.
-    later-bind _ (later-goals document01 th goals []) λ p.
-    later-bind _ (later-certificate document01 th (p .0) certificate (p .1)) λ q.
-    later-ok
+    refuses-bind _ (later-theory rulebook) λ th.
+    refuses-bind _ (later-goals document01 th goals []) λ p.
+    refuses-bind _ (later-certificate document01 th (p .0) certificate (p .1)) λ q.
+    refuses-none
 
 reports : (bytes : ℕ) {m : Did AllAreas Counts} {m′ : Result calls.Report} → Simulates (Released bytes) m m′ → Later m′
     → Reported (releasedBy bytes m .number) (releaseAnswer m′) (told (releasedBy bytes m))
 unfolding releaseAnswer
-reports bytes (refuse {n} e) (later-refused r h) =
+reports bytes (refuse {n} e) (refuses r h) =
     record { same = ap (λ (k : ℕ). report k 0 0 0 0) (sym e); not-1 = λ z. absurd (omega arith); not-2 = λ z. absurd (omega arith) }
-reports bytes (leave q) later-ok = record { same = q; not-1 = λ z. absurd (omega arith); not-2 = λ z. absurd (omega arith) }
+reports bytes (leave q) refuses-none = record { same = q; not-1 = λ z. absurd (omega arith); not-2 = λ z. absurd (omega arith) }
 
 pub release-reported : (rulebook goals certificate : List ℕ) → length rulebook ≤ 8192 → length goals ≤ 8192 → length certificate ≤ 32768
     → (a b c d : List ℕ) → length a ≡ 16384 → length b ≡ 16384 → length c ≡ 16384 → length d ≡ 16384

@@ -9,7 +9,8 @@ use Rattle.horn.specs.Refusals.{Result}
 use Rattle.horn.specs.Rulebook.{Theory, theory}
 use Rattle.horn.specs.Calls as calls
 use Rattle.horn.specs.Calls.{rulebookAnswer}
-use Rattle.horn.proofs.Later.{Later, later-ok, later-refused, later-theory}
+use Rattle.horn.proofs.Refusing.{refuses-none, refuses}
+use Rattle.horn.proofs.Later.{Later, later-theory}
 use Rattle.outcomes.specs.Outcomes as outcomes
 use Rattle.outcomes.specs.Leaving.{Did, _leaving_}
 use Rattle.theory.specs.Walks as walks
@@ -22,8 +23,8 @@ use Rattle.reports.proofs.Reported.{Reported}
 -- A rulebook that is read and judged is answered neither 1 nor 2.
 late : (m : Result Theory) → Later m → (rulebookAnswer m .number ≢ 1) × (rulebookAnswer m .number ≢ 2)
 unfolding rulebookAnswer
-late m later-ok = ((λ e. absurd (omega arith)), (λ e. absurd (omega arith)))
-late m (later-refused r h) = ((λ e. absurd (omega arith)), (λ e. absurd (omega arith)))
+late m refuses-none = ((λ e. absurd (omega arith)), (λ e. absurd (omega arith)))
+late m (refuses r h) = ((λ e. absurd (omega arith)), (λ e. absurd (omega arith)))
 
 -- A report of both walks, in the definition's words.
 in-its-words : (m : Did AllAreas Counts) → answered (reportedBy m) ≡ whole.reported m

@@ -8,9 +8,9 @@ use borrow.Author.Tests.{ne-eqb}
 use lib.Dec.{eqb}
 use lib.ListN.{length, set, getElem?, length-set}
 use Rattle.words.specs.Parts.{part, cleared}
-use Rattle.horn.specs.Names.{Name, first, someOf}
+use Rattle.horn.specs.Names.{Name, first, isZero, someOf}
 use Rattle.horn.specs.StoredTerms.{Term}
-use Rattle.horn.specs.Checker.{Def, def, isDef, meaning, Goal, goal, isGoal, isEmptyList}
+use Rattle.horn.specs.Checker.{Def, def, isDef, meaning, Goal, goal, isGoal}
 use Rattle.horn.specs.Matching.{Step}
 use Rattle.horn.specs.Certificate.{without}
 use Rattle.horn.proofs.Inversion.{none-some}
@@ -30,8 +30,8 @@ use Rattle.tables.proofs.Goals.{sits-bounds, goals-kept, goals-add, goa
 use Rattle.tables.proofs.Defs.{defs-kept, defs-add, defs-raised, def-known, meaning-agrees}
 use Rattle.tables.proofs.Steps.{steps-kept, steps-add, step-agrees, step-added-length, step-added-below}
 
-empty-counts : (gs : List Goal) → isEmptyList gs ≡ eqb (length gs) 0
-unfolding isEmptyList
+empty-counts : (gs : List Goal) → isZero (length gs) ≡ eqb (length gs) 0
+unfolding isZero
 empty-counts [] = refl
 empty-counts (g ∷ gs) = sym (ne-eqb (suc (length gs)) 0 (λ (z : suc (length gs) ≡ 0). omega arith))
 
@@ -97,7 +97,7 @@ module _ {goalsText certificate table : List ℕ} {buckets : ℕ} {Means : ℕ �
   pub step-of : (n : ℕ) → StepAgree Recorded (stepWord n 0 tally table) (stepWord n 1 tally table) (stepWord n 2 tally table) (getElem? steps n)
   step-of n = step-agrees n tally (h .step-part) (h .steps-is)
 
-  pub none-left : isEmptyList openGoals ≡ eqb (tally .left) 0
+  pub none-left : isZero (length openGoals) ≡ eqb (tally .left) 0
   none-left = rw (h .left-is) (empty-counts openGoals)
 
   -- One abbreviation more.

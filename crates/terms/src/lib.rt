@@ -6,19 +6,42 @@ ghost use mathlib.Core.Path.{_≡_};
 ghost use Rattle.outcomes.specs.Outcomes.{refusal};
 ghost use Rattle.outcomes.specs.Leaving.{_leaving_};
 ghost use Rattle.theory_reading.specs.Reading.{accepted};
+ghost use Rattle.lex.specs.declared.Reader.{Reader};
+ghost use Rattle.terms.specs.Levels.{given};
 ghost use Rattle.terms.specs.Terms.{numbered, headOn, sortOf, make, constructorDue, predicateDue, atomTerm, headDue, term, arguments, headedJudgment, judgment};
 use arena::Answer;
-use asking::Item;
-use asking::Look;
 use asking::Named;
 use asking::Passed;
 use lex::Reader;
 use names::Found;
 use tables::Kept;
 
+mod levels;
+
 // The number of a node, the address of a symbol, or how many arguments there are; and the reader after it.
 pub enum Numbered {
     Got(u32, Reader),
+    Refused(u32),
+}
+
+// The same without the reader, where that is lent.
+pub enum Number {
+    Is(u32),
+    Refused(u32),
+}
+
+// What begins where a term or a closing is due: a closing, taken; a term without brackets; a list, by the symbol that is its head.
+pub enum Begun {
+    Closing,
+    Whole(u32),
+    Opened(u32),
+    Refused(u32),
+}
+
+// One argument more, or the closing behind the last.
+pub enum Argument {
+    Closing,
+    Term(u32),
     Refused(u32),
 }
 
@@ -60,6 +83,23 @@ pub fn accepts(heap: &[u32], store: &[u32], stack: &[u32], c: u32, from: u32, n:
 }
 
 // "Then 15 for arity and sorts, then the store." The node's arguments stand behind the place of its head.
+pub fn node(heap: &[u32], store: &mut [u32], stack: &mut [u32], c: u32, top: u32, n: u32) -> Number
+    ensures { λ a. ⌜ ((r : Reader) → (given a r leaving (now (store .exit), now (stack .exit))) ≡ make (now (heap .entry)) c top n r (now (store .entry)) (now (stack .entry))) ⌝ }
+{
+    if !accepts(heap, store, stack, c, words::plus(top, 1), n) {
+        return Number::Refused(15);
+    }
+    words::put(stack, top as usize, c);
+    let key = words::words_part(stack, top as usize, top as usize + 1 + n as usize);
+    let answer = arena::intern(store, 2048, 8192, 4096, key);
+    match answer {
+        Answer::Found(k) => Number::Is(k),
+        Answer::Made(k) => Number::Is(k),
+        Answer::Full => Number::Refused(28),
+    }
+}
+
+// The same with the reader after it.
 pub fn make(
     heap: &[u32],
     store: &mut [u32],
@@ -71,16 +111,10 @@ pub fn make(
 ) -> Numbered
     ensures { λ r. ⌜ (numbered r leaving (now (store .exit), now (stack .exit))) ≡ make (now (heap .entry)) c top n reader (now (store .entry)) (now (stack .entry)) ⌝ }
 {
-    if !accepts(heap, store, stack, c, words::plus(top, 1), n) {
-        return Numbered::Refused(15);
-    }
-    words::put(stack, top as usize, c);
-    let key = words::words_part(stack, top as usize, top as usize + 1 + n as usize);
-    let answer = arena::intern(store, 2048, 8192, 4096, key);
-    match answer {
-        Answer::Found(k) => Numbered::Got(k, reader),
-        Answer::Made(k) => Numbered::Got(k, reader),
-        Answer::Full => Numbered::Refused(28),
+    let a = node(heap, store, stack, c, top, n);
+    match a {
+        Number::Refused(m) => Numbered::Refused(m),
+        Number::Is(k) => Numbered::Got(k, reader),
     }
 }
 
@@ -174,32 +208,39 @@ pub fn term(
 ) -> Numbered
     ensures { λ r. ⌜ (numbered r leaving (now (store .exit), now (stack .exit))) ≡ term left (now (text .entry)) (now (rules .entry)) (now (heap .entry)) (now (table .entry)) top reader (now (store .entry)) (now (stack .entry)) ⌝ }
 {
-    if left == 0 {
-        return Numbered::Refused(4);
-    }
-    let i = asking::item_due(text, left, reader);
-    match i {
-        Item::Refused(n) => Numbered::Refused(n),
-        Item::Atom(s, t, q) => { atom_term(text, rules, heap, table, store, stack, top, s, t, q) }
-        Item::List(q) => {
-            let h = head(text, rules, heap, left - 1, q);
-            let Numbered::Got(c, p) = h else {
-                return Numbered::Refused(numbered_refusal(h));
-            };
+    let mut lent = levels::lend(reader);
+    let b = levels::begin(
+        text,
+        rules,
+        heap,
+        table,
+        store,
+        stack,
+        &mut lent,
+        top,
+        left,
+        false,
+    );
+    match b {
+        Begun::Refused(m) => Numbered::Refused(m),
+        Begun::Closing => Numbered::Refused(6),
+        Begun::Whole(k) => Numbered::Got(k, levels::reader_in(&lent)),
+        Begun::Opened(c) => {
             let above = words::plus(top, 1);
-            let a = args(text, rules, heap, table, store, stack, above, left - 1, p);
-            let Numbered::Got(n, o) = a else {
+            let q = levels::reader_in(&lent);
+            let a = args(text, rules, heap, table, store, stack, above, left - 1, q);
+            let Numbered::Got(n, p) = a else {
                 return Numbered::Refused(numbered_refusal(a));
             };
             if n == 0 {
                 return Numbered::Refused(16);
             }
-            make(heap, store, stack, c, top, n, o)
+            make(heap, store, stack, c, top, n, p)
         }
     }
 }
 
-// "A term reads its arguments, and each argument is a term": asked for until a closing is next, and left on the stack from `top` on.
+// The arguments of a term or a judgment, left on the stack from `top` on: how many there are.
 pub fn args(
     text: &[u8],
     rules: &[u8],
@@ -213,28 +254,24 @@ pub fn args(
 ) -> Numbered
     ensures { λ r. ⌜ (numbered r leaving (now (store .exit), now (stack .exit))) ≡ arguments left (now (text .entry)) (now (rules .entry)) (now (heap .entry)) (now (table .entry)) top reader (now (store .entry)) (now (stack .entry)) ⌝ }
 {
-    let mut r = reader;
-    let mut n: u32 = 0;
-    let mut fuel = text.len() + 1;
-    while 0 < fuel {
-        let next = asking::closing_next(text, r);
-        match next {
-            Look::Refused(m) => return Numbered::Refused(m),
-            Look::Closing(q) => return Numbered::Got(n, q),
-            Look::Member(q) => {
-                let place = words::plus(top, n);
-                let a = term(text, rules, heap, table, store, stack, place, left, q);
-                let Numbered::Got(k, p) = a else {
-                    return Numbered::Refused(numbered_refusal(a));
-                };
-                words::put(stack, place as usize, k);
-                r = p;
-                n = words::plus(n, 1);
-                fuel -= 1;
-            }
-        }
+    let mut lent = levels::lend(reader);
+    let max = text.len() + 1;
+    let a = levels::args(
+        text,
+        rules,
+        heap,
+        table,
+        store,
+        stack,
+        &mut lent,
+        top,
+        left,
+        max,
+    );
+    match a {
+        Number::Refused(m) => Numbered::Refused(m),
+        Number::Is(n) => Numbered::Got(n, levels::reader_in(&lent)),
     }
-    Numbered::Refused(2)
 }
 
 // "Judgment: list, head a predicate (12), arguments, 15, store." Here its head was asked for: an atom with these bounds.

@@ -4,21 +4,20 @@ use mathlib.Core.Path.{_≡_, refl, ap₂, sym, _∙_}
 use mathlib.Core.Bool.{false, not}
 use mathlib.Core.List.{List, [], _∷_}
 use native.Mathlib.Omega.{arith}
-use borrow.Author.Tests.{eq-eqb, ne-eqb, le-leb, lt-leb}
-use lib.Dec.{eqb, leb}
+use borrow.Author.Tests.{eq-eqb, ne-eqb}
+use lib.Dec.{eqb}
 use lib.ListN.{length, set, length-set}
 use lib.Seq.{getD-set-same}
 use Rattle.horn.specs.Refusals as refusals
-use Rattle.horn.specs.Refusals.{Refusal, Result, number, notUtf8, textEnds, nesting, bracketedConstant}
+use Rattle.horn.specs.Refusals.{Refusal, Result, number, notUtf8, textEnds, bracketedConstant}
 use Rattle.horn.specs.Setting.{document01}
-use Rattle.horn.specs.Names.{Name}
+use Rattle.horn.specs.Names.{Name, isZero}
 use Rattle.horn.specs.Tokens.{Stream, Token}
 use Rattle.horn.specs.NestedLists.{Item, word, group, Items, closed, ended, badLine, _then_, askedAt, absent}
 use Rattle.horn.specs.Rulebook.{Symbol, Theory, constructor}
-use Rattle.horn.specs.StoredTerms.{Term, Terms, []ₜ, _∷ₜ_}
+use Rattle.horn.specs.StoredTerms.{Term, Terms, []ₜ, _∷ₜ_, width}
 use Rattle.horn.specs.Checker as definition
 use Rattle.horn.specs.Checker.{Def}
-use Rattle.horn.proofs.Equality.{case}
 use Rattle.lex.specs.declared.Reader.{Reader}
 use Rattle.arena.proofs.Trees.{Below, both, lookups}
 use Rattle.arena.proofs.Trees as trees
@@ -41,25 +40,10 @@ use Rattle.asking_laws.proofs.Asking.{ItemMet, atom-met, list-met, item-law, Wo
 use Rattle.terms.specs.Terms as walk
 use Rattle.theory_reading.specs.Storing.{Areas}
 use Rattle.terms.specs.Terms.{make, constructorDue, headDue, argumentsFrom, termOf}
+pub use Rattle.terms_laws.proofs.Asked.{asked-then, asked-no, asked-yes}
 use Rattle.terms_laws.proofs.Rows.{Row, no-words, one-word}
 use Rattle.terms_laws.proofs.Making.{TermRead, make-law}
 use Rattle.terms_laws.proofs.Atoms.{SymbolMet, symbol-met, constructor-law, atom-law}
-
--- What is asked for, then read.
-pub asked-then : {A B : Type 0} (depth : ℕ) (ts : List Term) (m : Result A) (f : A → Result B) (g : Unit {0} × List Term → Result B)
-    → g (tt, ts) ≡ refusals._>>=_ m f
-    → refusals._>>=_ {A = Unit {0} × List Term} (refusals._>>=_ (askedAt depth) (λ a. refusals.ok (a, ts))) g
-    ≡ refusals._>>=_ (refusals._>>=_ (askedAt depth) (λ _. m)) f
-unfolding askedAt refusals.need refusals._>>=_
-asked-then depth ts m f g e = case (leb depth 256) (λ t. rw t e) (λ t. rw t)
-
-pub asked-no : (depth : ℕ) → depth + 0 ≡ 257 → askedAt depth ≡ refusals.refused nesting
-unfolding askedAt refusals.need
-asked-no depth e = rw (lt-leb depth 256 (omega arith))
-
-pub asked-yes : (left depth : ℕ) → depth + suc left ≡ 257 → askedAt depth ≡ refusals.ok tt
-unfolding askedAt refusals.need
-asked-yes left depth e = rw (le-leb depth 256 (omega arith))
 
 -- The store and the stack before a term is read, which goes on top of the stack: two bytes at least were read for each word on it.
 pub record Ready (es : Entries) (th : Theory) (text : List ℕ) (ts₀ : List Term) (K : Stream Token → Type 0) (top spent : ℕ) (ts : List Term) (r : Reader) (store stack : List ℕ) : Type 0 where
@@ -158,7 +142,7 @@ module _ (text : List ℕ) (table : List ℕ) {rules heap : List ℕ} {es : Entr
   abbrev definedOn : ℕ → Symbol → Items → List Term → Result (Term × List Term)
   definedOn depth d rest ts =
       refusals._>>=_ {A = Terms × List Term} (definition.arguments document01 th defs depth rest ts)
-      (λ p. refusals._>>=_ {A = Unit {0} × List Term} (refusals._>>=_ (refusals.need (not (definition.isNil (p .0))) bracketedConstant) (λ a. refusals.ok (a, p .1)))
+      (λ p. refusals._>>=_ {A = Unit {0} × List Term} (refusals._>>=_ (refusals.need (not (isZero (width (p .0)))) bracketedConstant) (λ a. refusals.ok (a, p .1)))
       (λ u. definition.make document01 d (p .0) (u .1)))
 
   -- "After the closing come 16 for a bracketed constructor without arguments, then 15 for arity and sorts, then the store."
@@ -187,7 +171,7 @@ module _ (text : List ℕ) (table : List ℕ) {rules heap : List ℕ} {es : Entr
       → ArgumentsLaw rest → depth + left ≡ 257 → 2 * top ≤ spent → SymbolAt heap es bound c d
       → Ready es th text ts₀ (Left rest K) (top + 1) (spent + 2) ts r store stack
       → Simulates (TermRead es th (At text K (spent + 2)) top stack ts) (walkOn left top c r store stack) (definedOn depth d rest ts)
-  unfolding refusals._>>=_ refusals.need number lookups definition.isNil
+  unfolding refusals._>>=_ refusals.need number lookups isZero width
   compounded left depth top spent c d K rest ts r store stack law e l a ready =
       let z = at-within (ready .reader) in
       rw (sum-small top 1 (omega arith))
@@ -197,11 +181,11 @@ module _ (text : List ℕ) (table : List ℕ) {rules heap : List ℕ} {es : Entr
             → lookups (symbolAt es th) (y .1) ms ≡ y .0
             → Simulates (TermRead es th (At text K (spent + 2)) top stack ts)
             (leaving._>>=_ (outcomes.need (not (eqb (x .0) 0)) 16 leaving s) (λ _. make heap c top (x .0) (x .1) (s .0) (s .1)))
-            (refusals._>>=_ {A = Unit {0} × List Term} (refusals._>>=_ (refusals.need (not (definition.isNil (y .0))) bracketedConstant) (λ b. refusals.ok (b, y .1)))
+            (refusals._>>=_ {A = Unit {0} × List Term} (refusals._>>=_ (refusals.need (not (isZero (width (y .0)))) bracketedConstant) (λ b. refusals.ok (b, y .1)))
             (λ u. definition.make document01 d (y .0) (u .1)))
         by x s y q [] n t = rw (eq-eqb (x .0) 0 n, ← t) (refuse refl)
         by x s y q (m ∷ ms) n t =
-            let nil : definition.isNil (y .0) ≡ false = rw (← t) in
+            let nil : isZero (width (y .0)) ≡ false = rw (← t) in
             rw (ne-eqb (x .0) 0 (λ f. omega arith), nil) (made-of top spent c d K ts stack x s y l (ready .long) a q)
 
   -- No head there, or none that is an atom.

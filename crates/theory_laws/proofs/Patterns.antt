@@ -9,11 +9,11 @@ use borrow.Author.Tests.{eqb-true, ne-eqb}
 use lib.Dec.{eqb}
 use lib.ListN.{length, getD, set}
 use Rattle.horn.specs.Refusals.{number, ok, refused, need, _>>=_, sortArity, bracketedConstant}
-use Rattle.horn.specs.Names.{Name}
+use Rattle.horn.specs.Names.{Name, isZero}
 use Rattle.horn.specs.Tokens.{Stream, _▹_, Token, opening, closing, atom}
 use Rattle.horn.specs.NestedLists.{Sexp, leaf, list, Sexps, []ₛ, _∷ₛ_}
 use Rattle.horn.specs.Rulebook as definition
-use Rattle.horn.specs.Rulebook.{Output, sort, sameOutput, Symbol, symbol, Variable, Pattern, app, Patterns, []ₚ, _∷ₚ_, isConstructor, Theory, fits, count, isEmpty, inputs}
+use Rattle.horn.specs.Rulebook.{Output, sort, sameOutput, Symbol, symbol, Variable, Pattern, app, Patterns, []ₚ, _∷ₚ_, isConstructor, Theory, fits, count, inputs}
 use Rattle.horn.proofs.Equality.{both}
 use Rattle.lex.specs.declared.Reader.{Reader}
 use Rattle.sexp.specs.Flattening.{flatOne, flat, size, countsOne, countsAll}
@@ -40,8 +40,8 @@ unfolding size count
 size-count []ₛ = refl
 size-count (x ∷ₛ xs) = ap suc (size-count xs)
 
-pub alone : (xs : Sexps) → eqb (suc (size xs)) 1 ≡ isEmpty xs
-unfolding size isEmpty
+pub alone : (xs : Sexps) → eqb (suc (size xs)) 1 ≡ isZero (count xs)
+unfolding size isZero count
 alone []ₛ = refl
 alone (x ∷ₛ xs) = ne-eqb (suc (suc (size xs))) 1 (λ e. omega arith)
 
@@ -269,7 +269,7 @@ module _ (text counted : List ℕ) (Before : Reader → Stream Token → Type 0)
       → Was 3 ts ks vs (readOn w (met .next)) vars heap
       → Simulates (Applied text counted Before th es base spare ts ks vs (readOn w (met .next)) vars heap (sort sortName) (count xs))
       (compoundHead text counted a (suc (size xs)) w heap)
-      (need (not (isEmpty xs)) bracketedConstant >>= λ _. definition.constructor th name >>= λ c. need (fits c (sort sortName) (count xs)) sortArity >>= λ _. ok c)
+      (need (not (isZero (count xs))) bracketedConstant >>= λ _. definition.constructor th name >>= λ c. need (fits c (sort sortName) (count xs)) sortArity >>= λ _. ok c)
   unfolding compoundHead definition.constructor number
   compound-head name sortName a xs met m r =
       rw (head-met (size xs) met)
@@ -280,7 +280,7 @@ module _ (text counted : List ℕ) (Before : Reader → Stream Token → Type 0)
   compound-atom : (left : ℕ) (name : Name) (xs : Sexps) → ArgumentsLaw left xs → CompoundLaw left (leaf name ∷ₛ xs)
   unfolding definition.compoundPattern definition.atomDue flat countsAll size _>>=_
   compound-atom left name xs law sortName a ts ks vs w vars heap m r =
-      tested-aside vars (not (isEmpty xs)) bracketedConstant (definition.constructor th name) (λ c. fits c (sort sortName) (count xs)) sortArity _ _
+      tested-aside vars (not (isZero (count xs))) bracketedConstant (definition.constructor th name) (λ c. fits c (sort sortName) (count xs)) sortArity _ _
       (compound-head name sortName a xs met m ready)
       (applied-arguments left xs (sort sortName) law refl refl ready) where
         met : AtomMet text counted Before reads name (flat xs (closing ▹ ts)) (countsAll xs ks) w

@@ -1,5 +1,5 @@
 -- `lex::line_end` meets its contract. Assumes nothing.
-use Rattle.lex.proofs.Turns.{width-steps, rest-of, line-stop, line-bad, line-on, line-over}
+use Rattle.lex.proofs.Turns.{width-steps, rest-of, ascii-width, line-stop, line-bad, line-on, line-over}
 use Rattle.lex.specs.Scan.{lineEnd}
 use lib.ListN.{length}
 use native.Mathlib.Omega.{arith}
@@ -10,31 +10,55 @@ use Rattle.lex.proofs.line_end.Statement.{statement}
 use Rattle.lex.proofs.line_end.Tie as tie
 
 abbrev Inv-loop : tie.InvT-loop
-Inv-loop classes text p q₀ q = (f : ℕ) × ((length text - q ≤ f) × (lineEnd (suc (length text)) text p ≡ lineEnd (suc f) text q))
+Inv-loop text p q₀ q = (f : ℕ) × ((length text - q ≤ f) × (lineEnd (suc (length text)) text p ≡ lineEnd (suc f) text q))
 
 abbrev μ-loop : tie.MeasureT-loop
-μ-loop classes text p q₀ q = length text - q
+μ-loop text p q₀ q = length text - q
 
 loop-holds : tie.Need-loop-holds Inv-loop μ-loop
 loop-holds c = (length (c .before .args .text .now), (omega arith, refl))
 
+shared-slice-read-b : tie.Need-shared-slice-read-b Inv-loop μ-loop
+shared-slice-read-b c = search needs
+
+add-t11 : tie.Need-add-t11 Inv-loop μ-loop
+add-t11 c = search needs
+
 returns : tie.Need-returns Inv-loop μ-loop
 returns c = sym (c .before .before .before .loop .inv .1 .1 ∙ line-stop (c .before .before .before .before .before .args .text .now) (c .before .before .before .loop .q) (c .before .before .loop-test .taken) (c .before .before .before .loop .inv .0) (c .if1 .taken))
 
-first-of-requires : tie.Need-first-of-requires Inv-loop μ-loop
-first-of-requires c κs = c .before .before .before .before .before .before .pre
-
-returns-2 : tie.Need-returns-2 Inv-loop μ-loop
-returns-2 c = sym (c .before .before .before .before .before .before .loop .inv .1 .1 ∙ line-bad (c .before .before .before .before .before .before .before .before .args .text .now) (c .before .before .before .before .before .before .loop .q) (c .before .before .before .before .before .loop-test .taken) (c .before .before .before .if1 .left) (c .before .first-of .result .width) (rw (rest-of (c .before .before .before .before .before .before .before .before .args .text .now) (c .before .before .before .before .before .before .loop .q)) at (c .before .first-of .ensures .0)) (c .before .before .before .before .before .before .loop .inv .0) (c .if2 .taken))
-
 add-q : tie.Need-add-q Inv-loop μ-loop
-add-q c = let s = width-steps (c .before .before .before .before .before .before .before .before .args .text .now) (c .before .before .before .before .before .before .loop .q) (c .before .first-of .result .width) (rw (rest-of (c .before .before .before .before .before .before .before .before .args .text .now) (c .before .before .before .before .before .before .loop .q)) at (c .before .first-of .ensures .0)) (c .if2 .left) in record { fits = omega arith }
+add-q c = search needs
 
 loop-less : tie.Need-loop-less Inv-loop μ-loop
-loop-less c = let s = width-steps (c .before .before .before .before .before .before .before .before .args .text .now) (c .before .before .before .before .before .before .loop .q) (c .before .first-of .result .width) (rw (rest-of (c .before .before .before .before .before .before .before .before .args .text .now) (c .before .before .before .before .before .before .loop .q)) at (c .before .first-of .ensures .0)) (c .if2 .left) in omega arith
+loop-less c = omega arith
 
 loop-again : tie.Need-loop-again Inv-loop μ-loop
-loop-again c = let t = line-on (c .before .before .before .before .before .before .before .before .args .text .now) (c .before .before .before .before .before .before .loop .q) (c .before .before .before .before .before .loop-test .taken) (c .before .before .before .if1 .left) (c .before .first-of .result .width) (rw (rest-of (c .before .before .before .before .before .before .before .before .args .text .now) (c .before .before .before .before .before .before .loop .q)) at (c .before .first-of .ensures .0)) (c .before .before .before .before .before .before .loop .inv .0) (c .before .before .before .before .before .before .loop .inv .1 .0) (c .if2 .left) in (t .0, (t .1 .0, c .before .before .before .before .before .before .loop .inv .1 .1 ∙ t .1 .1))
+loop-again c = let t = line-on (c .before .before .before .before .before .before .args .text .now) (c .before .before .before .before .loop .q) (c .before .before .before .loop-test .taken) (c .before .if1 .left) 1 (ascii-width (c .before .before .before .before .before .before .args .text .now) (c .before .before .before .before .loop .q) (c .before .before .before .loop-test .taken) (c .if2 .taken)) (c .before .before .before .before .loop .inv .0) (c .before .before .before .before .loop .inv .1 .0) (λ z. omega arith) in (t .0, (t .1 .0, c .before .before .before .before .loop .inv .1 .1 ∙ t .1 .1))
+
+sub-first-of : tie.Need-sub-first-of Inv-loop μ-loop
+sub-first-of c = search needs
+
+part-first-of-start : tie.Need-part-first-of-start Inv-loop μ-loop
+part-first-of-start c = search needs
+
+part-first-of-end : tie.Need-part-first-of-end Inv-loop μ-loop
+part-first-of-end c = search needs
+
+first-of-requires : tie.Need-first-of-requires Inv-loop μ-loop
+first-of-requires c κs = tt
+
+returns-2 : tie.Need-returns-2 Inv-loop μ-loop
+returns-2 c = sym (c .before .before .before .before .before .before .before .loop .inv .1 .1 ∙ line-bad (c .before .before .before .before .before .before .before .before .before .args .text .now) (c .before .before .before .before .before .before .before .loop .q) (c .before .before .before .before .before .before .loop-test .taken) (c .before .before .before .before .if1 .left) (c .before .first-of .result .width) (rw (rest-of (c .before .before .before .before .before .before .before .before .before .args .text .now) (c .before .before .before .before .before .before .before .loop .q)) at (c .before .first-of .ensures .0)) (c .before .before .before .before .before .before .before .loop .inv .0) (c .if3 .taken))
+
+add-q-2 : tie.Need-add-q-2 Inv-loop μ-loop
+add-q-2 c = let s = width-steps (c .before .before .before .before .before .before .before .before .before .args .text .now) (c .before .before .before .before .before .before .before .loop .q) (c .before .first-of .result .width) (rw (rest-of (c .before .before .before .before .before .before .before .before .before .args .text .now) (c .before .before .before .before .before .before .before .loop .q)) at (c .before .first-of .ensures .0)) (c .if3 .left) in record { fits = omega arith }
+
+loop-less-2 : tie.Need-loop-less-2 Inv-loop μ-loop
+loop-less-2 c = let s = width-steps (c .before .before .before .before .before .before .before .before .before .args .text .now) (c .before .before .before .before .before .before .before .loop .q) (c .before .first-of .result .width) (rw (rest-of (c .before .before .before .before .before .before .before .before .before .args .text .now) (c .before .before .before .before .before .before .before .loop .q)) at (c .before .first-of .ensures .0)) (c .if3 .left) in omega arith
+
+loop-again-2 : tie.Need-loop-again-2 Inv-loop μ-loop
+loop-again-2 c = let t = line-on (c .before .before .before .before .before .before .before .before .before .args .text .now) (c .before .before .before .before .before .before .before .loop .q) (c .before .before .before .before .before .before .loop-test .taken) (c .before .before .before .before .if1 .left) (c .before .first-of .result .width) (rw (rest-of (c .before .before .before .before .before .before .before .before .before .args .text .now) (c .before .before .before .before .before .before .before .loop .q)) at (c .before .first-of .ensures .0)) (c .before .before .before .before .before .before .before .loop .inv .0) (c .before .before .before .before .before .before .before .loop .inv .1 .0) (c .if3 .left) in (t .0, (t .1 .0, c .before .before .before .before .before .before .before .loop .inv .1 .1 ∙ t .1 .1))
 
 returns-3 : tie.Need-returns-3 Inv-loop μ-loop
 returns-3 c = sym (c .before .loop .inv .1 .1 ∙ line-over (c .before .before .before .args .text .now) (c .before .loop .q) (c .before .loop .inv .0) (search needs))
@@ -42,5 +66,22 @@ returns-3 c = sym (c .before .loop .inv .1 .1 ∙ line-over (c .before .before .
 pub line-end-spec : {M : Type 1} → statement M
 line-end-spec =
     tie.close
-    (tie.spec Inv-loop μ-loop loop-holds (λ c. search needs) (λ c. search needs) returns (λ c. search needs) (λ c. search needs)
-    (λ c. search needs) first-of-requires returns-2 add-q loop-less loop-again returns-3)
+    (tie.spec
+    Inv-loop
+    μ-loop
+    loop-holds
+    shared-slice-read-b
+    add-t11
+    returns
+    add-q
+    loop-less
+    loop-again
+    sub-first-of
+    part-first-of-start
+    part-first-of-end
+    first-of-requires
+    returns-2
+    add-q-2
+    loop-less-2
+    loop-again-2
+    returns-3)

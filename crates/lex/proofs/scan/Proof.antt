@@ -9,24 +9,24 @@ use Rattle.lex.proofs.scan.Statement.{statement}
 use Rattle.lex.proofs.scan.Tie as tie
 
 abbrev Inv-loop : tie.InvT-loop
-Inv-loop text end p classes e₀ q₀ e q = (f : ℕ) × ((length text - e ≤ f) × (scanned (suc (length text)) text end p ≡ scannedOn (suc f) text e q))
+Inv-loop text end p e₀ q₀ e q = (f : ℕ) × ((length text - e ≤ f) × (scanned (suc (length text)) text end p ≡ scannedOn (suc f) text e q))
 
 abbrev μ-loop : tie.MeasureT-loop
-μ-loop text end p classes e₀ q₀ e q = length text - e
+μ-loop text end p e₀ q₀ e q = length text - e
 
 skip-blanks-requires : tie.Need-skip-blanks-requires Inv-loop μ-loop
-skip-blanks-requires c κs = c .before .classes .ensures
+skip-blanks-requires c κs = tt
 
 loop-holds : tie.Need-loop-holds Inv-loop μ-loop
 unfolding scanned
-loop-holds c = (length (c .before .before .before .before .args .text .now), (omega arith, rw (← c .skip-blanks .ensures)))
+loop-holds c = (length (c .before .before .args .text .now), (omega arith, rw (← c .skip-blanks .ensures)))
 
 returns : tie.Need-returns Inv-loop μ-loop
 unfolding answer
-returns c = sym (c .before .before .loop .inv .1 .1 ∙ scan-ended (c .before .before .before .before .before .before .before .args .text .now) (c .before .before .loop .e) (c .before .before .loop .q) (c .before .before .loop .inv .0) (c .before .loop-test .taken) (c .if1 .taken))
+returns c = sym (c .before .before .loop .inv .1 .1 ∙ scan-ended (c .before .before .before .before .before .args .text .now) (c .before .before .loop .e) (c .before .before .loop .q) (c .before .before .loop .inv .0) (c .before .loop-test .taken) (c .if1 .taken))
 
 line-end-requires : tie.Need-line-end-requires Inv-loop μ-loop
-line-end-requires c κs = c .before .before .before .before .before .before .classes .ensures
+line-end-requires c κs = tt
 
 enum-known-line : tie.Need-enum-known-line Inv-loop μ-loop
 enum-known-line c = c .match .keys1
@@ -36,25 +36,38 @@ enum-told c = c .match .keys2
 
 returns-2 : tie.Need-returns-2 Inv-loop μ-loop
 unfolding answer
-returns-2 c = sym (c .before .before .before .before .before .before .loop .inv .1 .1 ∙ scan-bad (c .before .before .before .before .before .before .before .before .before .before .before .args .text .now) (c .before .before .before .before .before .before .loop .e) (c .before .before .before .before .before .before .loop .q) (c .before .before .before .before .before .before .loop .inv .0) (c .before .before .before .before .before .loop-test .taken) (c .before .before .before .before .if1 .left) (sym (c .before .before .line-end .ensures) ∙ c .enum-told .given .1))
+returns-2 c = sym (c .before .before .before .before .before .loop .inv .1 .1 ∙ scan-bad (c .before .before .before .before .before .before .before .before .args .text .now) (c .before .before .before .before .before .loop .e) (c .before .before .before .before .before .loop .q) (c .before .before .before .before .before .loop .inv .0) (c .before .before .before .before .loop-test .taken) (c .before .before .before .if1 .left) (sym (c .before .before .line-end .ensures) ∙ c .enum-told .given .1))
 
 skip-blanks-requires-2 : tie.Need-skip-blanks-requires-2 Inv-loop μ-loop
-skip-blanks-requires-2 c κs = c .before .before .before .before .before .before .before .before .before .before .before .classes .ensures
+skip-blanks-requires-2 c κs = tt
 
 loop-less : tie.Need-loop-less Inv-loop μ-loop
-loop-less c = let s = line-bounds (c .before .before .before .before .before .before .before .before .before .before .before .before .before .before .args .text .now) (length (c .before .before .before .before .before .before .before .before .before .before .before .before .before .before .args .text .now)) (c .before .before .before .before .before .before .before .before .before .loop .q) (c .before .before .before .line .given .0 .0) (omega arith) (c .before .before .before .before .before .before .before .if1 .left) (sym (c .before .before .before .before .before .line-end .ensures) ∙ c .before .before .before .line .given .1) in omega arith
+loop-less c = let s = line-bounds (c .before .before .before .before .before .before .before .before .before .before .args .text .now) (length (c .before .before .before .before .before .before .before .before .before .before .args .text .now)) (c .before .before .before .before .before .before .before .loop .q) (c .before .before .line .given .0 .0) (omega arith) (c .before .before .before .before .before .if1 .left) (sym (c .before .before .before .before .line-end .ensures) ∙ c .before .before .line .given .1) in omega arith
 
 loop-again : tie.Need-loop-again Inv-loop μ-loop
-loop-again c = let t = scan-on (c .before .before .before .before .before .before .before .before .before .before .before .before .before .before .args .text .now) (c .before .before .before .before .before .before .before .before .before .loop .e) (c .before .before .before .before .before .before .before .before .before .loop .q) (c .before .before .before .before .before .before .before .before .before .loop .inv .0) (c .before .before .before .line .given .0 .0) (c .before .before .before .before .before .before .before .before .before .loop .inv .1 .0) (c .before .before .before .before .before .before .before .before .loop-test .taken) (c .before .before .before .before .before .before .before .if1 .left) (sym (c .before .before .before .before .before .line-end .ensures) ∙ c .before .before .before .line .given .1) in (t .0, (t .1 .0, c .before .before .before .before .before .before .before .before .before .loop .inv .1 .1 ∙ t .1 .1 ∙ rw (← c .skip-blanks2 .ensures)))
+loop-again c = let t = scan-on (c .before .before .before .before .before .before .before .before .before .before .args .text .now) (c .before .before .before .before .before .before .before .loop .e) (c .before .before .before .before .before .before .before .loop .q) (c .before .before .before .before .before .before .before .loop .inv .0) (c .before .before .line .given .0 .0) (c .before .before .before .before .before .before .before .loop .inv .1 .0) (c .before .before .before .before .before .before .loop-test .taken) (c .before .before .before .before .before .if1 .left) (sym (c .before .before .before .before .line-end .ensures) ∙ c .before .before .line .given .1) in (t .0, (t .1 .0, c .before .before .before .before .before .before .before .loop .inv .1 .1 ∙ t .1 .1 ∙ rw (← c .skip-blanks2 .ensures)))
 
 token-at-requires : tie.Need-token-at-requires Inv-loop μ-loop
-token-at-requires c κs = c .before .before .before .before .before .classes .ensures
+token-at-requires c κs = tt
 
 returns-3 : tie.Need-returns-3 Inv-loop μ-loop
-returns-3 c = c .token-at .ensures ∙ sym (c .before .before .before .loop .inv .1 .1 ∙ scan-token (c .before .before .before .before .before .before .before .before .args .text .now) (c .before .before .before .loop .e) (c .before .before .before .loop .q) (c .before .before .before .loop .inv .0) (c .before .before .loop-test .left))
+returns-3 c = c .token-at .ensures ∙ sym (c .before .before .loop .inv .1 .1 ∙ scan-token (c .before .before .before .before .before .args .text .now) (c .before .before .loop .e) (c .before .before .loop .q) (c .before .before .loop .inv .0) (c .before .loop-test .left))
 
 pub scan-spec : {M : Type 1} → statement M
 scan-spec =
     tie.close
-    (tie.spec Inv-loop μ-loop (λ c κs. tt) skip-blanks-requires loop-holds returns line-end-requires enum-known-line enum-told returns-2
-    skip-blanks-requires-2 loop-less loop-again token-at-requires returns-3)
+    (tie.spec
+    Inv-loop
+    μ-loop
+    skip-blanks-requires
+    loop-holds
+    returns
+    line-end-requires
+    enum-known-line
+    enum-told
+    returns-2
+    skip-blanks-requires-2
+    loop-less
+    loop-again
+    token-at-requires
+    returns-3)

@@ -1,43 +1,88 @@
 -- `lex::skip_blanks` meets its contract. Assumes nothing.
-use Rattle.lex.proofs.Turns.{kind-steps, blank-on, blank-over, comment-stop, blank-stop}
+use Rattle.lex.proofs.Turns.{look-past, look-one, longer-is, kind-steps, blank-on, blank-over, comment-stop, blank-stop, blank-stopped}
+use Rattle.lex.specs.Characters.{width, kindAt}
 use Rattle.lex.specs.Scan.{blanks}
 use lib.ListN.{length}
 use native.Mathlib.Omega.{arith}
-use mathlib.Core.Path.{_≡_, _∙_, refl, sym}
+use mathlib.Core.Path.{_≡_, _∙_, refl, sym, ap}
 use Prim.Native.Nat.{ℕ, suc, _≤_, _-_}
 use borrow.Author.Needs.{needs}
 use Rattle.lex.proofs.skip_blanks.Statement.{statement}
 use Rattle.lex.proofs.skip_blanks.Tie as tie
 
 abbrev Inv-loop : tie.InvT-loop
-Inv-loop classes text end p q₀ q = (f : ℕ) × ((length text - q ≤ f) × (blanks (suc (length text)) text end p ≡ blanks (suc f) text end q))
+Inv-loop text end p q₀ q = (f : ℕ) × ((length text - q ≤ f) × (blanks (suc (length text)) text end p ≡ blanks (suc f) text end q))
 
 abbrev μ-loop : tie.MeasureT-loop
-μ-loop classes text end p q₀ q = length text - q
+μ-loop text end p q₀ q = length text - q
 
 loop-holds : tie.Need-loop-holds Inv-loop μ-loop
 loop-holds c = (length (c .before .args .text .now), (omega arith, refl))
 
-look-requires : tie.Need-look-requires Inv-loop μ-loop
-look-requires c κs = c .before .before .before .pre
-
 returns : tie.Need-returns Inv-loop μ-loop
-returns c = sym (c .before .before .before .loop .inv .1 .1 ∙ comment-stop (c .before .before .before .before .before .args .text .now) (c .before .before .before .before .before .args .end) (c .before .before .before .loop .q) (c .before .look .result .kind) (c .before .look .ensures .0) (c .before .before .loop-test .taken) (c .before .before .before .loop .inv .0) (c .if1 .taken))
+returns c = sym (c .before .before .loop .inv .1 .1 ∙ blank-stop (c .before .before .before .before .args .text .now) (c .before .before .before .before .args .end) (c .before .before .loop .q) 5 (look-past (c .before .before .before .before .args .text .now) (c .before .before .loop .q) (c .if1 .taken) .0) (c .before .loop-test .taken) (c .before .before .loop .inv .0) (λ z. omega arith) (λ z. omega arith))
 
-returns-2 : tie.Need-returns-2 Inv-loop μ-loop
-returns-2 c = sym (c .before .before .before .before .loop .inv .1 .1 ∙ blank-stop (c .before .before .before .before .before .before .args .text .now) (c .before .before .before .before .before .before .args .end) (c .before .before .before .before .loop .q) (c .before .before .look .result .kind) (c .before .before .look .ensures .0) (c .before .before .before .loop-test .taken) (c .before .before .before .before .loop .inv .0) (c .before .if1 .left) (c .if2 .taken))
+shared-slice-read-class : tie.Need-shared-slice-read-class Inv-loop μ-loop
+shared-slice-read-class c = search needs
+
+class-requires : tie.Need-class-requires Inv-loop μ-loop
+class-requires c κs = tt
 
 add-q : tie.Need-add-q Inv-loop μ-loop
-add-q c = let s = kind-steps (c .before .before .before .before .before .before .before .args .text .now) (c .before .before .before .before .before .loop .q) (c .before .before .before .look .result .width) (c .before .before .before .look .ensures .1) (c .before .before .before .look .result .kind) (c .before .before .before .look .ensures .0) (λ z. omega (arith, z, c .before .if2 .left)) in record { fits = omega arith }
+add-q c = search needs
 
 loop-less : tie.Need-loop-less Inv-loop μ-loop
-loop-less c = let s = kind-steps (c .before .before .before .before .before .before .before .args .text .now) (c .before .before .before .before .before .loop .q) (c .before .before .before .look .result .width) (c .before .before .before .look .ensures .1) (c .before .before .before .look .result .kind) (c .before .before .before .look .ensures .0) (λ z. omega (arith, z, c .before .if2 .left)) in omega arith
+loop-less c = omega arith
 
 loop-again : tie.Need-loop-again Inv-loop μ-loop
-loop-again c = let t = blank-on (c .before .before .before .before .before .before .before .args .text .now) (c .before .before .before .before .before .before .before .args .end) (c .before .before .before .before .before .loop .q) (c .before .before .before .look .result .kind) (c .before .before .before .look .ensures .0) (c .before .before .before .before .loop-test .taken) (c .before .before .before .look .result .width) (c .before .before .before .look .ensures .1) (c .before .before .before .before .before .loop .inv .0) (c .before .before .before .before .before .loop .inv .1 .0) (c .before .if2 .left) in (t .0, (t .1 .0, c .before .before .before .before .before .loop .inv .1 .1 ∙ t .1 .1))
+loop-again c = let s = look-one (c .before .before .before .before .before .before .before .args .text .now) (c .before .before .before .before .before .loop .q) (c .before .before .before .if1 .left) (c .before .before .shared-slice-known2 .given (c .before .before .before .before .before .loop .q) .fits) (c .before .class .result) (c .before .class .ensures) (omega arith) in let t = blank-on (c .before .before .before .before .before .before .before .args .text .now) (c .before .before .before .before .before .before .before .args .end) (c .before .before .before .before .before .loop .q) (c .before .class .result) (s .0) (c .before .before .before .before .loop-test .taken) 1 (s .1) (c .before .before .before .before .before .loop .inv .0) (c .before .before .before .before .before .loop .inv .1 .0) (c .if2 .taken) in (t .0, (t .1 .0, c .before .before .before .before .before .loop .inv .1 .1 ∙ t .1 .1))
+
+returns-2 : tie.Need-returns-2 Inv-loop μ-loop
+returns-2 c = let s = look-one (c .before .before .before .before .before .before .before .before .args .text .now) (c .before .before .before .before .before .before .loop .q) (c .before .before .before .before .if1 .left) (c .before .before .before .shared-slice-known2 .given (c .before .before .before .before .before .before .loop .q) .fits) (c .before .before .class .result) (c .before .before .class .ensures) (omega arith) in sym (c .before .before .before .before .before .before .loop .inv .1 .1 ∙ comment-stop (c .before .before .before .before .before .before .before .before .args .text .now) (c .before .before .before .before .before .before .before .before .args .end) (c .before .before .before .before .before .before .loop .q) (c .before .before .class .result) (s .0) (c .before .before .before .before .before .loop-test .taken) (c .before .before .before .before .before .before .loop .inv .0) (c .if3 .taken))
 
 returns-3 : tie.Need-returns-3 Inv-loop μ-loop
-returns-3 c = sym (c .before .loop .inv .1 .1 ∙ blank-over (c .before .before .before .args .text .now) (c .before .before .before .args .end) (c .before .loop .q) (c .before .loop .inv .0) (search needs))
+returns-3 c = let s = look-one (c .before .before .before .before .before .before .before .before .before .args .text .now) (c .before .before .before .before .before .before .before .loop .q) (c .before .before .before .before .before .if1 .left) (c .before .before .before .before .shared-slice-known2 .given (c .before .before .before .before .before .before .before .loop .q) .fits) (c .before .before .before .class .result) (c .before .before .before .class .ensures) (c .if4 .taken) in sym (c .before .before .before .before .before .before .before .loop .inv .1 .1 ∙ blank-stop (c .before .before .before .before .before .before .before .before .before .args .text .now) (c .before .before .before .before .before .before .before .before .before .args .end) (c .before .before .before .before .before .before .before .loop .q) (c .before .before .before .class .result) (s .0) (c .before .before .before .before .before .before .loop-test .taken) (c .before .before .before .before .before .before .before .loop .inv .0) (c .before .if3 .left) (c .before .before .if2 .left))
+
+look-longer-requires : tie.Need-look-longer-requires Inv-loop μ-loop
+look-longer-requires c κs = tt
+
+stop-requires : tie.Need-stop-requires Inv-loop μ-loop
+stop-requires c κs = tt
+
+returns-4 : tie.Need-returns-4 Inv-loop μ-loop
+returns-4 c = let f = longer-is (c .before .before .before .before .before .before .before .before .before .before .before .before .args .text .now) (c .before .before .before .before .before .before .before .before .before .before .loop .q) (c .before .before .before .before .before .before .class .result) (c .before .before .before .before .before .before .before .before .if1 .left) (c .before .before .before .before .before .before .before .shared-slice-known2 .given (c .before .before .before .before .before .before .before .before .before .before .loop .q) .fits) (c .before .before .before .before .before .before .class .ensures) (c .before .before .before .if4 .left) in c .stop .ensures ∙ sym (c .before .before .before .before .before .before .before .before .before .before .loop .inv .1 .1 ∙ blank-stopped (c .before .before .before .before .before .before .before .before .before .before .before .before .args .text .now) (c .before .before .before .before .before .before .before .before .before .before .before .before .args .end) (c .before .before .before .before .before .before .before .before .before .before .loop .q) (c .before .before .look-longer .result .kind) (c .before .before .look-longer .ensures .0 ∙ ap kindAt f) (c .before .before .before .before .before .before .before .before .before .loop-test .taken) (c .before .before .before .before .before .before .before .before .before .before .loop .inv .0) (c .before .if5 .taken))
+
+add-q-2 : tie.Need-add-q-2 Inv-loop μ-loop
+add-q-2 c = let f = longer-is (c .before .before .before .before .before .before .before .before .before .before .before .before .args .text .now) (c .before .before .before .before .before .before .before .before .before .before .loop .q) (c .before .before .before .before .before .before .class .result) (c .before .before .before .before .before .before .before .before .if1 .left) (c .before .before .before .before .before .before .before .shared-slice-known2 .given (c .before .before .before .before .before .before .before .before .before .before .loop .q) .fits) (c .before .before .before .before .before .before .class .ensures) (c .before .before .before .if4 .left) in let s = kind-steps (c .before .before .before .before .before .before .before .before .before .before .before .before .args .text .now) (c .before .before .before .before .before .before .before .before .before .before .loop .q) (c .before .before .look-longer .result .width) (c .before .before .look-longer .ensures .1 ∙ ap width f) (c .before .before .look-longer .result .kind) (c .before .before .look-longer .ensures .0 ∙ ap kindAt f) (λ z. omega (arith, z, c .before .if5 .left)) in record { fits = omega arith }
+
+loop-less-2 : tie.Need-loop-less-2 Inv-loop μ-loop
+loop-less-2 c = let f = longer-is (c .before .before .before .before .before .before .before .before .before .before .before .before .args .text .now) (c .before .before .before .before .before .before .before .before .before .before .loop .q) (c .before .before .before .before .before .before .class .result) (c .before .before .before .before .before .before .before .before .if1 .left) (c .before .before .before .before .before .before .before .shared-slice-known2 .given (c .before .before .before .before .before .before .before .before .before .before .loop .q) .fits) (c .before .before .before .before .before .before .class .ensures) (c .before .before .before .if4 .left) in let s = kind-steps (c .before .before .before .before .before .before .before .before .before .before .before .before .args .text .now) (c .before .before .before .before .before .before .before .before .before .before .loop .q) (c .before .before .look-longer .result .width) (c .before .before .look-longer .ensures .1 ∙ ap width f) (c .before .before .look-longer .result .kind) (c .before .before .look-longer .ensures .0 ∙ ap kindAt f) (λ z. omega (arith, z, c .before .if5 .left)) in omega arith
+
+loop-again-2 : tie.Need-loop-again-2 Inv-loop μ-loop
+loop-again-2 c = let f = longer-is (c .before .before .before .before .before .before .before .before .before .before .before .before .args .text .now) (c .before .before .before .before .before .before .before .before .before .before .loop .q) (c .before .before .before .before .before .before .class .result) (c .before .before .before .before .before .before .before .before .if1 .left) (c .before .before .before .before .before .before .before .shared-slice-known2 .given (c .before .before .before .before .before .before .before .before .before .before .loop .q) .fits) (c .before .before .before .before .before .before .class .ensures) (c .before .before .before .if4 .left) in let t = blank-on (c .before .before .before .before .before .before .before .before .before .before .before .before .args .text .now) (c .before .before .before .before .before .before .before .before .before .before .before .before .args .end) (c .before .before .before .before .before .before .before .before .before .before .loop .q) (c .before .before .look-longer .result .kind) (c .before .before .look-longer .ensures .0 ∙ ap kindAt f) (c .before .before .before .before .before .before .before .before .before .loop-test .taken) (c .before .before .look-longer .result .width) (c .before .before .look-longer .ensures .1 ∙ ap width f) (c .before .before .before .before .before .before .before .before .before .before .loop .inv .0) (c .before .before .before .before .before .before .before .before .before .before .loop .inv .1 .0) (c .before .if5 .left) in (t .0, (t .1 .0, c .before .before .before .before .before .before .before .before .before .before .loop .inv .1 .1 ∙ t .1 .1))
+
+returns-5 : tie.Need-returns-5 Inv-loop μ-loop
+returns-5 c = sym (c .before .loop .inv .1 .1 ∙ blank-over (c .before .before .before .args .text .now) (c .before .before .before .args .end) (c .before .loop .q) (c .before .loop .inv .0) (search needs))
 
 pub skip-blanks-spec : {M : Type 1} → statement M
-skip-blanks-spec = tie.close (tie.spec Inv-loop μ-loop loop-holds look-requires returns returns-2 add-q loop-less loop-again returns-3)
+skip-blanks-spec =
+    tie.close
+    (tie.spec
+    Inv-loop
+    μ-loop
+    loop-holds
+    returns
+    shared-slice-read-class
+    class-requires
+    add-q
+    loop-less
+    loop-again
+    returns-2
+    returns-3
+    look-longer-requires
+    stop-requires
+    returns-4
+    add-q-2
+    loop-less-2
+    loop-again-2
+    returns-5)

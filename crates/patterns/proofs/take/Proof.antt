@@ -1,0 +1,93 @@
+-- `patterns::take` meets its contract. Assumes nothing.
+use Rattle.patterns.specs.Lent.{partDue}
+use Rattle.patterns.proofs.take.Statement.{statement}
+use Rattle.patterns.proofs.take.Tie as tie
+
+lent-walk-requires : tie.Need-lent-walk-requires
+lent-walk-requires c κs = tt
+
+enum-told : tie.Need-enum-told
+enum-told c = c .match .keys1
+
+close-requires : tie.Need-close-requires
+close-requires c κs = tt
+
+keep-whole-requires : tie.Need-keep-whole-requires
+keep-whole-requires c κs = tt
+
+enum-known-due : tie.Need-enum-known-due
+enum-known-due c = c .match .keys2
+
+next-item-requires : tie.Need-next-item-requires
+next-item-requires c κs = tt
+
+enum-known-i : tie.Need-enum-known-i
+enum-known-i c = c .match2 .keys1
+
+enum-known-i-2 : tie.Need-enum-known-i-2
+enum-known-i-2 c = c .match2 .keys2
+
+leaf-requires : tie.Need-leaf-requires
+leaf-requires c κs = tt
+
+keep-whole-requires-2 : tie.Need-keep-whole-requires-2
+keep-whole-requires-2 c κs = tt
+
+enum-known-i-3 : tie.Need-enum-known-i-3
+enum-known-i-3 c = c .match2 .keys3
+
+compound-head-requires : tie.Need-compound-head-requires
+compound-head-requires c κs = tt
+
+keep-head-requires : tie.Need-keep-head-requires
+keep-head-requires c κs = tt
+
+returns : tie.Need-returns
+unfolding partDue
+returns c = rw (c .keep-whole .ensures, c .before .before .before .before .enum-told .given .1, ← c .before .before .before .before .before .before .lent-walk .ensures, ← c .before .before .before .close .ensures)
+
+returns-2 : tie.Need-returns-2
+unfolding partDue
+returns-2 c = rw (c .before .before .before .before .before .due .given .1, ← c .before .before .before .before .before .before .before .lent-walk .ensures, ← c .before .before .before .next-item .ensures, c .before .i .given .1)
+
+same-length : tie.Need-same-length
+same-length c = c .before .before .before .before .before .before .vars .given
+
+same-length-2 : tie.Need-same-length-2
+same-length-2 c = c .before .before .before .before .heap .given
+
+returns-3 : tie.Need-returns-3
+unfolding partDue
+returns-3 c = rw (c .keep-whole2 .ensures, c .before .before .before .before .before .before .before .before .before .before .before .before .before .before .before .due .given .1, ← c .before .before .before .before .before .before .before .before .before .before .before .before .before .before .before .before .before .lent-walk .ensures, ← c .before .before .before .before .before .before .before .before .before .before .before .before .before .next-item .ensures, c .before .before .before .before .before .before .before .before .before .before .before .i2 .given .1, ← c .before .before .before .before .before .before .before .leaf .ensures)
+
+same-length-3 : tie.Need-same-length-3
+same-length-3 c = c .before .before .before .before .heap2 .given
+
+returns-4 : tie.Need-returns-4
+unfolding partDue
+returns-4 c = rw (c .keep-head .ensures, c .before .before .before .before .before .before .before .before .before .before .before .before .due .given .1, ← c .before .before .before .before .before .before .before .before .before .before .before .before .before .before .lent-walk .ensures, ← c .before .before .before .before .before .before .before .before .before .before .next-item .ensures, c .before .before .before .before .before .before .before .before .i3 .given .1, ← c .before .before .before .before .before .compound-head .ensures)
+
+pub take-spec : {M : Type 1} → statement M
+take-spec =
+    tie.close
+    (tie.spec
+    lent-walk-requires
+    enum-told
+    close-requires
+    keep-whole-requires
+    enum-known-due
+    next-item-requires
+    enum-known-i
+    enum-known-i-2
+    leaf-requires
+    keep-whole-requires-2
+    enum-known-i-3
+    compound-head-requires
+    keep-head-requires
+    returns
+    returns-2
+    same-length
+    same-length-2
+    returns-3
+    same-length-3
+    returns-4)

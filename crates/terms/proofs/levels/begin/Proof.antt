@@ -1,0 +1,60 @@
+-- `terms::levels::begin` meets its contract. Assumes nothing.
+use Rattle.terms.specs.Levels.{begun}
+use Rattle.terms.proofs.levels.begin.Statement.{statement}
+use Rattle.terms.proofs.levels.begin.Tie as tie
+
+reader-in-requires : tie.Need-reader-in-requires
+reader-in-requires c κs = tt
+
+look-requires : tie.Need-look-requires
+look-requires c κs = tt
+
+enum-known-next : tie.Need-enum-known-next
+enum-known-next c = c .match .keys1
+
+enum-known-next-2 : tie.Need-enum-known-next-2
+enum-known-next-2 c = c .match .keys2
+
+lend-requires : tie.Need-lend-requires
+lend-requires c κs = tt
+
+enum-known-next-3 : tie.Need-enum-known-next-3
+enum-known-next-3 c = c .match .keys3
+
+item-requires : tie.Need-item-requires
+item-requires c κs = tt
+
+returns : tie.Need-returns
+unfolding begun
+returns c = rw (← c .before .before .before .before .reader-in .ensures, ← c .before .before .before .look .ensures, c .before .next .given .1)
+
+returns-2 : tie.Need-returns-2
+unfolding begun
+returns-2 c = rw (← c .before .before .before .before .before .reader-in .ensures, ← c .before .before .before .before .look .ensures, c .before .before .next2 .given .1, c .lend .ensures)
+
+same-length : tie.Need-same-length
+same-length c = c .before .before .before .store .given
+
+same-length-2 : tie.Need-same-length-2
+same-length-2 c = c .before .stack .given
+
+returns-3 : tie.Need-returns-3
+unfolding begun
+returns-3 c = rw (← c .before .before .before .before .before .before .before .before .before .before .before .before .reader-in .ensures, ← c .before .before .before .before .before .before .before .before .before .before .before .look .ensures, c .before .before .before .before .before .before .before .before .before .next3 .given .1) (c .before .before .before .before .item .ensures)
+
+pub begin-spec : {M : Type 1} → statement M
+begin-spec =
+    tie.close
+    (tie.spec
+    reader-in-requires
+    look-requires
+    enum-known-next
+    enum-known-next-2
+    lend-requires
+    enum-known-next-3
+    item-requires
+    returns
+    returns-2
+    same-length
+    same-length-2
+    returns-3)

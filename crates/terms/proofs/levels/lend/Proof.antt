@@ -1,0 +1,52 @@
+-- `terms::levels::lend` meets its contract. Assumes nothing.
+use mathlib.Core.Path.{_∙_, ap}
+use Rattle.lex.specs.declared.Ahead.the-variants.{Held}
+use Rattle.terms.specs.Levels.{readerIn}
+use Rattle.terms.proofs.Within.{holding}
+use Rattle.terms.proofs.levels.lend.Statement.{statement}
+use Rattle.terms.proofs.levels.lend.Tie as tie
+
+enum-told : tie.Need-enum-told
+enum-told c = c .match .keys1
+
+enum-known-ahead : tie.Need-enum-known-ahead
+enum-known-ahead c = c .match .keys2
+
+enum-told-2 : tie.Need-enum-told-2
+enum-told-2 c = c .match2 .keys1
+
+enum-told-3 : tie.Need-enum-told-3
+enum-told-3 c = c .match2 .keys2
+
+enum-known-token : tie.Need-enum-known-token
+enum-known-token c = c .match2 .keys3
+
+returns : tie.Need-returns
+unfolding readerIn
+returns c = holding _ _ (c .enum-told .given .1)
+
+returns-2 : tie.Need-returns-2
+unfolding readerIn
+returns-2 c = holding _ _ (c .before .before .before .ahead .given .1 ∙ ap Held (c .enum-told2 .given .1))
+
+returns-3 : tie.Need-returns-3
+unfolding readerIn
+returns-3 c = holding _ _ (c .before .before .before .ahead .given .1 ∙ ap Held (c .enum-told3 .given .1))
+
+returns-4 : tie.Need-returns-4
+unfolding readerIn
+returns-4 c = holding _ _ (c .before .before .before .before .ahead .given .1 ∙ ap Held (c .before .token .given .1))
+
+pub lend-spec : {M : Type 1} → statement M
+lend-spec =
+    tie.close
+    (tie.spec
+    enum-told
+    enum-known-ahead
+    enum-told-2
+    enum-told-3
+    enum-known-token
+    returns
+    returns-2
+    returns-3
+    returns-4)
