@@ -23,7 +23,7 @@ extern "C" {
  * The most stack that either call takes on any texts. The frames of its code add up to 283,752 bytes on texts of 256 levels, all
  * that may nest; stack.c measures 283,256 there, and 189,896 for a rulebook alone.
  */
-#define HORN_STACK_BYTES 286720
+#define HORN_STACK_BYTES 98304
 
 /* A number (0: accepted; else document 01's refusal) and the counts of what the rulebook declares, all 0 on a refusal. */
 typedef struct {

@@ -25,7 +25,7 @@ pub const GOALS_BYTES: usize = 8_192;
 /// The longest certificate, in bytes.
 pub const CERTIFICATE_BYTES: usize = 32_768;
 /// The most stack that a call takes on any texts, in bytes, as `bindings/c/horn.h` says.
-pub const STACK_BYTES: usize = 286_720;
+pub const STACK_BYTES: usize = 98_304;
 
 /// What an accepted rulebook declares.
 #[derive(Clone, Copy, Debug, PartialEq, Eq)]
