@@ -20,8 +20,8 @@ extern "C" {
 #define HORN_GOALS_BYTES 8192
 #define HORN_CERTIFICATE_BYTES 32768
 /*
- * The most stack that either call takes on any texts. The frames of its code add up to 283,752 bytes on texts of 256 levels, all
- * that may nest; stack.c measures 283,256 there, and 189,896 for a rulebook alone.
+ * The most stack that either call takes on any texts: stack.c measures 79,960 bytes on texts of 256 levels, all that may nest, and
+ * 55,576 for a rulebook alone.
  */
 #define HORN_STACK_BYTES 98304
 

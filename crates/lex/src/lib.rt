@@ -6,6 +6,7 @@ ghost use Rattle.lex.specs.Scan.{stopped, blanks, atomEnd, lineEnd};
 ghost use Rattle.lex.specs.Answers.{answer, tokenAt, scanned, peeked, taken, start};
 
 mod classes;
+pub mod lent;
 mod utf8;
 
 // "A token is an opening, a closing or an atom with its bounds."

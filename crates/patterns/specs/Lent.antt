@@ -1,13 +1,10 @@
 -- The walk in two arrays that all levels of a term are lent, and what one function takes of the text there.
 use Prim.Native.Nat.{ℕ}
 use mathlib.Core.List.{List}
-use lib.Dec.{eqb}
 use lib.ListN.{getD}
-use Rattle.outcomes.specs.Outcomes.{Outcome, ok, refused, pick}
+use Rattle.outcomes.specs.Outcomes.{Outcome, ok, refused}
 use Rattle.outcomes.specs.Leaving.{Did, _leaving_, _>>=_, beside}
-use Rattle.lex.specs.declared.Token.the-variants.{Opening, Closing, Atom}
-use Rattle.lex.specs.declared.Ahead.{Ahead}
-use Rattle.lex.specs.declared.Ahead.the-variants.{Nothing, Held}
+use Rattle.lex.specs.Lent.{readerIn}
 use Rattle.items.specs.Items.{Met, atom, list, itemDue, closingDue}
 use Rattle.items.specs.declared.Walk.{Walk}
 use Rattle.leaves.specs.Leaves.{Areas, leaf, compoundHead}
@@ -18,23 +15,11 @@ use Rattle.patterns.specs.declared.Taken.the-variants as takes
 use Rattle.patterns.specs.declared.Done.{Done}
 use Rattle.patterns.specs.declared.Done.the-variants as dones
 
--- The token held ahead, by its kind: none, an opening, a closing, or an atom with its bounds.
-unfoldable pub aheadOf : ℕ → ℕ → ℕ → Ahead
-aheadOf kind s t =
-    pick (eqb kind 1)
-    (λ _. Held Opening)
-    (λ _. pick (eqb kind 2)
-    (λ _. Held Closing)
-    (λ _. pick (eqb kind 3)
-    (λ _. Held (Atom s t))
-    (λ _. Nothing)))
-
--- Where the walk stands: the reader's place, the end of what it tested and an atom's bounds; lists opened, words of the theory taken,
--- the rule's variables and the kind of the token held ahead.
+-- Where the walk stands: the reader as words; lists opened, words of the theory taken and the rule's variables.
 unfoldable pub lentWalk : List ℕ → List ℕ → Walk
 lentWalk place tally =
     record {
-      reader = record { at = getD place 0 0; end = getD place 1 0; ahead = aheadOf (getD tally 3 0) (getD place 2 0) (getD place 3 0) };
+      reader = readerIn place;
       opened = getD tally 0 0;
       top = getD tally 1 0;
       variables = getD tally 2 0;

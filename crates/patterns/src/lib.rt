@@ -1,15 +1,14 @@
 // The second walk over a rulebook: terms and judgments become flat words. It sees only texts that the first walk read whole, so that its
 // refusals 3 to 6 and 10 never come; they are answered all the same.
 //
-// A level of a term takes little stack: where the walk stands is in two arrays that all levels are lent (`place` has the reader's numbers
-// and the bounds of an atom held ahead, `tally` the walk's counts and the kind of the token held), and what reads the text is in `take`,
-// which returns before the next level begins.
+// A level of a term takes little stack: where the walk stands is in two arrays that all levels are lent (`place` is the reader as words,
+// `tally` the walk's counts), and what reads the text is in `take`, which returns before the next level begins.
 ghost use mathlib.Core.Path.{_≡_};
 ghost use mathlib.Core.List.{List};
 ghost use Prim.Native.Nat.{ℕ};
 ghost use Rattle.outcomes.specs.Leaving.{_leaving_};
 ghost use Rattle.items.specs.Items.{walked, numbered};
-ghost use Rattle.patterns.specs.Lent.{aheadOf, lentWalk, mapped, Part, whole, head, after, takenPart, done, partDue};
+ghost use Rattle.patterns.specs.Lent.{lentWalk, mapped, Part, whole, head, after, takenPart, done, partDue};
 ghost use Rattle.patterns.specs.Patterns.{pattern, arguments, judgment, judgments};
 use items::Item;
 use items::Named;
@@ -17,9 +16,7 @@ use items::Numbered;
 use items::Walk;
 use items::Walked;
 use items::places;
-use lex::Ahead;
-use lex::Reader;
-use lex::Token;
+use lex::lent;
 
 // What is due: a term of a sort, or the closing of a list.
 enum Due {
@@ -40,67 +37,11 @@ enum Done {
     Refused(u32),
 }
 
-// A token held ahead: its kind (none, an opening, a closing, an atom), and an atom's bounds.
-struct Kept {
-    kind: u32,
-    start: usize,
-    end: usize,
-}
-
-fn held(ahead: Ahead) -> Kept
-    ensures { λ r. ⌜ aheadOf (r .kind) (r .start) (r .end) ≡ ahead ⌝ }
-{
-    match ahead {
-        Ahead::Nothing => Kept {
-            kind: 0,
-            start: 0,
-            end: 0,
-        },
-        Ahead::Held(token) => match token {
-            Token::Opening => Kept {
-                kind: 1,
-                start: 0,
-                end: 0,
-            },
-            Token::Closing => Kept {
-                kind: 2,
-                start: 0,
-                end: 0,
-            },
-            Token::Atom(s, t) => Kept {
-                kind: 3,
-                start: s,
-                end: t,
-            },
-        },
-    }
-}
-
-fn ahead_of(kind: u32, start: usize, end: usize) -> Ahead
-    ensures { λ r. ⌜ r ≡ aheadOf kind start end ⌝ }
-{
-    if kind == 1 {
-        return Ahead::Held(Token::Opening);
-    }
-    if kind == 2 {
-        return Ahead::Held(Token::Closing);
-    }
-    if kind == 3 {
-        return Ahead::Held(Token::Atom(start, end));
-    }
-    Ahead::Nothing
-}
-
 // The walk that the two arrays hold.
-fn lent_walk(place: &[usize; 4], tally: &[u32; 4]) -> Walk
+fn lent_walk(place: &[usize; 5], tally: &[u32; 3]) -> Walk
     ensures { λ r. ⌜ r ≡ lentWalk (now (place .entry)) (now (tally .entry)) ⌝ }
 {
-    let ahead = ahead_of(tally[3], place[2], place[3]);
-    let reader = Reader {
-        at: place[0],
-        end: place[1],
-        ahead,
-    };
+    let reader = lent::reader_in(place);
     Walk {
         reader,
         opened: tally[0],
@@ -109,17 +50,14 @@ fn lent_walk(place: &[usize; 4], tally: &[u32; 4]) -> Walk
     }
 }
 
-fn keep(place: &mut [usize; 4], tally: &mut [u32; 4], w: Walk)
+fn keep(place: &mut [usize; 5], tally: &mut [u32; 3], w: Walk)
     ensures { λ _. ⌜ lentWalk (now (place .exit)) (now (tally .exit)) ≡ w ⌝ }
 {
-    let reader = w.reader;
-    let ahead = reader.ahead;
-    let h = held(ahead);
-    *place = [reader.at, reader.end, h.start, h.end];
-    *tally = [w.opened, w.top, w.variables, h.kind];
+    *place = lent::lend(w.reader);
+    *tally = [w.opened, w.top, w.variables];
 }
 
-fn keep_whole(place: &mut [usize; 4], tally: &mut [u32; 4], w: Walked) -> Taken
+fn keep_whole(place: &mut [usize; 5], tally: &mut [u32; 3], w: Walked) -> Taken
     ensures { λ r. ⌜ takenPart r (now (place .exit)) (now (tally .exit)) ≡ mapped whole (walked w) ⌝ }
 {
     match w {
@@ -131,7 +69,7 @@ fn keep_whole(place: &mut [usize; 4], tally: &mut [u32; 4], w: Walked) -> Taken
     }
 }
 
-fn keep_head(place: &mut [usize; 4], tally: &mut [u32; 4], h: Numbered) -> Taken
+fn keep_head(place: &mut [usize; 5], tally: &mut [u32; 3], h: Numbered) -> Taken
     ensures { λ r. ⌜ takenPart r (now (place .exit)) (now (tally .exit)) ≡ mapped head (numbered h) ⌝ }
 {
     match h {
@@ -150,8 +88,8 @@ fn take(
     counts: &[u32],
     vars: &mut [u32],
     heap: &mut [u32],
-    place: &mut [usize; 4],
-    tally: &mut [u32; 4],
+    place: &mut [usize; 5],
+    tally: &mut [u32; 3],
     due: Due,
 ) -> Taken
     ensures { λ r. ⌜ (takenPart r (now (place .exit)) (now (tally .exit)) leaving (now (vars .exit), now (heap .exit))) ≡ partDue due (now (text .entry)) (now (counts .entry)) (lentWalk (now (place .entry)) (now (tally .entry))) (now (vars .entry)) (now (heap .entry)) ⌝ }
@@ -195,8 +133,8 @@ fn lent_pattern(
     counts: &[u32],
     vars: &mut [u32],
     heap: &mut [u32],
-    place: &mut [usize; 4],
-    tally: &mut [u32; 4],
+    place: &mut [usize; 5],
+    tally: &mut [u32; 3],
     sort: u32,
     left: u32,
 ) -> Done
@@ -219,8 +157,8 @@ fn lent_arguments(
     counts: &[u32],
     vars: &mut [u32],
     heap: &mut [u32],
-    place: &mut [usize; 4],
-    tally: &mut [u32; 4],
+    place: &mut [usize; 5],
+    tally: &mut [u32; 3],
     c: u32,
     left: u32,
 ) -> Done
@@ -252,8 +190,8 @@ pub fn arguments(
 ) -> Walked
     ensures { λ r. ⌜ (walked r leaving (now (vars .exit), now (heap .exit))) ≡ arguments left (now (text .entry)) (now (counts .entry)) c w (now (vars .entry)) (now (heap .entry)) ⌝ }
 {
-    let mut place: [usize; 4] = [0; 4];
-    let mut tally: [u32; 4] = [0; 4];
+    let mut place: [usize; 5] = [0; 5];
+    let mut tally: [u32; 3] = [0; 3];
     keep(&mut place, &mut tally, w);
     let d = lent_arguments(text, counts, vars, heap, &mut place, &mut tally, c, left);
     match d {

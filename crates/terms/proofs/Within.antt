@@ -6,8 +6,6 @@ use mathlib.Core.List.{List}
 use native.Mathlib.Omega.{arith}
 use lib.Dec.{eqb}
 use lib.ListN.{length, set}
-use Rattle.lex.specs.Answers.{after}
-use Rattle.lex.specs.declared.Ahead as lex
 use Rattle.lex.specs.declared.Reader.{Reader}
 use Rattle.outcomes.specs.Outcomes.{Outcome, ok, refused, need}
 use Rattle.outcomes.specs.Leaving.{Did, _leaving_, _>>=_}
@@ -22,10 +20,6 @@ use Rattle.terms.specs.declared.Argument.the-variants.{Term}
 use Rattle.terms.specs.declared.Begun.{Begun}
 use Rattle.terms.specs.declared.Begun.the-variants.{Opened}
 use Rattle.terms.specs.Levels.{given, begins, argues, Start, closed, whole, opened, Next, none, one, lookFor, begunBy, begunAt, argumentAt, begun, argument}
-
--- A reader is where it stands, up to where the text is tested, and what it holds ahead.
-pub holding : (r : Reader) (a : lex.Ahead) → r .ahead ≡ a → after (r .at) (r .end) a ≡ r
-holding r a e = ap (λ (x : lex.Ahead). after (r .at) (r .end) x) (sym e)
 
 -- What follows the arguments of a term in brackets.
 abbrev compounded : List ℕ → ℕ → ℕ → Did Areas (ℕ × Reader) → Did Areas (ℕ × Reader)

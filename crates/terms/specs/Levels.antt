@@ -2,13 +2,8 @@
 use Prim.Native.Nat.{ℕ, _-_}
 use mathlib.Core.Bool.{Bool, true, false}
 use mathlib.Core.List.{List}
-use lib.Dec.{eqb}
-use lib.ListN.{getD}
 use Rattle.lex.specs.declared.Reader.{Reader}
-use Rattle.lex.specs.declared.Ahead.{Ahead}
-use Rattle.lex.specs.declared.Ahead.the-variants as aheads
-use Rattle.lex.specs.declared.Token.the-variants as tokens
-use Rattle.outcomes.specs.Outcomes.{Outcome, ok, refused, pick}
+use Rattle.outcomes.specs.Outcomes.{Outcome, ok, refused}
 use Rattle.outcomes.specs.Leaving.{Did, _leaving_, _>>=_}
 use Rattle.theory_reading.specs.Storing.{Areas}
 use Rattle.asking.specs.Asking as asking
@@ -20,16 +15,6 @@ use Rattle.terms.specs.declared.Begun.{Begun}
 use Rattle.terms.specs.declared.Begun.the-variants as starts
 use Rattle.terms.specs.declared.Argument.{Argument}
 use Rattle.terms.specs.declared.Argument.the-variants as arguing
-
--- What the words of a reader say.
-abbrev pub heldBy : ℕ → ℕ → ℕ → Ahead
-heldBy kind s t =
-    pick (eqb kind 0) (λ _. aheads.Nothing) (λ _.
-    pick (eqb kind 1) (λ _. aheads.Held tokens.Opening) (λ _.
-    pick (eqb kind 2) (λ _. aheads.Held tokens.Closing) (λ _. aheads.Held (tokens.Atom s t))))
-
-unfoldable pub readerIn : List ℕ → Reader
-readerIn lent = record { at = getD lent 0 0; end = getD lent 1 0; ahead = heldBy (getD lent 2 0) (getD lent 3 0) (getD lent 4 0) }
 
 -- A number beside the reader that is lent. A refusal has none.
 abbrev pub given : Number → Reader → Outcome (ℕ × Reader)

@@ -4,73 +4,20 @@
 ghost use mathlib.Core.Path.{_≡_};
 ghost use Prim.Native.Nat.{_+_};
 ghost use lib.ListN.{length};
+ghost use Rattle.lex.specs.Lent.{readerIn};
 ghost use Rattle.asking.specs.Asking as asked;
 ghost use Rattle.asking.specs.Asking.{looked};
 ghost use Rattle.outcomes.specs.Leaving.{_leaving_};
 ghost use Rattle.terms.specs.Terms.{arguments};
-ghost use Rattle.terms.specs.Levels.{given, begins, argues, readerIn, lookFor, begunAt, begun, argument};
+ghost use Rattle.terms.specs.Levels.{given, begins, argues, lookFor, begunAt, begun, argument};
 use crate::Argument;
 use crate::Begun;
 use crate::Number;
 use crate::Numbered;
 use asking::Item;
 use asking::Look;
-use lex::Ahead;
 use lex::Reader;
-use lex::Token;
-
-// A reader as words: where it stands, up to where the text is tested, and what it holds ahead: nothing, an opening, a closing, or an atom
-// with its bounds.
-pub fn lend(reader: Reader) -> [usize; 5]
-    ensures { λ r. ⌜ readerIn r ≡ reader ⌝ }
-{
-    let at = reader.at;
-    let end = reader.end;
-    let ahead = reader.ahead;
-    match ahead {
-        Ahead::Nothing => [at, end, 0, 0, 0],
-        Ahead::Held(token) => match token {
-            Token::Opening => [at, end, 1, 0, 0],
-            Token::Closing => [at, end, 2, 0, 0],
-            Token::Atom(s, t) => [at, end, 3, s, t],
-        },
-    }
-}
-
-pub fn reader_in(r: &[usize; 5]) -> Reader
-    ensures { λ a. ⌜ a ≡ readerIn (now (r .entry)) ⌝ }
-{
-    let at = r[0];
-    let end = r[1];
-    if r[2] == 0 {
-        return Reader {
-            at: at,
-            end: end,
-            ahead: Ahead::Nothing,
-        };
-    }
-    if r[2] == 1 {
-        return Reader {
-            at: at,
-            end: end,
-            ahead: Ahead::Held(Token::Opening),
-        };
-    }
-    if r[2] == 2 {
-        return Reader {
-            at: at,
-            end: end,
-            ahead: Ahead::Held(Token::Closing),
-        };
-    }
-    let s = r[3];
-    let t = r[4];
-    Reader {
-        at: at,
-        end: end,
-        ahead: Ahead::Held(Token::Atom(s, t)),
-    }
-}
+use lex::lent;
 
 // As a member of a list, a closing may be next instead.
 pub fn look(text: &[u8], member: bool, reader: Reader) -> Look
@@ -108,7 +55,7 @@ pub fn item(
             let Numbered::Got(k, o) = a else {
                 return Begun::Refused(crate::numbered_refusal(a));
             };
-            *r = lend(o);
+            *r = lent::lend(o);
             Begun::Whole(k)
         }
         Item::List(p) => {
@@ -116,7 +63,7 @@ pub fn item(
             let Numbered::Got(c, o) = h else {
                 return Begun::Refused(crate::numbered_refusal(h));
             };
-            *r = lend(o);
+            *r = lent::lend(o);
             Begun::Opened(c)
         }
     }
@@ -137,11 +84,11 @@ pub fn begin(
 ) -> Begun
     ensures { λ b. ⌜ (begins b (readerIn (now (r .exit))) leaving (now (store .exit), now (stack .exit))) ≡ begun member left (now (text .entry)) (now (rules .entry)) (now (heap .entry)) (now (table .entry)) top (readerIn (now (r .entry))) (now (store .entry)) (now (stack .entry)) ⌝ }
 {
-    let next = look(text, member, reader_in(r));
+    let next = look(text, member, lent::reader_in(r));
     match next {
         Look::Refused(m) => Begun::Refused(m),
         Look::Closing(q) => {
-            *r = lend(q);
+            *r = lent::lend(q);
             Begun::Closing
         }
         Look::Member(q) => item(text, rules, heap, table, store, stack, r, top, left, q),

@@ -208,7 +208,7 @@ pub fn term(
 ) -> Numbered
     ensures { λ r. ⌜ (numbered r leaving (now (store .exit), now (stack .exit))) ≡ term left (now (text .entry)) (now (rules .entry)) (now (heap .entry)) (now (table .entry)) top reader (now (store .entry)) (now (stack .entry)) ⌝ }
 {
-    let mut lent = levels::lend(reader);
+    let mut lent = lex::lent::lend(reader);
     let b = levels::begin(
         text,
         rules,
@@ -224,10 +224,10 @@ pub fn term(
     match b {
         Begun::Refused(m) => Numbered::Refused(m),
         Begun::Closing => Numbered::Refused(6),
-        Begun::Whole(k) => Numbered::Got(k, levels::reader_in(&lent)),
+        Begun::Whole(k) => Numbered::Got(k, lex::lent::reader_in(&lent)),
         Begun::Opened(c) => {
             let above = words::plus(top, 1);
-            let q = levels::reader_in(&lent);
+            let q = lex::lent::reader_in(&lent);
             let a = args(text, rules, heap, table, store, stack, above, left - 1, q);
             let Numbered::Got(n, p) = a else {
                 return Numbered::Refused(numbered_refusal(a));
@@ -254,7 +254,7 @@ pub fn args(
 ) -> Numbered
     ensures { λ r. ⌜ (numbered r leaving (now (store .exit), now (stack .exit))) ≡ arguments left (now (text .entry)) (now (rules .entry)) (now (heap .entry)) (now (table .entry)) top reader (now (store .entry)) (now (stack .entry)) ⌝ }
 {
-    let mut lent = levels::lend(reader);
+    let mut lent = lex::lent::lend(reader);
     let max = text.len() + 1;
     let a = levels::args(
         text,
@@ -270,7 +270,7 @@ pub fn args(
     );
     match a {
         Number::Refused(m) => Numbered::Refused(m),
-        Number::Is(n) => Numbered::Got(n, levels::reader_in(&lent)),
+        Number::Is(n) => Numbered::Got(n, lex::lent::reader_in(&lent)),
     }
 }
 

@@ -5,7 +5,7 @@ use mathlib.Core.Path.{_≡_, refl, sym, _∙_}
 use lib.ListN.{length}
 use Rattle.terms.specs.Terms as models
 use Rattle.terms.specs.Terms.{argumentsFrom}
-use Rattle.terms.specs.Levels.{readerIn}
+use Rattle.lex.specs.Lent.{readerIn}
 use Rattle.terms.proofs.Within.{argument-begun, opened-within, arguments-then, arguments-on, arguments-none, arguments-bound, made, unmade}
 use borrow.Author.Needs.{needs}
 use Prim.Native.Nat.{ℕ, _<_, _+_, _*_}

@@ -1,10 +1,16 @@
--- `terms::levels::lend` meets its contract. Assumes nothing.
-use mathlib.Core.Path.{_∙_, ap}
+-- `lex::lent::lend` meets its contract. Assumes nothing.
+use mathlib.Core.Path.{_≡_, _∙_, ap, sym}
+use Rattle.lex.specs.Answers.{after}
+use Rattle.lex.specs.Lent.{readerIn}
+use Rattle.lex.specs.declared.Ahead.{Ahead}
 use Rattle.lex.specs.declared.Ahead.the-variants.{Held}
-use Rattle.terms.specs.Levels.{readerIn}
-use Rattle.terms.proofs.Within.{holding}
-use Rattle.terms.proofs.levels.lend.Statement.{statement}
-use Rattle.terms.proofs.levels.lend.Tie as tie
+use Rattle.lex.specs.declared.Reader.{Reader}
+use Rattle.lex.proofs.lent.lend.Statement.{statement}
+use Rattle.lex.proofs.lent.lend.Tie as tie
+
+-- A reader is where it stands, up to where the text is tested, and what it holds ahead.
+holding : (r : Reader) (a : Ahead) → r .ahead ≡ a → after (r .at) (r .end) a ≡ r
+holding r a e = ap (λ (x : Ahead). after (r .at) (r .end) x) (sym e)
 
 enum-told : tie.Need-enum-told
 enum-told c = c .match .keys1

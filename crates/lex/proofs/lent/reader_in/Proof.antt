@@ -1,9 +1,9 @@
--- `terms::levels::reader_in` meets its contract. Assumes nothing.
+-- `lex::lent::reader_in` meets its contract. Assumes nothing.
 use borrow.Author.Tests.{eq-eqb, ne-eqb}
-use Rattle.terms.specs.Levels.{readerIn}
+use Rattle.lex.specs.Lent.{readerIn}
 use borrow.Author.Needs.{needs}
-use Rattle.terms.proofs.levels.reader_in.Statement.{statement}
-use Rattle.terms.proofs.levels.reader_in.Tie as tie
+use Rattle.lex.proofs.lent.reader_in.Statement.{statement}
+use Rattle.lex.proofs.lent.reader_in.Tie as tie
 
 element-copy-out-at : tie.Need-element-copy-out-at
 element-copy-out-at c = search needs
