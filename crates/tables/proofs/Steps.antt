@@ -1,11 +1,11 @@
 -- Steps: what keeps them, and what adding and reading one does. Assumes nothing.
 use mathlib.Core.Path.{_≡_, refl, sym, _∙_}
 use mathlib.Core.List.{List, [], _∷_, _++_}
-use mathlib.Core.Option.{some}
+use mathlib.Core.Option.{none, some}
 use Prim.Native.Nat.{ℕ, zero, suc, _+_, _*_, _-_, _%_, _≤_, _<_}
 use native.Mathlib.Nat.{mod-eq-of-lt, add-zero}
 use native.Mathlib.Omega.{arith}
-use borrow.Author.Tests.{leb-true, leb-false, ltb-true, ltb-false}
+use borrow.Author.Tests.{le-leb, leb-true, leb-false, ltb-true, ltb-false}
 use lib.Dec.{leb, ltb}
 use lib.ListN.{length, getD, set, getElem?, length-set}
 use lib.Seq.{getD-set-same, getD-set-other}
@@ -141,3 +141,8 @@ module _ {table : List ℕ} {Recorded : ℕ → ℕ → ℕ → Step → Type 0}
             let b = below-count (steps ++ (s ∷ [])) n h in
             older .words n t (sym (before-last steps s n (omega arith)) ∙ h));
       }
+
+-- A step that is not there yet has no words.
+pub word-none : (n which : ℕ) (tally : Tally) (table : List ℕ) → tally .steps ≤ n → none ≡ stepWord n which tally table
+unfolding stepWord
+word-none n which tally table h = rw (le-leb (tally .steps) n h, stepWord)

@@ -1,5 +1,5 @@
 -- Addresses of held symbols and the definition's symbols: one for one, whatever the words are. Assumes nothing.
-use mathlib.Core.Path.{_≡_, refl, sym, subst, _∙_}
+use mathlib.Core.Path.{_≡_, refl, ap, ap₂, sym, subst, _∙_}
 use mathlib.Core.Bool.{Bool}
 use mathlib.Core.List.{List, [], _∷_, List·Memᴰ, List·Memᴰ·head, List·Memᴰ·tail}
 use mathlib.Core.Option.{Option, none, some}
@@ -12,7 +12,7 @@ use Rattle.names.proofs.Holds.{by-number}
 use Rattle.names.proofs.Declared.{found-member, stands-distinct, find-agrees}
 use Rattle.theory_laws.specs.Representation.{Entries, tableOf, SymbolAt, symbol-at, Declares, Holds}
 use Rattle.theory_laws.proofs.Readback.{symbols-equal, addresses-equal}
-use Rattle.theory_reading.specs.Addresses.{nameIn, symbolAt, Used, by-constructor, by-predicate}
+use Rattle.theory_reading.specs.Addresses.{nameIn, orNone, eitherAt, symbolAt, Used, by-constructor, by-predicate}
 use borrow.Author.Tests.{eq-eqb, ne-eqb}
 
 module _ (a e : ℕ) (name : Name) (entries : List Entry) where
@@ -69,7 +69,7 @@ module _ {text heap : List ℕ} {es : Entries} {top : ℕ} {th : Theory} (h : Ho
     unfolding symbolAt
     at-predicate n e =
         let s = standing (h .predicates) (name-some a (es .predicates) e) in
-        rw (n, e, s .1) (symbols-equal h (s .2) x)
+        ap₂ (eitherAt th) n e ∙ ap orNone (s .1) ∙ symbols-equal h (s .2) x
 
     nowhere : nameIn a (es .constructors) ≡ none → nameIn a (es .predicates) ≡ none → ⊥
     unfolding tableOf

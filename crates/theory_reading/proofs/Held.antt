@@ -149,14 +149,20 @@ module _ {text heap : List ℕ} {es : Entries} {top : ℕ} {th : Theory} (h : Ho
         both true = refl
         both false = refl
 
+  accepted-by : (head : ℕ → ℕ) (a m n : ℕ) {b : Bool} → arityOf heap a ≡ m → eqb m n ≡ b
+      → accepted head heap a n ≡ outcomes.pick b (λ _. allFit head heap a n 0) (λ _. false)
+  unfolding accepted
+  accepted-by head a m n e f =
+      ap (λ (x : Bool). outcomes.pick x (λ _. allFit head heap a n 0) (λ _. false)) (ap (λ (k : ℕ). eqb k n) e ∙ f)
+
   -- "Arity and sorts", by the heads of the arguments.
   pub accepts-is : {head : ℕ → ℕ} {a : ℕ} {c : Symbol} {ts : Terms} → SymbolAt heap es top a c → Heads heap es top head 0 ts
       → accepted head heap a (width ts) ≡ accepts (inputs c) ts
-  unfolding accepted inputs arityOf
+  unfolding inputs arityOf
   accepts-is {head} {a} {ts} (symbol-at {ins} w) r =
       by-number (length ins) (width ts)
-      (λ e. rw (w .arity, eq-eqb (length ins) (width ts) e) (all-fit a (omega arith) e (w .takes) r))
-      (λ n. rw (w .arity, ne-eqb (length ins) (width ts) n) (sym (accepts-uneven ins ts n)))
+      (λ e. accepted-by head a (length ins) (width ts) (w .arity) (eq-eqb (length ins) (width ts) e) ∙ all-fit a (omega arith) e (w .takes) r)
+      (λ n. accepted-by head a (length ins) (width ts) (w .arity) (ne-eqb (length ins) (width ts) n) ∙ sym (accepts-uneven ins ts n))
 
   -- A rule's words: how many premises and variables it has, and where they stand.
   pub premise-count-is : {e : ℕ} {r : Rule} → RuleAt text heap es top e r → premiseCount heap e ≡ length (premisesOf r)

@@ -1,13 +1,13 @@
 -- `tables::step_word` meets its contract. Assumes nothing.
 use Rattle.tables.specs.Words.{stepWord, stepAt}
-use borrow.Author.Tests.{le-leb, lt-leb}
+use borrow.Author.Tests.{lt-leb}
 use borrow.Author.Needs.{needs}
+use Rattle.tables.proofs.Steps.{word-none}
 use Rattle.tables.proofs.step_word.Statement.{statement}
 use Rattle.tables.proofs.step_word.Tie as tie
 
 returns : tie.Need-returns
-unfolding stepWord
-returns c = rw (le-leb _ _ (c .if1 .taken), stepWord)
+returns c = word-none _ _ _ _ (c .if1 .taken)
 
 add-at : tie.Need-add-at
 unfolding stepAt

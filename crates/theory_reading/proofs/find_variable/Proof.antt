@@ -3,8 +3,8 @@ use mathlib.Core.Path.{_≡_, sym, _∙_}
 use Prim.Native.Nat.{_≤_, _-_}
 use borrow.Author.Needs.{needs}
 use Rattle.words.specs.Parts.{part}
-use Rattle.theory_reading.specs.Reading.{nameOfVariable, variableFrom, variableFound}
-use Rattle.theory_reading.proofs.Turns.{variable-first, variable-here, variable-on, variable-nowhere}
+use Rattle.theory_reading.specs.Reading.{variableFrom, variableFound}
+use Rattle.theory_reading.proofs.Turns.{variable-first, variable-compared, variable-here, variable-on, variable-nowhere}
 use Rattle.theory_reading.proofs.find_variable.Statement.{statement}
 use Rattle.theory_reading.proofs.find_variable.Tie as tie
 
@@ -19,12 +19,10 @@ loop-holds : tie.Need-loop-holds Inv-loop μ-loop
 loop-holds c = (search needs, variable-first _ _ _ _ (c .before .variable-count .ensures) (c .variables .ensures))
 
 returns : tie.Need-returns Inv-loop μ-loop
-unfolding nameOfVariable
-returns c = sym (c .before .before .before .before .before .loop .inv .1 ∙ variable-here _ _ _ _ _ _ (c .before .before .before .before .loop-test .taken) (rw (← c .before .before .before .at .ensures, ← c .before .before .at2 .ensures, ← c .before .same-bytes .ensures) (c .if1 .taken)))
+returns c = sym (c .before .before .before .before .before .loop .inv .1 ∙ variable-here _ _ _ _ _ _ (c .before .before .before .before .loop-test .taken) (variable-compared _ _ _ _ _ (c .before .before .before .at .ensures) (c .before .before .at2 .ensures) (c .before .same-bytes .ensures) ∙ c .if1 .taken))
 
 loop-again : tie.Need-loop-again Inv-loop μ-loop
-unfolding nameOfVariable
-loop-again c = (search needs, c .before .before .before .before .before .loop .inv .1 ∙ variable-on _ _ _ _ _ _ (c .before .before .before .before .loop-test .taken) (rw (← c .before .before .before .at .ensures, ← c .before .before .at2 .ensures, ← c .before .same-bytes .ensures) (c .if1 .left)))
+loop-again c = (search needs, c .before .before .before .before .before .loop .inv .1 ∙ variable-on _ _ _ _ _ _ (c .before .before .before .before .loop-test .taken) (variable-compared _ _ _ _ _ (c .before .before .before .at .ensures) (c .before .before .at2 .ensures) (c .before .same-bytes .ensures) ∙ c .if1 .left))
 
 returns-2 : tie.Need-returns-2 Inv-loop μ-loop
 returns-2 c = sym (c .before .loop .inv .1 ∙ variable-nowhere _ _ _ _ _ _ (c .loop-test .left))
