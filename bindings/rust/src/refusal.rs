@@ -77,13 +77,12 @@ impl Refusal {
 
     /// The refusal with this number, from 1 to 29.
     pub fn from_number(number: u32) -> Option<Self> {
-        let index = usize::try_from(number).ok()?.checked_sub(1)?;
-        SENTENCES.get(index).map(|&(refusal, _)| refusal)
+        SENTENCES.iter().map(|&(refusal, _)| refusal).find(|refusal| refusal.number() == number)
     }
 
     /// What is refused, in a plain sentence.
     pub fn sentence(self) -> &'static str {
-        SENTENCES[self as usize - 1].1
+        SENTENCES.iter().find(|(refusal, _)| refusal.number() == self.number()).map_or("", |&(_, sentence)| sentence)
     }
 }
 

@@ -233,6 +233,7 @@ pub fn all_forms(
             }
         }
     }
+    // Out of turns: the laws show that this is never met.
     Forms::Refused(2)
 }
 

@@ -145,6 +145,7 @@ pub fn goals_from(
             }
         }
     }
+    // Out of turns: the laws show that this is never met.
     Forms::Refused(2)
 }
 

@@ -66,6 +66,7 @@ pub fn references(text: &[u8], stack: &mut [u32], reader: Reader) -> Numbered
             }
         }
     }
+    // Out of turns: the laws show that this is never met.
     Numbered::Refused(2)
 }
 

@@ -130,5 +130,6 @@ pub fn count_members(text: &[u8], area: &mut [u32]) -> Walk
             }
         }
     }
+    // Out of turns: the laws show that this is never met.
     Walk::Refused(2)
 }

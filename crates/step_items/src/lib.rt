@@ -198,5 +198,6 @@ pub fn items(
             }
         }
     }
+    // Out of turns: the laws show that this is never met.
     Numbered::Refused(2)
 }

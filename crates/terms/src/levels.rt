@@ -168,5 +168,6 @@ pub fn args(
             }
         }
     }
+    // Out of turns: the laws show that this is never met.
     Number::Refused(2)
 }

@@ -1,4 +1,5 @@
 -- `leaves::apply` meets its contract. Assumes nothing.
+use Prim.Native.Nat.{_+_}
 use mathlib.Core.Path.{refl}
 use borrow.Author.Tests.{eq-eqb, ne-eqb}
 use borrow.Author.Needs.{needs}
@@ -58,7 +59,7 @@ same-length-3 c = refl
 
 returns-3 : tie.Need-returns-3
 unfolding applied
-returns-3 c = rw (← c .before .before .before .before .before .before .before .before .before .find .ensures, c .before .before .before .before .before .before .before .found .given .1, ← c .before .before .before .before .at .ensures, eq-eqb _ _ (c .before .before .before .if1 .left), ← c .before .at2 .ensures, ne-eqb _ _ (c .if2 .taken))
+returns-3 c = rw (← c .before .before .before .before .before .before .before .before .before .find .ensures, c .before .before .before .before .before .before .before .found .given .1, ← c .before .before .before .before .at .ensures, eq-eqb _ _ (c .before .before .before .if1 .left), ← c .before .at2 .ensures, ne-eqb (c .before .at2 .result + 1) (c .before .before .before .before .before .before .before .before .before .before .before .before .before .args .members) (c .if2 .taken))
 
 push-requires : tie.Need-push-requires
 push-requires c κs = tt

@@ -2,9 +2,9 @@
 use mathlib.Core.Path.{_≡_, sym, _∙_}
 use Prim.Native.Nat.{_≤_, _-_}
 use borrow.Author.Needs.{needs}
-use Rattle.leaves.specs.Leaves.{position, positionFrom, variableName}
+use Rattle.leaves.specs.Leaves.{position, positionFrom}
 use Rattle.words.specs.Parts.{part}
-use Rattle.leaves.proofs.Turns.{variable-first, variable-here, variable-on, variable-nowhere}
+use Rattle.leaves.proofs.Turns.{variable-first, variable-here, variable-seen, variable-on, variable-nowhere}
 use Rattle.leaves.proofs.find_variable.Statement.{statement}
 use Rattle.leaves.proofs.find_variable.Tie as tie
 
@@ -42,8 +42,7 @@ same-bytes-requires : tie.Need-same-bytes-requires Inv-loop μ-loop
 same-bytes-requires c κs = tt
 
 returns : tie.Need-returns Inv-loop μ-loop
-unfolding variableName
-returns c = sym (c .before .before .before .before .before .loop .inv .1 ∙ variable-here _ _ _ _ _ (c .before .before .before .before .loop-test .taken) (rw (← c .before .before .before .at .ensures, ← c .before .before .at2 .ensures, ← c .before .same-bytes .ensures) (c .if1 .taken)))
+returns c = sym (c .before .before .before .before .before .loop .inv .1 ∙ variable-here _ _ _ _ _ (c .before .before .before .before .loop-test .taken) (variable-seen _ _ _ (c .before .before .before .before .before .before .before .before .args .s) (c .before .before .before .before .before .before .before .before .args .t) _ _ (c .before .before .before .at .ensures) (c .before .before .at2 .ensures) (c .before .same-bytes .ensures) (c .if1 .taken)))
 
 add-i : tie.Need-add-i Inv-loop μ-loop
 add-i c = search needs
@@ -52,8 +51,7 @@ loop-less : tie.Need-loop-less Inv-loop μ-loop
 loop-less c = search needs
 
 loop-again : tie.Need-loop-again Inv-loop μ-loop
-unfolding variableName
-loop-again c = (search needs, c .before .before .before .before .before .loop .inv .1 ∙ variable-on _ _ _ _ _ (c .before .before .before .before .loop-test .taken) (rw (← c .before .before .before .at .ensures, ← c .before .before .at2 .ensures, ← c .before .same-bytes .ensures) (c .if1 .left)))
+loop-again c = (search needs, c .before .before .before .before .before .loop .inv .1 ∙ variable-on _ _ _ _ _ (c .before .before .before .before .loop-test .taken) (variable-seen _ _ _ (c .before .before .before .before .before .before .before .before .args .s) (c .before .before .before .before .before .before .before .before .args .t) _ _ (c .before .before .before .at .ensures) (c .before .before .at2 .ensures) (c .before .same-bytes .ensures) (c .if1 .left)))
 
 returns-2 : tie.Need-returns-2 Inv-loop μ-loop
 returns-2 c = sym (c .before .loop .inv .1 ∙ variable-nowhere _ _ _ _ _ (c .loop-test .left))

@@ -1,5 +1,6 @@
 -- `leaves::meet_again` meets its contract. Assumes nothing.
-use borrow.Author.Tests.{eq-eqb, ne-eqb}
+use borrow.Author.Tests.{eq-eqb}
+use Rattle.leaves.proofs.Turns.{met-apart}
 use borrow.Author.Needs.{needs}
 use Rattle.leaves.specs.Leaves.{metAgain, variableWord}
 use Rattle.leaves.proofs.meet_again.Statement.{statement}
@@ -15,8 +16,7 @@ at-requires : tie.Need-at-requires
 at-requires c κs = tt
 
 returns : tie.Need-returns
-unfolding metAgain
-returns c = rw (← c .before .at .ensures, ne-eqb _ _ (c .if1 .taken))
+returns c = met-apart (c .before .before .before .before .args .v) (c .before .before .before .before .args .sort) (c .before .before .before .before .args .w) (c .before .before .before .before .args .vars .now) (c .before .before .before .before .args .heap .now) (c .before .at .result) (c .before .at .ensures) (c .if1 .taken)
 
 plus-requires : tie.Need-plus-requires
 plus-requires c κs = tt

@@ -1,5 +1,3 @@
--- Meant as crates/certificates/proofs/Order.antt, named in proofs/Lib.antt, so that the edit on the order of closing and duplicate meets a fact first. Not checked in this form:
--- an argument was implicit before and was refused; left is to check it, and to read the first error of the edit.
 -- "T; duplicate 13; closing": an abbreviation that is known is refused for that, whatever stands behind it. Assumes nothing.
 use Prim.Native.Nat.{ℕ}
 use mathlib.Core.Path.{_≡_}
