@@ -5,27 +5,6 @@ use Rattle.horn.specs.Refusals.{number}
 use Rattle.items.proofs.close.Statement.{statement}
 use Rattle.items.proofs.close.Tie as tie
 
-token-requires : tie.Need-token-requires
-token-requires c κs = tt
-
-enum-told : tie.Need-enum-told
-enum-told c = c .match .keys1
-
-enum-told-2 : tie.Need-enum-told-2
-enum-told-2 c = c .match .keys2
-
-enum-known-read : tie.Need-enum-known-read
-enum-known-read c = c .match .keys3
-
-enum-told-3 : tie.Need-enum-told-3
-enum-told-3 c = c .match2 .keys1
-
-enum-told-4 : tie.Need-enum-told-4
-enum-told-4 c = c .match2 .keys2
-
-enum-told-5 : tie.Need-enum-told-5
-enum-told-5 c = c .match2 .keys3
-
 returns : tie.Need-returns
 unfolding closingDue answer
 returns c = rw (← c .before .before .token .ensures, c .enum-told .given .1)
@@ -49,16 +28,5 @@ returns-5 c = rw (← c .before .before .before .before .before .token .ensures,
 pub close-spec : {M : Type 1} → statement M
 close-spec =
     tie.close
-    (tie.spec
-    token-requires
-    enum-told
-    enum-told-2
-    enum-known-read
-    enum-told-3
-    enum-told-4
-    enum-told-5
-    returns
-    returns-2
-    returns-3
-    returns-4
-    returns-5)
+    (tie.spec (λ c κs. tt) (λ c. c .match .keys1) (λ c. c .match .keys2) (λ c. c .match .keys3) (λ c. c .match2 .keys1)
+    (λ c. c .match2 .keys2) (λ c. c .match2 .keys3) returns returns-2 returns-3 returns-4 returns-5)

@@ -3,24 +3,9 @@ use Rattle.items.specs.Items.{declaredName}
 use Rattle.items.proofs.declared_name.Statement.{statement}
 use Rattle.items.proofs.declared_name.Tie as tie
 
-next-atom-requires : tie.Need-next-atom-requires
-next-atom-requires c κs = tt
-
-enum-known-a : tie.Need-enum-known-a
-enum-known-a c = c .match .keys1
-
-enum-told : tie.Need-enum-told
-enum-told c = c .match .keys2
-
-named-refusal-requires : tie.Need-named-refusal-requires
-named-refusal-requires c κs = tt
-
 returns : tie.Need-returns
 unfolding declaredName
 returns c = rw (c .named-refusal .ensures, ← c .before .before .before .next-atom .ensures, c .before .enum-told .given .1)
-
-is-question-requires : tie.Need-is-question-requires
-is-question-requires c κs = tt
 
 returns-2 : tie.Need-returns-2
 unfolding declaredName
@@ -33,12 +18,4 @@ returns-3 c = rw (← c .before .before .before .before .before .next-atom .ensu
 pub declared-name-spec : {M : Type 1} → statement M
 declared-name-spec =
     tie.close
-    (tie.spec
-    next-atom-requires
-    enum-known-a
-    enum-told
-    named-refusal-requires
-    returns
-    is-question-requires
-    returns-2
-    returns-3)
+    (tie.spec (λ c κs. tt) (λ c. c .match .keys1) (λ c. c .match .keys2) (λ c κs. tt) returns (λ c κs. tt) returns-2 returns-3)

@@ -3,12 +3,9 @@ use Rattle.items.specs.Items.{question}
 use Rattle.items.proofs.is_question.Statement.{statement}
 use Rattle.items.proofs.is_question.Tie as tie
 
-byte-requires : tie.Need-byte-requires
-byte-requires c κs = tt
-
 returns : tie.Need-returns
 unfolding question
 returns c = rw (← c .byte .ensures)
 
 pub is-question-spec : {M : Type 1} → statement M
-is-question-spec = tie.close (tie.spec byte-requires returns)
+is-question-spec = tie.close (tie.spec (λ c κs. tt) returns)

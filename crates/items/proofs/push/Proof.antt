@@ -4,15 +4,6 @@ use Rattle.items.specs.Items.{pushed}
 use Rattle.items.proofs.push.Statement.{statement}
 use Rattle.items.proofs.push.Tie as tie
 
-cast-put : tie.Need-cast-put
-cast-put c = search needs
-
-put-requires : tie.Need-put-requires
-put-requires c κs = tt
-
-plus-requires : tie.Need-plus-requires
-plus-requires c κs = tt
-
 same-length : tie.Need-same-length
 same-length c = c .before .before .before .heap .given
 
@@ -21,4 +12,4 @@ unfolding pushed
 returns c = rw (c .plus .ensures, c .before .before .before .before .put .ensures)
 
 pub push-spec : {M : Type 1} → statement M
-push-spec = tie.close (tie.spec cast-put put-requires plus-requires same-length returns)
+push-spec = tie.close (tie.spec (λ c. search needs) (λ c κs. tt) (λ c κs. tt) same-length returns)

@@ -4,18 +4,6 @@ use Rattle.leaves.specs.Leaves.{compoundHead}
 use Rattle.leaves.proofs.compound_head.Statement.{statement}
 use Rattle.leaves.proofs.compound_head.Tie as tie
 
-head-requires : tie.Need-head-requires
-head-requires c κs = tt
-
-enum-known-h : tie.Need-enum-known-h
-enum-known-h c = c .match .keys1
-
-enum-told : tie.Need-enum-told
-enum-told c = c .match .keys2
-
-named-refusal-requires : tie.Need-named-refusal-requires
-named-refusal-requires c κs = tt
-
 returns : tie.Need-returns
 unfolding compoundHead
 returns c = rw (c .named-refusal .ensures, ← c .before .before .before .head .ensures, c .before .enum-told .given .1)
@@ -23,9 +11,6 @@ returns c = rw (c .named-refusal .ensures, ← c .before .before .before .head .
 returns-2 : tie.Need-returns-2
 unfolding compoundHead
 returns-2 c = rw (← c .before .before .before .before .head .ensures, c .before .before .h .given .1, eq-eqb _ _ (c .if1 .taken))
-
-apply-requires : tie.Need-apply-requires
-apply-requires c κs = tt
 
 same-length : tie.Need-same-length
 same-length c = c .before .heap .given
@@ -37,13 +22,4 @@ returns-3 c = rw (← c .before .before .before .before .before .before .before 
 pub compound-head-spec : {M : Type 1} → statement M
 compound-head-spec =
     tie.close
-    (tie.spec
-    head-requires
-    enum-known-h
-    enum-told
-    named-refusal-requires
-    returns
-    returns-2
-    apply-requires
-    same-length
-    returns-3)
+    (tie.spec (λ c κs. tt) (λ c. c .match .keys1) (λ c. c .match .keys2) (λ c κs. tt) returns returns-2 (λ c κs. tt) same-length returns-3)

@@ -3,15 +3,6 @@ use Rattle.leaves.specs.Leaves.{constant}
 use Rattle.leaves.proofs.constant.Statement.{statement}
 use Rattle.leaves.proofs.constant.Tie as tie
 
-apply-requires : tie.Need-apply-requires
-apply-requires c κs = tt
-
-enum-known-a : tie.Need-enum-known-a
-enum-known-a c = c .match .keys1
-
-enum-known-a-2 : tie.Need-enum-known-a-2
-enum-known-a-2 c = c .match .keys2
-
 same-length : tie.Need-same-length
 same-length c = c .before .before .before .before .heap .given
 
@@ -27,13 +18,4 @@ unfolding constant
 returns-2 c = rw (← c .before .before .before .before .before .apply .ensures, c .before .a2 .given .1)
 
 pub constant-spec : {M : Type 1} → statement M
-constant-spec =
-    tie.close
-    (tie.spec
-    apply-requires
-    enum-known-a
-    enum-known-a-2
-    same-length
-    returns
-    same-length-2
-    returns-2)
+constant-spec = tie.close (tie.spec (λ c κs. tt) (λ c. c .match .keys1) (λ c. c .match .keys2) same-length returns same-length-2 returns-2)

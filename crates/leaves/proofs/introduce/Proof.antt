@@ -5,42 +5,6 @@ use Rattle.leaves.specs.Leaves.{introduced, withVariable, variableWord}
 use Rattle.leaves.proofs.introduce.Statement.{statement}
 use Rattle.leaves.proofs.introduce.Tie as tie
 
-cast-place : tie.Need-cast-place
-cast-place c = search needs
-
-mul-place : tie.Need-mul-place
-mul-place c = search needs
-
-low-requires : tie.Need-low-requires
-low-requires c κs = tt
-
-put-requires : tie.Need-put-requires
-put-requires c κs = tt
-
-add-put : tie.Need-add-put
-add-put c = search needs
-
-low-requires-2 : tie.Need-low-requires-2
-low-requires-2 c κs = tt
-
-put-requires-2 : tie.Need-put-requires-2
-put-requires-2 c κs = tt
-
-add-put-2 : tie.Need-add-put-2
-add-put-2 c = search needs
-
-put-requires-3 : tie.Need-put-requires-3
-put-requires-3 c κs = tt
-
-plus-requires : tie.Need-plus-requires
-plus-requires c κs = tt
-
-plus-requires-2 : tie.Need-plus-requires-2
-plus-requires-2 c κs = tt
-
-push-requires : tie.Need-push-requires
-push-requires c κs = tt
-
 same-length : tie.Need-same-length
 same-length c = c .before .before .before .before .before .before .before .before .vars3 .given ∙ c .before .before .before .before .before .before .before .before .before .before .before .before .vars2 .given ∙ c .before .before .before .before .before .before .before .before .before .before .before .before .before .before .before .before .before .vars .given
 
@@ -54,19 +18,5 @@ returns c = rw (← c .before .before .before .plus2 .ensures, ← c .before .be
 pub introduce-spec : {M : Type 1} → statement M
 introduce-spec =
     tie.close
-    (tie.spec
-    cast-place
-    mul-place
-    low-requires
-    put-requires
-    add-put
-    low-requires-2
-    put-requires-2
-    add-put-2
-    put-requires-3
-    plus-requires
-    plus-requires-2
-    push-requires
-    same-length
-    same-length-2
-    returns)
+    (tie.spec (λ c. search needs) (λ c. search needs) (λ c κs. tt) (λ c κs. tt) (λ c. search needs) (λ c κs. tt) (λ c κs. tt)
+    (λ c. search needs) (λ c κs. tt) (λ c κs. tt) (λ c κs. tt) (λ c κs. tt) same-length same-length-2 returns)

@@ -3,12 +3,6 @@ use Rattle.leaves.specs.Leaves.{leaf}
 use Rattle.leaves.proofs.leaf.Statement.{statement}
 use Rattle.leaves.proofs.leaf.Tie as tie
 
-is-question-requires : tie.Need-is-question-requires
-is-question-requires c κs = tt
-
-schematic-requires : tie.Need-schematic-requires
-schematic-requires c κs = tt
-
 same-length : tie.Need-same-length
 same-length c = c .before .before .before .vars .given
 
@@ -19,9 +13,6 @@ returns : tie.Need-returns
 unfolding leaf
 returns c = rw (← c .before .before .before .before .before .before .before .before .is-question .ensures, c .before .before .before .before .before .before .before .if1 .taken, ← c .before .before .before .before .schematic .ensures)
 
-constant-requires : tie.Need-constant-requires
-constant-requires c κs = tt
-
 same-length-3 : tie.Need-same-length-3
 same-length-3 c = c .before .heap2 .given
 
@@ -30,14 +21,4 @@ unfolding leaf
 returns-2 c = rw (← c .before .before .before .before .before .is-question .ensures, c .before .before .before .before .if1 .left, ← c .before .before .constant .ensures)
 
 pub leaf-spec : {M : Type 1} → statement M
-leaf-spec =
-    tie.close
-    (tie.spec
-    is-question-requires
-    schematic-requires
-    same-length
-    same-length-2
-    returns
-    constant-requires
-    same-length-3
-    returns-2)
+leaf-spec = tie.close (tie.spec (λ c κs. tt) (λ c κs. tt) same-length same-length-2 returns (λ c κs. tt) same-length-3 returns-2)

@@ -6,23 +6,8 @@ use Rattle.leaves.specs.Leaves.{metAgain, variableWord}
 use Rattle.leaves.proofs.meet_again.Statement.{statement}
 use Rattle.leaves.proofs.meet_again.Tie as tie
 
-mul-at : tie.Need-mul-at
-mul-at c = search needs
-
-add-at : tie.Need-add-at
-add-at c = search needs
-
-at-requires : tie.Need-at-requires
-at-requires c κs = tt
-
 returns : tie.Need-returns
 returns c = met-apart (c .before .before .before .before .args .v) (c .before .before .before .before .args .sort) (c .before .before .before .before .args .w) (c .before .before .before .before .args .vars .now) (c .before .before .before .before .args .heap .now) (c .before .at .result) (c .before .at .ensures) (c .if1 .taken)
-
-plus-requires : tie.Need-plus-requires
-plus-requires c κs = tt
-
-push-requires : tie.Need-push-requires
-push-requires c κs = tt
 
 same-length : tie.Need-same-length
 same-length c = c .before .heap .given
@@ -34,4 +19,4 @@ returns-2 c = rw (← c .before .before .before .before .before .before .at .ens
 pub meet-again-spec : {M : Type 1} → statement M
 meet-again-spec =
     tie.close
-    (tie.spec mul-at add-at at-requires returns plus-requires push-requires same-length returns-2)
+    (tie.spec (λ c. search needs) (λ c. search needs) (λ c κs. tt) returns (λ c κs. tt) (λ c κs. tt) same-length returns-2)

@@ -4,30 +4,9 @@ use Rattle.leaves.specs.Leaves.{schematic}
 use Rattle.leaves.proofs.schematic.Statement.{statement}
 use Rattle.leaves.proofs.schematic.Tie as tie
 
-is-bare-requires : tie.Need-is-bare-requires
-is-bare-requires c κs = tt
-
 returns : tie.Need-returns
 unfolding schematic
 returns c = rw (← c .before .is-bare .ensures, c .if1 .taken)
-
-find-variable-requires : tie.Need-find-variable-requires
-find-variable-requires c κs = tt
-
-enum-known-found : tie.Need-enum-known-found
-enum-known-found c = c .match .keys1
-
-meet-again-requires : tie.Need-meet-again-requires
-meet-again-requires c κs = tt
-
-enum-told : tie.Need-enum-told
-enum-told c = c .match .keys2
-
-introduce-requires : tie.Need-introduce-requires
-introduce-requires c κs = tt
-
-same-length : tie.Need-same-length
-same-length c = refl
 
 same-length-2 : tie.Need-same-length-2
 same-length-2 c = c .before .heap .given
@@ -49,17 +28,5 @@ returns-3 c = rw (← c .before .before .before .before .before .before .before 
 pub schematic-spec : {M : Type 1} → statement M
 schematic-spec =
     tie.close
-    (tie.spec
-    is-bare-requires
-    returns
-    find-variable-requires
-    enum-known-found
-    meet-again-requires
-    enum-told
-    introduce-requires
-    same-length
-    same-length-2
-    returns-2
-    same-length-3
-    same-length-4
-    returns-3)
+    (tie.spec (λ c κs. tt) returns (λ c κs. tt) (λ c. c .match .keys1) (λ c κs. tt) (λ c. c .match .keys2) (λ c κs. tt) (λ c. refl)
+    same-length-2 returns-2 same-length-3 same-length-4 returns-3)

@@ -22,26 +22,11 @@ loop-holds c = (length (c .before .args .text .now), (omega arith, refl))
 returns : tie.Need-returns Inv-loop μ-loop
 returns c = sym (c .before .before .loop .inv .1 .1 ∙ atom-stop (c .before .before .before .before .args .text .now) (c .before .before .before .before .args .end) (c .before .before .loop .q) 5 (look-past (c .before .before .before .before .args .text .now) (c .before .before .loop .q) (c .if1 .taken) .0) (c .before .loop-test .taken) (c .before .before .loop .inv .0) (λ z. omega arith))
 
-shared-slice-read-class : tie.Need-shared-slice-read-class Inv-loop μ-loop
-shared-slice-read-class c = search needs
-
-class-requires : tie.Need-class-requires Inv-loop μ-loop
-class-requires c κs = tt
-
-add-q : tie.Need-add-q Inv-loop μ-loop
-add-q c = search needs
-
-loop-less : tie.Need-loop-less Inv-loop μ-loop
-loop-less c = omega arith
-
 loop-again : tie.Need-loop-again Inv-loop μ-loop
 loop-again c = let s = look-one (c .before .before .before .before .before .before .before .args .text .now) (c .before .before .before .before .before .loop .q) (c .before .before .before .if1 .left) (c .before .before .shared-slice-known2 .given (c .before .before .before .before .before .loop .q) .fits) (c .before .class .result) (c .before .class .ensures) (omega arith) in let t = atom-on (c .before .before .before .before .before .before .before .args .text .now) (c .before .before .before .before .before .before .before .args .end) (c .before .before .before .before .before .loop .q) (c .before .class .result) (s .0) (c .before .before .before .before .loop-test .taken) 1 (s .1) (c .before .before .before .before .before .loop .inv .0) (c .before .before .before .before .before .loop .inv .1 .0) (c .if2 .taken) in (t .0, (t .1 .0, c .before .before .before .before .before .loop .inv .1 .1 ∙ t .1 .1))
 
 returns-2 : tie.Need-returns-2 Inv-loop μ-loop
 returns-2 c = let s = look-one (c .before .before .before .before .before .before .before .before .args .text .now) (c .before .before .before .before .before .before .loop .q) (c .before .before .before .before .if1 .left) (c .before .before .before .shared-slice-known2 .given (c .before .before .before .before .before .before .loop .q) .fits) (c .before .before .class .result) (c .before .before .class .ensures) (c .if3 .taken) in sym (c .before .before .before .before .before .before .loop .inv .1 .1 ∙ atom-stop (c .before .before .before .before .before .before .before .before .args .text .now) (c .before .before .before .before .before .before .before .before .args .end) (c .before .before .before .before .before .before .loop .q) (c .before .before .class .result) (s .0) (c .before .before .before .before .before .loop-test .taken) (c .before .before .before .before .before .before .loop .inv .0) (c .before .if2 .left))
-
-look-longer-requires : tie.Need-look-longer-requires Inv-loop μ-loop
-look-longer-requires c κs = tt
 
 returns-3 : tie.Need-returns-3 Inv-loop μ-loop
 returns-3 c = let f = longer-is (c .before .before .before .before .before .before .before .before .before .before .args .text .now) (c .before .before .before .before .before .before .before .before .loop .q) (c .before .before .before .before .class .result) (c .before .before .before .before .before .before .if1 .left) (c .before .before .before .before .before .shared-slice-known2 .given (c .before .before .before .before .before .before .before .before .loop .q) .fits) (c .before .before .before .before .class .ensures) (c .before .before .if3 .left) in sym (c .before .before .before .before .before .before .before .before .loop .inv .1 .1 ∙ atom-stop (c .before .before .before .before .before .before .before .before .before .before .args .text .now) (c .before .before .before .before .before .before .before .before .before .before .args .end) (c .before .before .before .before .before .before .before .before .loop .q) (c .before .look-longer .result .kind) (c .before .look-longer .ensures .0 ∙ ap kindAt f) (c .before .before .before .before .before .before .before .loop-test .taken) (c .before .before .before .before .before .before .before .before .loop .inv .0) (c .if4 .taken))
@@ -61,20 +46,5 @@ returns-4 c = sym (c .before .loop .inv .1 .1 ∙ atom-over (c .before .before .
 pub atom-end-spec : {M : Type 1} → statement M
 atom-end-spec =
     tie.close
-    (tie.spec
-    Inv-loop
-    μ-loop
-    loop-holds
-    returns
-    shared-slice-read-class
-    class-requires
-    add-q
-    loop-less
-    loop-again
-    returns-2
-    look-longer-requires
-    returns-3
-    add-q-2
-    loop-less-2
-    loop-again-2
-    returns-4)
+    (tie.spec Inv-loop μ-loop loop-holds returns (λ c. search needs) (λ c κs. tt) (λ c. search needs) (λ c. omega arith) loop-again
+    returns-2 (λ c κs. tt) returns-3 add-q-2 loop-less-2 loop-again-2 returns-4)

@@ -18,35 +18,11 @@ abbrev μ-loop : tie.MeasureT-loop
 loop-holds : tie.Need-loop-holds Inv-loop μ-loop
 loop-holds c = (length (c .before .args .text .now), (omega arith, refl))
 
-shared-slice-read-b : tie.Need-shared-slice-read-b Inv-loop μ-loop
-shared-slice-read-b c = search needs
-
-add-t11 : tie.Need-add-t11 Inv-loop μ-loop
-add-t11 c = search needs
-
 returns : tie.Need-returns Inv-loop μ-loop
 returns c = sym (c .before .before .before .loop .inv .1 .1 ∙ line-stop (c .before .before .before .before .before .args .text .now) (c .before .before .before .loop .q) (c .before .before .loop-test .taken) (c .before .before .before .loop .inv .0) (c .if1 .taken))
 
-add-q : tie.Need-add-q Inv-loop μ-loop
-add-q c = search needs
-
-loop-less : tie.Need-loop-less Inv-loop μ-loop
-loop-less c = omega arith
-
 loop-again : tie.Need-loop-again Inv-loop μ-loop
 loop-again c = let t = line-on (c .before .before .before .before .before .before .args .text .now) (c .before .before .before .before .loop .q) (c .before .before .before .loop-test .taken) (c .before .if1 .left) 1 (ascii-width (c .before .before .before .before .before .before .args .text .now) (c .before .before .before .before .loop .q) (c .before .before .before .loop-test .taken) (c .if2 .taken)) (c .before .before .before .before .loop .inv .0) (c .before .before .before .before .loop .inv .1 .0) (λ z. omega arith) in (t .0, (t .1 .0, c .before .before .before .before .loop .inv .1 .1 ∙ t .1 .1))
-
-sub-first-of : tie.Need-sub-first-of Inv-loop μ-loop
-sub-first-of c = search needs
-
-part-first-of-start : tie.Need-part-first-of-start Inv-loop μ-loop
-part-first-of-start c = search needs
-
-part-first-of-end : tie.Need-part-first-of-end Inv-loop μ-loop
-part-first-of-end c = search needs
-
-first-of-requires : tie.Need-first-of-requires Inv-loop μ-loop
-first-of-requires c κs = tt
 
 returns-2 : tie.Need-returns-2 Inv-loop μ-loop
 returns-2 c = sym (c .before .before .before .before .before .before .before .loop .inv .1 .1 ∙ line-bad (c .before .before .before .before .before .before .before .before .before .args .text .now) (c .before .before .before .before .before .before .before .loop .q) (c .before .before .before .before .before .before .loop-test .taken) (c .before .before .before .before .if1 .left) (c .before .first-of .result .width) (rw (rest-of (c .before .before .before .before .before .before .before .before .before .args .text .now) (c .before .before .before .before .before .before .before .loop .q)) at (c .before .first-of .ensures .0)) (c .before .before .before .before .before .before .before .loop .inv .0) (c .if3 .taken))
@@ -66,22 +42,5 @@ returns-3 c = sym (c .before .loop .inv .1 .1 ∙ line-over (c .before .before .
 pub line-end-spec : {M : Type 1} → statement M
 line-end-spec =
     tie.close
-    (tie.spec
-    Inv-loop
-    μ-loop
-    loop-holds
-    shared-slice-read-b
-    add-t11
-    returns
-    add-q
-    loop-less
-    loop-again
-    sub-first-of
-    part-first-of-start
-    part-first-of-end
-    first-of-requires
-    returns-2
-    add-q-2
-    loop-less-2
-    loop-again-2
-    returns-3)
+    (tie.spec Inv-loop μ-loop loop-holds (λ c. search needs) (λ c. search needs) returns (λ c. search needs) (λ c. omega arith) loop-again
+    (λ c. search needs) (λ c. search needs) (λ c. search needs) (λ c κs. tt) returns-2 add-q-2 loop-less-2 loop-again-2 returns-3)

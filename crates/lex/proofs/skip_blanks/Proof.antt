@@ -22,18 +22,6 @@ loop-holds c = (length (c .before .args .text .now), (omega arith, refl))
 returns : tie.Need-returns Inv-loop μ-loop
 returns c = sym (c .before .before .loop .inv .1 .1 ∙ blank-stop (c .before .before .before .before .args .text .now) (c .before .before .before .before .args .end) (c .before .before .loop .q) 5 (look-past (c .before .before .before .before .args .text .now) (c .before .before .loop .q) (c .if1 .taken) .0) (c .before .loop-test .taken) (c .before .before .loop .inv .0) (λ z. omega arith) (λ z. omega arith))
 
-shared-slice-read-class : tie.Need-shared-slice-read-class Inv-loop μ-loop
-shared-slice-read-class c = search needs
-
-class-requires : tie.Need-class-requires Inv-loop μ-loop
-class-requires c κs = tt
-
-add-q : tie.Need-add-q Inv-loop μ-loop
-add-q c = search needs
-
-loop-less : tie.Need-loop-less Inv-loop μ-loop
-loop-less c = omega arith
-
 loop-again : tie.Need-loop-again Inv-loop μ-loop
 loop-again c = let s = look-one (c .before .before .before .before .before .before .before .args .text .now) (c .before .before .before .before .before .loop .q) (c .before .before .before .if1 .left) (c .before .before .shared-slice-known2 .given (c .before .before .before .before .before .loop .q) .fits) (c .before .class .result) (c .before .class .ensures) (omega arith) in let t = blank-on (c .before .before .before .before .before .before .before .args .text .now) (c .before .before .before .before .before .before .before .args .end) (c .before .before .before .before .before .loop .q) (c .before .class .result) (s .0) (c .before .before .before .before .loop-test .taken) 1 (s .1) (c .before .before .before .before .before .loop .inv .0) (c .before .before .before .before .before .loop .inv .1 .0) (c .if2 .taken) in (t .0, (t .1 .0, c .before .before .before .before .before .loop .inv .1 .1 ∙ t .1 .1))
 
@@ -42,12 +30,6 @@ returns-2 c = let s = look-one (c .before .before .before .before .before .befor
 
 returns-3 : tie.Need-returns-3 Inv-loop μ-loop
 returns-3 c = let s = look-one (c .before .before .before .before .before .before .before .before .before .args .text .now) (c .before .before .before .before .before .before .before .loop .q) (c .before .before .before .before .before .if1 .left) (c .before .before .before .before .shared-slice-known2 .given (c .before .before .before .before .before .before .before .loop .q) .fits) (c .before .before .before .class .result) (c .before .before .before .class .ensures) (c .if4 .taken) in sym (c .before .before .before .before .before .before .before .loop .inv .1 .1 ∙ blank-stop (c .before .before .before .before .before .before .before .before .before .args .text .now) (c .before .before .before .before .before .before .before .before .before .args .end) (c .before .before .before .before .before .before .before .loop .q) (c .before .before .before .class .result) (s .0) (c .before .before .before .before .before .before .loop-test .taken) (c .before .before .before .before .before .before .before .loop .inv .0) (c .before .if3 .left) (c .before .before .if2 .left))
-
-look-longer-requires : tie.Need-look-longer-requires Inv-loop μ-loop
-look-longer-requires c κs = tt
-
-stop-requires : tie.Need-stop-requires Inv-loop μ-loop
-stop-requires c κs = tt
 
 returns-4 : tie.Need-returns-4 Inv-loop μ-loop
 returns-4 c = let f = longer-is (c .before .before .before .before .before .before .before .before .before .before .before .before .args .text .now) (c .before .before .before .before .before .before .before .before .before .before .loop .q) (c .before .before .before .before .before .before .class .result) (c .before .before .before .before .before .before .before .before .if1 .left) (c .before .before .before .before .before .before .before .shared-slice-known2 .given (c .before .before .before .before .before .before .before .before .before .before .loop .q) .fits) (c .before .before .before .before .before .before .class .ensures) (c .before .before .before .if4 .left) in c .stop .ensures ∙ sym (c .before .before .before .before .before .before .before .before .before .before .loop .inv .1 .1 ∙ blank-stopped (c .before .before .before .before .before .before .before .before .before .before .before .before .args .text .now) (c .before .before .before .before .before .before .before .before .before .before .before .before .args .end) (c .before .before .before .before .before .before .before .before .before .before .loop .q) (c .before .before .look-longer .result .kind) (c .before .before .look-longer .ensures .0 ∙ ap kindAt f) (c .before .before .before .before .before .before .before .before .before .loop-test .taken) (c .before .before .before .before .before .before .before .before .before .before .loop .inv .0) (c .before .if5 .taken))
@@ -67,22 +49,5 @@ returns-5 c = sym (c .before .loop .inv .1 .1 ∙ blank-over (c .before .before 
 pub skip-blanks-spec : {M : Type 1} → statement M
 skip-blanks-spec =
     tie.close
-    (tie.spec
-    Inv-loop
-    μ-loop
-    loop-holds
-    returns
-    shared-slice-read-class
-    class-requires
-    add-q
-    loop-less
-    loop-again
-    returns-2
-    returns-3
-    look-longer-requires
-    stop-requires
-    returns-4
-    add-q-2
-    loop-less-2
-    loop-again-2
-    returns-5)
+    (tie.spec Inv-loop μ-loop loop-holds returns (λ c. search needs) (λ c κs. tt) (λ c. search needs) (λ c. omega arith) loop-again
+    returns-2 returns-3 (λ c κs. tt) (λ c κs. tt) returns-4 add-q-2 loop-less-2 loop-again-2 returns-5)

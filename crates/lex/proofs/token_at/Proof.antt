@@ -7,12 +7,6 @@ use mathlib.Core.Path.{_≡_, _∙_, sym, refl}
 use Rattle.lex.proofs.token_at.Statement.{statement}
 use Rattle.lex.proofs.token_at.Tie as tie
 
-look-requires : tie.Need-look-requires
-look-requires c κs = tt
-
-atom-end-requires : tie.Need-atom-end-requires
-atom-end-requires c κs = tt
-
 returns : tie.Need-returns
 unfolding answer
 returns c = at-atom (c .before .before .before .before .args .text .now) (c .before .before .before .before .args .end) (c .before .before .before .before .args .p) (c .before .before .look .result .kind) (c .before .before .look .ensures .0) (c .atom-end .result) (c .before .if1 .taken) (c .atom-end .ensures)
@@ -36,14 +30,4 @@ unfolding answer
 returns-4 c = at-none (c .before .before .before .before .before .args .text .now) (c .before .before .before .before .before .args .end) (c .before .before .before .before .before .args .p) (c .before .before .before .look .result .kind) (c .before .before .before .look .ensures .0) (c .before .before .if1 .left) (c .before .if2 .left) (c .if3 .left)
 
 pub token-at-spec : {M : Type 1} → statement M
-token-at-spec =
-    tie.close
-    (tie.spec
-    look-requires
-    atom-end-requires
-    returns
-    add-t13
-    returns-2
-    add-t17
-    returns-3
-    returns-4)
+token-at-spec = tie.close (tie.spec (λ c κs. tt) (λ c κs. tt) returns add-t13 returns-2 add-t17 returns-3 returns-4)

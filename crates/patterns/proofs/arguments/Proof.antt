@@ -2,21 +2,6 @@
 use Rattle.patterns.proofs.arguments.Statement.{statement}
 use Rattle.patterns.proofs.arguments.Tie as tie
 
-keep-requires : tie.Need-keep-requires
-keep-requires c κs = tt
-
-lent-arguments-requires : tie.Need-lent-arguments-requires
-lent-arguments-requires c κs = tt
-
-enum-known-d : tie.Need-enum-known-d
-enum-known-d c = c .match .keys1
-
-enum-told : tie.Need-enum-told
-enum-told c = c .match .keys2
-
-lent-walk-requires : tie.Need-lent-walk-requires
-lent-walk-requires c κs = tt
-
 same-length : tie.Need-same-length
 same-length c = c .before .before .before .before .before .before .vars .given
 
@@ -38,15 +23,5 @@ returns-2 c = rw (← c .before .before .before .before .before .before .before 
 pub arguments-spec : {M : Type 1} → statement M
 arguments-spec =
     tie.close
-    (tie.spec
-    keep-requires
-    lent-arguments-requires
-    enum-known-d
-    enum-told
-    lent-walk-requires
-    same-length
-    same-length-2
-    returns
-    same-length-3
-    same-length-4
-    returns-2)
+    (tie.spec (λ c κs. tt) (λ c κs. tt) (λ c. c .match .keys1) (λ c. c .match .keys2) (λ c κs. tt) same-length same-length-2 returns
+    same-length-3 same-length-4 returns-2)

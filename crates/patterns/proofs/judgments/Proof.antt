@@ -16,18 +16,6 @@ abbrev μ-loop : tie.MeasureT-loop
 loop-holds : tie.Need-loop-holds Inv-loop μ-loop
 loop-holds c = (refl, refl, refl)
 
-judgment-requires : tie.Need-judgment-requires Inv-loop μ-loop
-judgment-requires c κs = tt
-
-enum-known-j : tie.Need-enum-known-j Inv-loop μ-loop
-enum-known-j c = c .match .keys1
-
-enum-told : tie.Need-enum-told Inv-loop μ-loop
-enum-told c = c .match .keys2
-
-walked-refusal-requires : tie.Need-walked-refusal-requires Inv-loop μ-loop
-walked-refusal-requires c κs = tt
-
 same-length : tie.Need-same-length Inv-loop μ-loop
 same-length c = c .before .before .before .before .before .before .vars .given ∙ c .before .before .before .before .before .before .before .before .before .before .before .loop .inv .1
 
@@ -37,17 +25,8 @@ same-length-2 c = c .before .before .before .before .heap .given ∙ c .before .
 returns : tie.Need-returns Inv-loop μ-loop
 returns c = sym (c .before .before .before .before .before .before .before .before .before .before .before .loop .inv .0 ∙ judgment-refused _ _ _ _ _ _ (c .before .before .before .before .before .before .before .before .before .before .loop-test .taken) (rw (c .walked-refusal .ensures, ← c .before .before .before .before .before .before .before .judgment .ensures, c .before .enum-told .given .1)))
 
-sub-left : tie.Need-sub-left Inv-loop μ-loop
-sub-left c = search needs
-
-loop-less : tie.Need-loop-less Inv-loop μ-loop
-loop-less c = search needs
-
 loop-again : tie.Need-loop-again Inv-loop μ-loop
 loop-again c = (c .before .before .before .before .before .before .before .before .before .before .before .loop .inv .0 ∙ judgments-on _ _ _ _ _ _ (c .before .before .before .before .before .before .before .before .before .before .loop-test .taken) (rw (← c .before .before .before .before .before .before .before .judgment .ensures, c .before .j .given .1)), c .before .before .before .before .before .before .vars .given ∙ c .before .before .before .before .before .before .before .before .before .before .before .loop .inv .1, c .before .before .before .before .heap .given ∙ c .before .before .before .before .before .before .before .before .before .before .before .loop .inv .2)
-
-close-requires : tie.Need-close-requires Inv-loop μ-loop
-close-requires c κs = tt
 
 same-length-3 : tie.Need-same-length-3 Inv-loop μ-loop
 same-length-3 c = c .before .before .loop .inv .1
@@ -61,21 +40,5 @@ returns-2 c = sym (c .before .before .loop .inv .0 ∙ judgments-end _ _ _ _ _ _
 pub judgments-spec : {M : Type 1} → statement M
 judgments-spec =
     tie.close
-    (tie.spec
-    Inv-loop
-    μ-loop
-    loop-holds
-    judgment-requires
-    enum-known-j
-    enum-told
-    walked-refusal-requires
-    same-length
-    same-length-2
-    returns
-    sub-left
-    loop-less
-    loop-again
-    close-requires
-    same-length-3
-    same-length-4
-    returns-2)
+    (tie.spec Inv-loop μ-loop loop-holds (λ c κs. tt) (λ c. c .match .keys1) (λ c. c .match .keys2) (λ c κs. tt) same-length same-length-2
+    returns (λ c. search needs) (λ c. search needs) loop-again (λ c κs. tt) same-length-3 same-length-4 returns-2)

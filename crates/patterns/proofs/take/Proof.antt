@@ -3,45 +3,6 @@ use Rattle.patterns.specs.Lent.{partDue}
 use Rattle.patterns.proofs.take.Statement.{statement}
 use Rattle.patterns.proofs.take.Tie as tie
 
-lent-walk-requires : tie.Need-lent-walk-requires
-lent-walk-requires c κs = tt
-
-enum-told : tie.Need-enum-told
-enum-told c = c .match .keys1
-
-close-requires : tie.Need-close-requires
-close-requires c κs = tt
-
-keep-whole-requires : tie.Need-keep-whole-requires
-keep-whole-requires c κs = tt
-
-enum-known-due : tie.Need-enum-known-due
-enum-known-due c = c .match .keys2
-
-next-item-requires : tie.Need-next-item-requires
-next-item-requires c κs = tt
-
-enum-known-i : tie.Need-enum-known-i
-enum-known-i c = c .match2 .keys1
-
-enum-known-i-2 : tie.Need-enum-known-i-2
-enum-known-i-2 c = c .match2 .keys2
-
-leaf-requires : tie.Need-leaf-requires
-leaf-requires c κs = tt
-
-keep-whole-requires-2 : tie.Need-keep-whole-requires-2
-keep-whole-requires-2 c κs = tt
-
-enum-known-i-3 : tie.Need-enum-known-i-3
-enum-known-i-3 c = c .match2 .keys3
-
-compound-head-requires : tie.Need-compound-head-requires
-compound-head-requires c κs = tt
-
-keep-head-requires : tie.Need-keep-head-requires
-keep-head-requires c κs = tt
-
 returns : tie.Need-returns
 unfolding partDue
 returns c = rw (c .keep-whole .ensures, c .before .before .before .before .enum-told .given .1, ← c .before .before .before .before .before .before .lent-walk .ensures, ← c .before .before .before .close .ensures)
@@ -70,24 +31,6 @@ returns-4 c = rw (c .keep-head .ensures, c .before .before .before .before .befo
 pub take-spec : {M : Type 1} → statement M
 take-spec =
     tie.close
-    (tie.spec
-    lent-walk-requires
-    enum-told
-    close-requires
-    keep-whole-requires
-    enum-known-due
-    next-item-requires
-    enum-known-i
-    enum-known-i-2
-    leaf-requires
-    keep-whole-requires-2
-    enum-known-i-3
-    compound-head-requires
-    keep-head-requires
-    returns
-    returns-2
-    same-length
-    same-length-2
-    returns-3
-    same-length-3
-    returns-4)
+    (tie.spec (λ c κs. tt) (λ c. c .match .keys1) (λ c κs. tt) (λ c κs. tt) (λ c. c .match .keys2) (λ c κs. tt) (λ c. c .match2 .keys1)
+    (λ c. c .match2 .keys2) (λ c κs. tt) (λ c κs. tt) (λ c. c .match2 .keys3) (λ c κs. tt) (λ c κs. tt) returns returns-2 same-length
+    same-length-2 returns-3 same-length-3 returns-4)

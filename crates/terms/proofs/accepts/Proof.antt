@@ -15,38 +15,14 @@ Inv-loop heap store stack c from n k₀ k = (k ≤ n) × (accepted (headOn store
 abbrev μ-loop : tie.MeasureT-loop
 μ-loop heap store stack c from n k₀ k = n - k
 
-arity-requires : tie.Need-arity-requires Inv-loop μ-loop
-arity-requires c κs = tt
-
 returns : tie.Need-returns Inv-loop μ-loop
 returns c = sym (not-accepted _ _ _ _ (rw (← c .before .arity .ensures) (c .if1 .taken)))
 
 loop-holds : tie.Need-loop-holds Inv-loop μ-loop
 loop-holds c = (search needs, accepted-first _ _ _ _ (rw (← c .before .arity .ensures) (c .if1 .left)))
 
-cast-at : tie.Need-cast-at Inv-loop μ-loop
-cast-at c = search needs
-
-add-at : tie.Need-add-at Inv-loop μ-loop
-add-at c = search needs
-
-at-requires : tie.Need-at-requires Inv-loop μ-loop
-at-requires c κs = tt
-
-node-head-requires : tie.Need-node-head-requires Inv-loop μ-loop
-node-head-requires c κs = tt
-
-fits-input-requires : tie.Need-fits-input-requires Inv-loop μ-loop
-fits-input-requires c κs = tt
-
 returns-2 : tie.Need-returns-2 Inv-loop μ-loop
 returns-2 c = sym (c .before .before .before .before .before .loop .inv .1 ∙ not-fit _ _ _ _ _ (c .before .before .before .before .loop-test .taken) (rw (← c .before .before .before .at .ensures, ← c .before .before .node-head .ensures, ← c .before .fits-input .ensures) (not-true _ (c .if2 .taken))))
-
-add-k : tie.Need-add-k Inv-loop μ-loop
-add-k c = search needs
-
-loop-less : tie.Need-loop-less Inv-loop μ-loop
-loop-less c = search needs
 
 loop-again : tie.Need-loop-again Inv-loop μ-loop
 loop-again c = (search needs, c .before .before .before .before .before .loop .inv .1 ∙ fit-on _ _ _ _ _ (c .before .before .before .before .loop-test .taken) (rw (← c .before .before .before .at .ensures, ← c .before .before .node-head .ensures, ← c .before .fits-input .ensures) (not-false _ (c .if2 .left))))
@@ -57,19 +33,5 @@ returns-3 c = sym (c .before .loop .inv .1 ∙ fit-end _ _ _ _ _ (c .loop-test .
 pub accepts-spec : {M : Type 1} → statement M
 accepts-spec =
     tie.close
-    (tie.spec
-    Inv-loop
-    μ-loop
-    arity-requires
-    returns
-    loop-holds
-    cast-at
-    add-at
-    at-requires
-    node-head-requires
-    fits-input-requires
-    returns-2
-    add-k
-    loop-less
-    loop-again
-    returns-3)
+    (tie.spec Inv-loop μ-loop (λ c κs. tt) returns loop-holds (λ c. search needs) (λ c. search needs) (λ c κs. tt) (λ c κs. tt) (λ c κs. tt)
+    returns-2 (λ c. search needs) (λ c. search needs) loop-again returns-3)

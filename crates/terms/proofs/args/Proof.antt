@@ -4,24 +4,6 @@ use borrow.Author.Needs.{needs}
 use Rattle.terms.proofs.args.Statement.{statement}
 use Rattle.terms.proofs.args.Tie as tie
 
-lend-requires : tie.Need-lend-requires
-lend-requires c κs = tt
-
-add-max : tie.Need-add-max
-add-max c = search needs
-
-args-requires : tie.Need-args-requires
-args-requires c κs = refl
-
-enum-known-a : tie.Need-enum-known-a
-enum-known-a c = c .match .keys1
-
-enum-known-a-2 : tie.Need-enum-known-a-2
-enum-known-a-2 c = c .match .keys2
-
-reader-in-requires : tie.Need-reader-in-requires
-reader-in-requires c κs = tt
-
 same-length : tie.Need-same-length
 same-length c = c .before .before .before .before .before .before .store .given
 
@@ -43,16 +25,5 @@ returns-2 c = rw (← c .before .before .before .before .before .before .before 
 pub args-spec : {M : Type 1} → statement M
 args-spec =
     tie.close
-    (tie.spec
-    lend-requires
-    add-max
-    args-requires
-    enum-known-a
-    enum-known-a-2
-    reader-in-requires
-    same-length
-    same-length-2
-    returns
-    same-length-3
-    same-length-4
-    returns-2)
+    (tie.spec (λ c κs. tt) (λ c. search needs) (λ c κs. refl) (λ c. c .match .keys1) (λ c. c .match .keys2) (λ c κs. tt) same-length
+    same-length-2 returns same-length-3 same-length-4 returns-2)

@@ -3,18 +3,6 @@ use Rattle.terms.specs.Terms.{atomTerm}
 use Rattle.terms.proofs.atom_term.Statement.{statement}
 use Rattle.terms.proofs.atom_term.Tie as tie
 
-is-question-requires : tie.Need-is-question-requires
-is-question-requires c κs = tt
-
-meaning-requires : tie.Need-meaning-requires
-meaning-requires c κs = tt
-
-enum-known-known : tie.Need-enum-known-known
-enum-known-known c = c .match .keys1
-
-enum-told : tie.Need-enum-told
-enum-told c = c .match .keys2
-
 returns : tie.Need-returns
 unfolding atomTerm
 returns c = rw (← c .before .before .before .before .is-question .ensures, c .before .before .before .if1 .taken, ← c .before .before .meaning .ensures, c .enum-told .given .1)
@@ -22,18 +10,6 @@ returns c = rw (← c .before .before .before .before .is-question .ensures, c .
 returns-2 : tie.Need-returns-2
 unfolding atomTerm
 returns-2 c = rw (← c .before .before .before .before .before .is-question .ensures, c .before .before .before .before .if1 .taken, ← c .before .before .before .meaning .ensures, c .before .known .given .1)
-
-constructor-due-requires : tie.Need-constructor-due-requires
-constructor-due-requires c κs = tt
-
-enum-known-h : tie.Need-enum-known-h
-enum-known-h c = c .match2 .keys1
-
-enum-known-h-2 : tie.Need-enum-known-h-2
-enum-known-h-2 c = c .match2 .keys2
-
-make-requires : tie.Need-make-requires
-make-requires c κs = tt
 
 returns-3 : tie.Need-returns-3
 unfolding atomTerm
@@ -52,18 +28,5 @@ returns-4 c = rw (← c .before .before .before .before .before .before .before 
 pub atom-term-spec : {M : Type 1} → statement M
 atom-term-spec =
     tie.close
-    (tie.spec
-    is-question-requires
-    meaning-requires
-    enum-known-known
-    enum-told
-    returns
-    returns-2
-    constructor-due-requires
-    enum-known-h
-    enum-known-h-2
-    make-requires
-    returns-3
-    same-length
-    same-length-2
-    returns-4)
+    (tie.spec (λ c κs. tt) (λ c κs. tt) (λ c. c .match .keys1) (λ c. c .match .keys2) returns returns-2 (λ c κs. tt) (λ c. c .match2 .keys1)
+    (λ c. c .match2 .keys2) (λ c κs. tt) returns-3 same-length same-length-2 returns-4)

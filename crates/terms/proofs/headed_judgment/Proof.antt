@@ -4,36 +4,9 @@ use Rattle.terms.specs.Terms.{headedJudgment}
 use Rattle.terms.proofs.headed_judgment.Statement.{statement}
 use Rattle.terms.proofs.headed_judgment.Tie as tie
 
-predicate-due-requires : tie.Need-predicate-due-requires
-predicate-due-requires c κs = tt
-
-enum-known-h : tie.Need-enum-known-h
-enum-known-h c = c .match .keys1
-
-enum-told : tie.Need-enum-told
-enum-told c = c .match .keys2
-
-numbered-refusal-requires : tie.Need-numbered-refusal-requires
-numbered-refusal-requires c κs = tt
-
 returns : tie.Need-returns
 unfolding headedJudgment
 returns c = rw (c .numbered-refusal .ensures, ← c .before .before .before .predicate-due .ensures, c .before .enum-told .given .1)
-
-plus-requires : tie.Need-plus-requires
-plus-requires c κs = tt
-
-args-requires : tie.Need-args-requires
-args-requires c κs = tt
-
-enum-known-a : tie.Need-enum-known-a
-enum-known-a c = c .match2 .keys1
-
-enum-told-2 : tie.Need-enum-told-2
-enum-told-2 c = c .match2 .keys2
-
-numbered-refusal-requires-2 : tie.Need-numbered-refusal-requires-2
-numbered-refusal-requires-2 c κs = tt
 
 same-length : tie.Need-same-length
 same-length c = c .before .before .before .before .before .before .store .given
@@ -44,9 +17,6 @@ same-length-2 c = c .before .before .before .before .stack .given
 returns-2 : tie.Need-returns-2
 unfolding headedJudgment
 returns-2 c = rw (← c .before .before .before .before .before .before .before .before .before .before .before .before .before .before .predicate-due .ensures, c .before .before .before .before .before .before .before .before .before .before .before .before .h .given .1, ← c .before .before .before .before .before .before .before .before .before .before .plus .ensures, ← c .before .before .before .before .before .before .before .args2 .ensures, c .numbered-refusal2 .ensures, c .before .enum-told2 .given .1)
-
-make-requires : tie.Need-make-requires
-make-requires c κs = tt
 
 same-length-3 : tie.Need-same-length-3
 same-length-3 c = c .before .before .before .store2 .given ∙ c .before .before .before .before .before .before .before .before .before .before .before .before .before .store .given
@@ -61,21 +31,6 @@ returns-3 c = rw (← c .before .before .before .before .before .before .before 
 pub headed-judgment-spec : {M : Type 1} → statement M
 headed-judgment-spec =
     tie.close
-    (tie.spec
-    predicate-due-requires
-    enum-known-h
-    enum-told
-    numbered-refusal-requires
-    returns
-    plus-requires
-    args-requires
-    enum-known-a
-    enum-told-2
-    numbered-refusal-requires-2
-    same-length
-    same-length-2
-    returns-2
-    make-requires
-    same-length-3
-    same-length-4
-    returns-3)
+    (tie.spec (λ c κs. tt) (λ c. c .match .keys1) (λ c. c .match .keys2) (λ c κs. tt) returns (λ c κs. tt) (λ c κs. tt)
+    (λ c. c .match2 .keys1) (λ c. c .match2 .keys2) (λ c κs. tt) same-length same-length-2 returns-2 (λ c κs. tt) same-length-3
+    same-length-4 returns-3)

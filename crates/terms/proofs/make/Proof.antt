@@ -2,15 +2,6 @@
 use Rattle.terms.proofs.make.Statement.{statement}
 use Rattle.terms.proofs.make.Tie as tie
 
-node-requires : tie.Need-node-requires
-node-requires c κs = tt
-
-enum-known-a : tie.Need-enum-known-a
-enum-known-a c = c .match .keys1
-
-enum-known-a-2 : tie.Need-enum-known-a-2
-enum-known-a-2 c = c .match .keys2
-
 same-length : tie.Need-same-length
 same-length c = c .before .before .before .before .before .before .store .given
 
@@ -32,13 +23,5 @@ returns-2 c = rw (← c .before .before .before .before .before .before .before 
 pub make-spec : {M : Type 1} → statement M
 make-spec =
     tie.close
-    (tie.spec
-    node-requires
-    enum-known-a
-    enum-known-a-2
-    same-length
-    same-length-2
-    returns
-    same-length-3
-    same-length-4
+    (tie.spec (λ c κs. tt) (λ c. c .match .keys1) (λ c. c .match .keys2) same-length same-length-2 returns same-length-3 same-length-4
     returns-2)

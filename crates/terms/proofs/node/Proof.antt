@@ -6,45 +6,9 @@ use borrow.Author.Needs.{needs}
 use Rattle.terms.proofs.node.Statement.{statement}
 use Rattle.terms.proofs.node.Tie as tie
 
-plus-requires : tie.Need-plus-requires
-plus-requires c κs = tt
-
-accepts-requires : tie.Need-accepts-requires
-accepts-requires c κs = tt
-
-same-length : tie.Need-same-length
-same-length c = refl
-
-same-length-2 : tie.Need-same-length-2
-same-length-2 c = refl
-
 returns : tie.Need-returns
 unfolding make
 returns c = λ r. rw (← c .before .before .plus .ensures, sym (c .before .accepts .ensures) ∙ not-true _ (c .if1 .taken))
-
-put-requires : tie.Need-put-requires
-put-requires c κs = tt
-
-add-words-part : tie.Need-add-words-part
-add-words-part c = search needs
-
-add-words-part-2 : tie.Need-add-words-part-2
-add-words-part-2 c = search needs
-
-words-part-requires : tie.Need-words-part-requires
-words-part-requires c κs = tt
-
-intern-requires : tie.Need-intern-requires
-intern-requires c κs = tt
-
-enum-known-answer : tie.Need-enum-known-answer
-enum-known-answer c = c .match .keys1
-
-enum-known-answer-2 : tie.Need-enum-known-answer-2
-enum-known-answer-2 c = c .match .keys2
-
-enum-told : tie.Need-enum-told
-enum-told c = c .match .keys3
 
 same-length-3 : tie.Need-same-length-3
 same-length-3 c = c .before .before .before .before .store .given
@@ -79,26 +43,6 @@ returns-4 c = λ r. rw (← c .before .before .before .before .before .before .b
 pub node-spec : {M : Type 1} → statement M
 node-spec =
     tie.close
-    (tie.spec
-    plus-requires
-    accepts-requires
-    same-length
-    same-length-2
-    returns
-    put-requires
-    add-words-part
-    add-words-part-2
-    words-part-requires
-    intern-requires
-    enum-known-answer
-    enum-known-answer-2
-    enum-told
-    same-length-3
-    same-length-4
-    returns-2
-    same-length-5
-    same-length-6
-    returns-3
-    same-length-7
-    same-length-8
-    returns-4)
+    (tie.spec (λ c κs. tt) (λ c κs. tt) (λ c. refl) (λ c. refl) returns (λ c κs. tt) (λ c. search needs) (λ c. search needs) (λ c κs. tt)
+    (λ c κs. tt) (λ c. c .match .keys1) (λ c. c .match .keys2) (λ c. c .match .keys3) same-length-3 same-length-4 returns-2 same-length-5
+    same-length-6 returns-3 same-length-7 same-length-8 returns-4)

@@ -3,15 +3,6 @@ use Rattle.terms.specs.Terms.{predicateDue}
 use Rattle.terms.proofs.predicate_due.Statement.{statement}
 use Rattle.terms.proofs.predicate_due.Tie as tie
 
-find-predicate-requires : tie.Need-find-predicate-requires
-find-predicate-requires c κs = tt
-
-enum-known-found : tie.Need-enum-known-found
-enum-known-found c = c .match .keys1
-
-enum-told : tie.Need-enum-told
-enum-told c = c .match .keys2
-
 returns : tie.Need-returns
 unfolding predicateDue
 returns c = rw (← c .before .before .find-predicate .ensures, c .enum-told .given .1)
@@ -21,4 +12,4 @@ unfolding predicateDue
 returns-2 c = rw (← c .before .before .before .find-predicate .ensures, c .before .found .given .1)
 
 pub predicate-due-spec : {M : Type 1} → statement M
-predicate-due-spec = tie.close (tie.spec find-predicate-requires enum-known-found enum-told returns returns-2)
+predicate-due-spec = tie.close (tie.spec (λ c κs. tt) (λ c. c .match .keys1) (λ c. c .match .keys2) returns returns-2)

@@ -6,47 +6,8 @@ use Rattle.terms.proofs.Within.{done, term-begun, opened-within}
 use Rattle.terms.proofs.term.Statement.{statement}
 use Rattle.terms.proofs.term.Tie as tie
 
-lend-requires : tie.Need-lend-requires
-lend-requires c κs = tt
-
-begin-requires : tie.Need-begin-requires
-begin-requires c κs = tt
-
-enum-known-b : tie.Need-enum-known-b
-enum-known-b c = c .match .keys1
-
-enum-told : tie.Need-enum-told
-enum-told c = c .match .keys2
-
-enum-known-b-2 : tie.Need-enum-known-b-2
-enum-known-b-2 c = c .match .keys3
-
-reader-in-requires : tie.Need-reader-in-requires
-reader-in-requires c κs = tt
-
-enum-known-b-3 : tie.Need-enum-known-b-3
-enum-known-b-3 c = c .match .keys4
-
-plus-requires : tie.Need-plus-requires
-plus-requires c κs = tt
-
-reader-in-requires-2 : tie.Need-reader-in-requires-2
-reader-in-requires-2 c κs = tt
-
 sub-args : tie.Need-sub-args
 sub-args c = omega (arith, opened-within _ _ _ _ _ _ _ _ _ _ _ _ _ (c .before .before .before .before .before .before .before .before .before .before .before .before .begin .ensures) (c .before .before .before .before .before .before .b3 .given .1))
-
-args-requires : tie.Need-args-requires
-args-requires c κs = tt
-
-enum-known-a : tie.Need-enum-known-a
-enum-known-a c = c .match2 .keys1
-
-enum-told-2 : tie.Need-enum-told-2
-enum-told-2 c = c .match2 .keys2
-
-numbered-refusal-requires : tie.Need-numbered-refusal-requires
-numbered-refusal-requires c κs = tt
 
 same-length : tie.Need-same-length
 same-length c = c .before .before .before .before .before .before .store2 .given ∙ c .before .before .before .before .before .before .before .before .before .before .before .before .before .before .before .before .before .before .before .store .given
@@ -65,9 +26,6 @@ same-length-4 c = c .before .before .before .before .before .stack2 .given ∙ c
 
 returns-2 : tie.Need-returns-2
 returns-2 c = rw (← c .before .before .before .before .before .before .before .before .before .before .before .before .before .before .before .before .before .before .before .before .before .before .before .before .before .lend .ensures, term-begun _ _ _ _ _ _ _ _ _, ← c .before .before .before .before .before .before .before .before .before .before .before .before .before .before .before .before .before .before .before .before .before .begin .ensures, c .before .before .before .before .before .before .before .before .before .before .before .before .before .before .before .b3 .given .1, ← c .before .before .before .before .before .before .before .before .before .before .before .before .before .plus .ensures, ← c .before .before .before .before .before .before .before .before .before .before .before .reader-in2 .ensures, ← c .before .before .before .before .before .before .before .before .args2 .ensures, c .before .before .a .given .1, eq-eqb _ _ (c .if1 .taken))
-
-make-requires : tie.Need-make-requires
-make-requires c κs = tt
 
 same-length-5 : tie.Need-same-length-5
 same-length-5 c = c .before .before .before .before .before .before .store .given
@@ -108,37 +66,7 @@ returns-6 c = rw (← c .before .before .before .before .before .before .before 
 pub term-spec : {M : Type 1} → statement M
 term-spec =
     tie.close
-    (tie.spec
-    lend-requires
-    begin-requires
-    enum-known-b
-    enum-told
-    enum-known-b-2
-    reader-in-requires
-    enum-known-b-3
-    plus-requires
-    reader-in-requires-2
-    sub-args
-    args-requires
-    enum-known-a
-    enum-told-2
-    numbered-refusal-requires
-    same-length
-    same-length-2
-    returns
-    same-length-3
-    same-length-4
-    returns-2
-    make-requires
-    same-length-5
-    same-length-6
-    returns-3
-    same-length-7
-    same-length-8
-    returns-4
-    same-length-9
-    same-length-10
-    returns-5
-    same-length-11
-    same-length-12
-    returns-6)
+    (tie.spec (λ c κs. tt) (λ c κs. tt) (λ c. c .match .keys1) (λ c. c .match .keys2) (λ c. c .match .keys3) (λ c κs. tt)
+    (λ c. c .match .keys4) (λ c κs. tt) (λ c κs. tt) sub-args (λ c κs. tt) (λ c. c .match2 .keys1) (λ c. c .match2 .keys2) (λ c κs. tt)
+    same-length same-length-2 returns same-length-3 same-length-4 returns-2 (λ c κs. tt) same-length-5 same-length-6 returns-3 same-length-7
+    same-length-8 returns-4 same-length-9 same-length-10 returns-5 same-length-11 same-length-12 returns-6)

@@ -4,24 +4,9 @@ use Rattle.lex.proofs.Looking.{peek-scanned}
 use Rattle.lex.proofs.Reader.peek.Statement.{statement}
 use Rattle.lex.proofs.Reader.peek.Tie as tie
 
-enum-known-ahead : tie.Need-enum-known-ahead
-enum-known-ahead c = c .match .keys1
-
 returns : tie.Need-returns
 unfolding answer peeked peekedBy
 returns c = rw (c .before .ahead .given .1)
-
-enum-told : tie.Need-enum-told
-enum-told c = c .match .keys2
-
-enum-known-read : tie.Need-enum-known-read
-enum-known-read c = c .match2 .keys1
-
-enum-told-2 : tie.Need-enum-told-2
-enum-told-2 c = c .match2 .keys2
-
-enum-told-3 : tie.Need-enum-told-3
-enum-told-3 c = c .match2 .keys3
 
 returns-2 : tie.Need-returns-2
 unfolding answer holding
@@ -38,4 +23,5 @@ returns-4 c = peek-scanned _ _ _ (c .before .before .before .enum-told .given .1
 pub peek-spec : {M : Type 1} → statement M
 peek-spec =
     tie.close
-    (tie.spec enum-known-ahead returns enum-told (λ c κs. tt) enum-known-read enum-told-2 enum-told-3 returns-2 returns-3 returns-4)
+    (tie.spec (λ c. c .match .keys1) returns (λ c. c .match .keys2) (λ c κs. tt) (λ c. c .match2 .keys1) (λ c. c .match2 .keys2)
+    (λ c. c .match2 .keys3) returns-2 returns-3 returns-4)

@@ -12,21 +12,6 @@ use Rattle.lex.proofs.lent.lend.Tie as tie
 holding : (r : Reader) (a : Ahead) → r .ahead ≡ a → after (r .at) (r .end) a ≡ r
 holding r a e = ap (λ (x : Ahead). after (r .at) (r .end) x) (sym e)
 
-enum-told : tie.Need-enum-told
-enum-told c = c .match .keys1
-
-enum-known-ahead : tie.Need-enum-known-ahead
-enum-known-ahead c = c .match .keys2
-
-enum-told-2 : tie.Need-enum-told-2
-enum-told-2 c = c .match2 .keys1
-
-enum-told-3 : tie.Need-enum-told-3
-enum-told-3 c = c .match2 .keys2
-
-enum-known-token : tie.Need-enum-known-token
-enum-known-token c = c .match2 .keys3
-
 returns : tie.Need-returns
 unfolding readerIn
 returns c = holding _ _ (c .enum-told .given .1)
@@ -46,13 +31,5 @@ returns-4 c = holding _ _ (c .before .before .before .before .ahead .given .1 �
 pub lend-spec : {M : Type 1} → statement M
 lend-spec =
     tie.close
-    (tie.spec
-    enum-told
-    enum-known-ahead
-    enum-told-2
-    enum-told-3
-    enum-known-token
-    returns
-    returns-2
-    returns-3
-    returns-4)
+    (tie.spec (λ c. c .match .keys1) (λ c. c .match .keys2) (λ c. c .match2 .keys1) (λ c. c .match2 .keys2) (λ c. c .match2 .keys3) returns
+    returns-2 returns-3 returns-4)

@@ -12,12 +12,6 @@ returns : tie.Need-returns
 unfolding first width value
 returns c = let e : c .before .before .args .s .now ≡ [] = empty _ (c .if1 .taken) in (rw e, rw e)
 
-shared-slice-read-b : tie.Need-shared-slice-read-b
-shared-slice-read-b c = search needs
-
-class-requires : tie.Need-class-requires
-class-requires c κs = tt
-
 cast-t8 : tie.Need-cast-t8
 cast-t8 c = omega (arith, c .before .before .shared-slice-known2 .given 0)
 
@@ -29,21 +23,8 @@ returns-3 : tie.Need-returns-3
 unfolding width value
 returns-3 c = let e = first-none (c .before .before .before .before .before .before .args .s .now) (omega arith) (c .before .before .before .shared-slice-known2 .given 0 .fits) (rw (c .before .before .class .ensures) at (c .if3 .taken)) in (ap width (sym e), ap value (sym e))
 
-longer-requires : tie.Need-longer-requires
-longer-requires c κs = tt
-
 returns-4 : tie.Need-returns-4
 returns-4 c = let e = first-longer (c .before .before .before .before .before .before .before .args .s .now) (omega arith) (c .before .before .before .before .shared-slice-known2 .given 0 .fits) (rw (c .before .before .before .class .ensures) at (lt-of-le-of-ne (c .before .before .if2 .left) (c .before .if3 .left))) in (c .longer .ensures .0 ∙ rw (e, c .before .before .before .class .ensures), c .longer .ensures .1 ∙ rw (e, c .before .before .before .class .ensures))
 
 pub first-of-spec : {M : Type 1} → statement M
-first-of-spec =
-    tie.close
-    (tie.spec
-    returns
-    shared-slice-read-b
-    class-requires
-    cast-t8
-    returns-2
-    returns-3
-    longer-requires
-    returns-4)
+first-of-spec = tie.close (tie.spec returns (λ c. search needs) (λ c κs. tt) cast-t8 returns-2 returns-3 (λ c κs. tt) returns-4)

@@ -9,28 +9,11 @@ use Rattle.lex.proofs.utf8.look.Tie as tie
 returns : tie.Need-returns
 returns c = look-past (c .before .before .args .text .now) (c .before .before .args .p) (c .if1 .taken)
 
-shared-slice-read-class : tie.Need-shared-slice-read-class
-shared-slice-read-class c = search needs
-
-class-requires : tie.Need-class-requires
-class-requires c κs = tt
-
 returns-2 : tie.Need-returns-2
 returns-2 c = look-one (c .before .before .before .before .before .args .text .now) (c .before .before .before .before .before .args .p) (c .before .before .before .if1 .left) (c .before .before .shared-slice-known2 .given (c .before .before .before .before .before .args .p) .fits) (c .before .class .result) (c .before .class .ensures) (c .if2 .taken)
-
-look-longer-requires : tie.Need-look-longer-requires
-look-longer-requires c κs = tt
 
 returns-3 : tie.Need-returns-3
 returns-3 c = let f = longer-is (c .before .before .before .before .before .before .args .text .now) (c .before .before .before .before .before .before .args .p) (c .before .before .class .result) (c .before .before .before .before .if1 .left) (c .before .before .before .shared-slice-known2 .given (c .before .before .before .before .before .before .args .p) .fits) (c .before .before .class .ensures) (c .before .if2 .left) in (c .look-longer .ensures .0 ∙ ap kindAt f, c .look-longer .ensures .1 ∙ ap width f)
 
 pub look-spec : {M : Type 1} → statement M
-look-spec =
-    tie.close
-    (tie.spec
-    returns
-    shared-slice-read-class
-    class-requires
-    returns-2
-    look-longer-requires
-    returns-3)
+look-spec = tie.close (tie.spec returns (λ c. search needs) (λ c κs. tt) returns-2 (λ c κs. tt) returns-3)

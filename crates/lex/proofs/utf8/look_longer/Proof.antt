@@ -10,26 +10,8 @@ returns c = longer-past (c .before .before .args .text .now) (c .before .before 
 returns-2 : tie.Need-returns-2
 returns-2 c = longer-never (c .before .before .before .args .text .now) (c .before .before .before .args .p) (c .before .before .before .args .c) (c .if2 .taken)
 
-sub-longer : tie.Need-sub-longer
-sub-longer c = search needs
-
-part-longer-start : tie.Need-part-longer-start
-part-longer-start c = search needs
-
-part-longer-end : tie.Need-part-longer-end
-part-longer-end c = search needs
-
-shared-slice-read-longer : tie.Need-shared-slice-read-longer
-shared-slice-read-longer c = search needs
-
-longer-requires : tie.Need-longer-requires
-longer-requires c κs = tt
-
 returns-3 : tie.Need-returns-3
 returns-3 c = longer-none (c .before .before .before .before .before .before .before .before .args .text .now) (c .before .before .before .before .before .before .before .before .args .p) (c .before .before .before .before .before .before .before .before .args .c) (c .before .before .before .before .before .if2 .left) (c .before .before .longer .result .width) (c .before .before .longer .ensures .0) (c .if3 .taken)
-
-kind-of-requires : tie.Need-kind-of-requires
-kind-of-requires c κs = tt
 
 returns-4 : tie.Need-returns-4
 returns-4 c = longer-seen (c .before .before .before .before .before .before .before .before .before .args .text .now) (c .before .before .before .before .before .before .before .before .before .args .p) (c .before .before .before .before .before .before .before .before .before .args .c) (c .before .before .before .before .before .before .if2 .left) (c .before .before .before .longer .result .width) (c .before .before .before .longer .ensures .0) (c .before .before .before .longer .result .value) (c .kind-of .result) (c .before .before .before .longer .ensures .1) (c .before .if3 .left) (c .kind-of .ensures)
@@ -37,14 +19,5 @@ returns-4 c = longer-seen (c .before .before .before .before .before .before .be
 pub look-longer-spec : {M : Type 1} → statement M
 look-longer-spec =
     tie.close
-    (tie.spec
-    returns
-    returns-2
-    sub-longer
-    part-longer-start
-    part-longer-end
-    shared-slice-read-longer
-    longer-requires
-    returns-3
-    kind-of-requires
-    returns-4)
+    (tie.spec returns returns-2 (λ c. search needs) (λ c. search needs) (λ c. search needs) (λ c. search needs) (λ c κs. tt) returns-3
+    (λ c κs. tt) returns-4)

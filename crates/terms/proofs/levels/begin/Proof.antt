@@ -3,27 +3,6 @@ use Rattle.terms.specs.Levels.{begun}
 use Rattle.terms.proofs.levels.begin.Statement.{statement}
 use Rattle.terms.proofs.levels.begin.Tie as tie
 
-reader-in-requires : tie.Need-reader-in-requires
-reader-in-requires c κs = tt
-
-look-requires : tie.Need-look-requires
-look-requires c κs = tt
-
-enum-known-next : tie.Need-enum-known-next
-enum-known-next c = c .match .keys1
-
-enum-known-next-2 : tie.Need-enum-known-next-2
-enum-known-next-2 c = c .match .keys2
-
-lend-requires : tie.Need-lend-requires
-lend-requires c κs = tt
-
-enum-known-next-3 : tie.Need-enum-known-next-3
-enum-known-next-3 c = c .match .keys3
-
-item-requires : tie.Need-item-requires
-item-requires c κs = tt
-
 returns : tie.Need-returns
 unfolding begun
 returns c = rw (← c .before .before .before .before .reader-in .ensures, ← c .before .before .before .look .ensures, c .before .next .given .1)
@@ -45,16 +24,5 @@ returns-3 c = rw (← c .before .before .before .before .before .before .before 
 pub begin-spec : {M : Type 1} → statement M
 begin-spec =
     tie.close
-    (tie.spec
-    reader-in-requires
-    look-requires
-    enum-known-next
-    enum-known-next-2
-    lend-requires
-    enum-known-next-3
-    item-requires
-    returns
-    returns-2
-    same-length
-    same-length-2
-    returns-3)
+    (tie.spec (λ c κs. tt) (λ c κs. tt) (λ c. c .match .keys1) (λ c. c .match .keys2) (λ c κs. tt) (λ c. c .match .keys3) (λ c κs. tt)
+    returns returns-2 same-length same-length-2 returns-3)
