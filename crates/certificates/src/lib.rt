@@ -21,7 +21,7 @@ use steps::Stepped;
 use tables::Kept;
 use tables::Open;
 use tables::Tally;
-use terms::Numbered;
+use nodes::Numbered;
 
 // The three forms of a certificate, by their heads.
 pub enum Keyword {
@@ -94,7 +94,7 @@ pub fn def_form(
         q,
     );
     let Numbered::Got(k, p) = a else {
-        return Form::Refused(terms::numbered_refusal(a));
+        return Form::Refused(nodes::numbered_refusal(a));
     };
     let known = tables::find_def(table, 128, text, s, t);
     let Found::Nothing = known else {

@@ -12,7 +12,7 @@ use asking::Passed;
 use lex::Reader;
 use names::Found;
 use tables::Tally;
-use terms::Numbered;
+use nodes::Numbered;
 
 // How many goals, abbreviations and steps there are after a form, and the reader after it.
 pub enum Form {
@@ -97,7 +97,7 @@ pub fn goal(
         q,
     );
     let Numbered::Got(k, p) = j else {
-        return Form::Refused(terms::numbered_refusal(j));
+        return Form::Refused(nodes::numbered_refusal(j));
     };
     let c = asking::closing_due(text, p);
     let Passed::To(o) = c else {

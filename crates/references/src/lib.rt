@@ -2,7 +2,7 @@
 ghost use mathlib.Core.Path.{_≡_};
 ghost use Rattle.outcomes.specs.Outcomes.{refusal};
 ghost use Rattle.outcomes.specs.Leaving.{_leaving_};
-ghost use Rattle.terms.specs.Terms.{numbered};
+ghost use Rattle.nodes.specs.Nodes.{numbered};
 ghost use Rattle.references.specs.References as models;
 use asking::Look;
 use asking::Named;
@@ -10,7 +10,7 @@ use asking::Passed;
 use lex::Reader;
 use names::Found;
 use numerals::Number;
-use terms::Numbered;
+use nodes::Numbered;
 
 // A number as the text has it, and the reader after it.
 pub enum Indexed {
@@ -109,7 +109,7 @@ pub fn counted_references(
 {
     let a = references(text, stack, reader);
     let Numbered::Got(n, q) = a else {
-        return Numbered::Refused(terms::numbered_refusal(a));
+        return Numbered::Refused(nodes::numbered_refusal(a));
     };
     if n != theory_reading::premise_count(heap, rule) {
         return Numbered::Refused(20);

@@ -12,7 +12,8 @@ use Rattle.items.specs.Items.{question}
 use Rattle.theory_reading.specs.Reading.{variableFound, sortOfVariable}
 use Rattle.theory_reading.specs.Storing.{Areas, before}
 use Rattle.asking.specs.Asking.{inForm, Ahead, closing, member, atomDue, listDue, closingDue, closingNext}
-use Rattle.terms.specs.Terms.{term, headedJudgment, sortOf}
+use Rattle.nodes.specs.Nodes.{sortOf}
+use Rattle.terms.specs.Terms.{term, headedJudgment}
 use Rattle.matching.specs.Matching.{bindingOf, bindingAt}
 
 -- The store and the stack, then the theory's area with its bindings.

@@ -3,7 +3,7 @@
 ghost use mathlib.Core.Path.{_≡_};
 ghost use Rattle.outcomes.specs.Leaving.{_leaving_};
 ghost use Rattle.asking.specs.Asking.{passed};
-ghost use Rattle.terms.specs.Terms.{numbered};
+ghost use Rattle.nodes.specs.Nodes.{numbered};
 ghost use Rattle.step_items.specs.StepItems as models;
 use asking::Look;
 use asking::Named;
@@ -11,7 +11,7 @@ use asking::Passed;
 use items::places;
 use lex::Reader;
 use names::Found;
-use terms::Numbered;
+use nodes::Numbered;
 
 // "`(?v T)`: unknown v 12, T, closing 10, bound already or wrong sort 21." The name v was asked for: an atom with these bounds.
 pub fn binding(
@@ -37,7 +37,7 @@ pub fn binding(
     };
     let a = terms::term(text, rules, heap, table, store, stack, top, 255, reader);
     let Numbered::Got(k, q) = a else {
-        return Passed::Refused(terms::numbered_refusal(a));
+        return Passed::Refused(nodes::numbered_refusal(a));
     };
     let c = asking::closing_due(text, q);
     let Passed::To(p) = c else {
@@ -46,7 +46,7 @@ pub fn binding(
     if words::at(heap, places::BINDINGS + v as usize) != 0 {
         return Passed::Refused(21);
     }
-    if terms::sort_of(heap, store, k) != theory_reading::variable_sort(heap, rule, v) {
+    if nodes::sort_of(heap, store, k) != theory_reading::variable_sort(heap, rule, v) {
         return Passed::Refused(21);
     }
     matching::set_binding(heap, v, words::plus(k, 1));
@@ -85,7 +85,7 @@ pub fn stated(
         reader,
     );
     let Numbered::Got(k, q) = j else {
-        return Numbered::Refused(terms::numbered_refusal(j));
+        return Numbered::Refused(nodes::numbered_refusal(j));
     };
     if word != 0 {
         return Numbered::Refused(22);
@@ -190,7 +190,7 @@ pub fn items(
             Look::Member(q) => {
                 let a = item(text, rules, table, store, stack, heap, rule, top, word, q);
                 let Numbered::Got(k, p) = a else {
-                    return Numbered::Refused(terms::numbered_refusal(a));
+                    return Numbered::Refused(nodes::numbered_refusal(a));
                 };
                 r = p;
                 word = k;

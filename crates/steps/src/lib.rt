@@ -1,11 +1,11 @@
 // A step of a certificate, which is read whole before it is kept.
 ghost use mathlib.Core.Path.{_≡_};
 ghost use Rattle.outcomes.specs.Leaving.{_leaving_};
-ghost use Rattle.terms.specs.Terms.{numbered};
+ghost use Rattle.nodes.specs.Nodes.{numbered};
 ghost use Rattle.steps.specs.Steps as models;
 use lex::Reader;
 use matching::Concluded;
-use terms::Numbered;
+use nodes::Numbered;
 
 // A step's judgment by its number, its rule's address, the place of its references in the certificate, and the reader after its items.
 pub enum Stepped {
@@ -34,7 +34,7 @@ pub fn items_judged(
     matching::unbind(heap, variables);
     let i = step_items::items(text, rules, table, store, stack, heap, rule, n, reader);
     let Numbered::Got(word, q) = i else {
-        return Numbered::Refused(terms::numbered_refusal(i));
+        return Numbered::Refused(nodes::numbered_refusal(i));
     };
     let c = matching::conclude(
         store,
@@ -71,16 +71,16 @@ pub fn step(
 {
     let h = references::rule_due(text, rules, heap, steps, reader);
     let Numbered::Got(e, r) = h else {
-        return Stepped::Refused(terms::numbered_refusal(h));
+        return Stepped::Refused(nodes::numbered_refusal(h));
     };
     let place = r.at;
     let c = references::counted_references(text, heap, stack, e, r);
     let Numbered::Got(n, q) = c else {
-        return Stepped::Refused(terms::numbered_refusal(c));
+        return Stepped::Refused(nodes::numbered_refusal(c));
     };
     let i = items_judged(text, rules, table, store, stack, heap, steps, e, n, q);
     let Numbered::Got(j, p) = i else {
-        return Stepped::Refused(terms::numbered_refusal(i));
+        return Stepped::Refused(nodes::numbered_refusal(i));
     };
     Stepped::Judged(j, e, place, p)
 }

@@ -47,7 +47,7 @@ use Rattle.tables.specs.Representation.{Defs}
 use Rattle.asking.specs.Asking.{Ahead}
 use Rattle.asking_laws.proofs.Places.{Left, At, at-less, at-within}
 use Rattle.asking_laws.proofs.Asking.{WordMet, word-met, word-law, GroupMet, closing-law, Looked, look-closed, look-bad, look-ended, look-item, look-law}
-use Rattle.terms.specs.Terms.{sortOf}
+use Rattle.nodes.specs.Nodes.{sortOf}
 use Rattle.terms_laws.proofs.Reading.{asked-yes, Ready}
 use Rattle.terms_laws.proofs.Judgments.{lifted, AskedRead, ask-term-law, headed-law}
 use Rattle.matching.specs.Matching.{bindingOf, bindingAt}

@@ -12,14 +12,15 @@ use Rattle.outcomes.specs.Leaving.{Did, _leaving_, _>>=_}
 use Rattle.words.specs.Sums.{sum32}
 use Rattle.theory_reading.specs.Storing.{Areas}
 use Rattle.asking.specs.Asking.{Met, atom, list, Ahead, closing, member, itemDue, closingNext}
-use Rattle.terms.specs.Terms.{make, atomTerm, headDue, oneMore, argumentsFrom, termOf, term, arguments}
-use Rattle.terms.specs.declared.Number.{Number}
-use Rattle.terms.specs.declared.Number.the-variants.{Is, Refused}
+use Rattle.nodes.specs.Nodes.{given, make, atomTerm, headDue}
+use Rattle.nodes.specs.declared.Number.{Number}
+use Rattle.nodes.specs.declared.Number.the-variants.{Is, Refused}
+use Rattle.terms.specs.Terms.{oneMore, argumentsFrom, termOf, term, arguments}
 use Rattle.terms.specs.declared.Argument.{Argument}
 use Rattle.terms.specs.declared.Argument.the-variants.{Term}
 use Rattle.terms.specs.declared.Begun.{Begun}
 use Rattle.terms.specs.declared.Begun.the-variants.{Opened}
-use Rattle.terms.specs.Levels.{given, begins, argues, Start, closed, whole, opened, Next, none, one, lookFor, begunBy, begunAt, argumentAt, begun, argument}
+use Rattle.terms.specs.Levels.{begins, argues, Start, closed, whole, opened, Next, none, one, lookFor, begunBy, begunAt, argumentAt, begun, argument}
 
 -- What follows the arguments of a term in brackets.
 abbrev compounded : List ℕ → ℕ → ℕ → Did Areas (ℕ × Reader) → Did Areas (ℕ × Reader)

@@ -8,18 +8,12 @@ use Rattle.outcomes.specs.Leaving.{Did, _leaving_, _>>=_}
 use Rattle.theory_reading.specs.Storing.{Areas}
 use Rattle.asking.specs.Asking as asking
 use Rattle.asking.specs.Asking.{Met, itemDue, closingNext}
-use Rattle.terms.specs.Terms.{atomTerm, headDue, term}
-use Rattle.terms.specs.declared.Number.{Number}
-use Rattle.terms.specs.declared.Number.the-variants as numbers
+use Rattle.nodes.specs.Nodes.{atomTerm, headDue}
+use Rattle.terms.specs.Terms.{term}
 use Rattle.terms.specs.declared.Begun.{Begun}
 use Rattle.terms.specs.declared.Begun.the-variants as starts
 use Rattle.terms.specs.declared.Argument.{Argument}
 use Rattle.terms.specs.declared.Argument.the-variants as arguing
-
--- A number beside the reader that is lent. A refusal has none.
-abbrev pub given : Number → Reader → Outcome (ℕ × Reader)
-given (numbers.Is k) r = ok (k, r)
-given (numbers.Refused n) r = refused n
 
 -- What may begin, and what an argument may be.
 pub data Start : Type 0 where

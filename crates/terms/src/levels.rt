@@ -9,15 +9,16 @@ ghost use Rattle.asking.specs.Asking as asked;
 ghost use Rattle.asking.specs.Asking.{looked};
 ghost use Rattle.outcomes.specs.Leaving.{_leaving_};
 ghost use Rattle.terms.specs.Terms.{arguments};
-ghost use Rattle.terms.specs.Levels.{given, begins, argues, lookFor, begunAt, begun, argument};
+ghost use Rattle.nodes.specs.Nodes.{given};
+ghost use Rattle.terms.specs.Levels.{begins, argues, lookFor, begunAt, begun, argument};
 use crate::Argument;
 use crate::Begun;
-use crate::Number;
-use crate::Numbered;
 use asking::Item;
 use asking::Look;
 use lex::Reader;
 use lex::lent;
+use nodes::Number;
+use nodes::Numbered;
 
 // As a member of a list, a closing may be next instead.
 pub fn look(text: &[u8], member: bool, reader: Reader) -> Look
@@ -51,17 +52,17 @@ pub fn item(
     match i {
         Item::Refused(m) => Begun::Refused(m),
         Item::Atom(s, t, p) => {
-            let a = crate::atom_term(text, rules, heap, table, store, stack, top, s, t, p);
+            let a = nodes::atom_term(text, rules, heap, table, store, stack, top, s, t, p);
             let Numbered::Got(k, o) = a else {
-                return Begun::Refused(crate::numbered_refusal(a));
+                return Begun::Refused(nodes::numbered_refusal(a));
             };
             *r = lent::lend(o);
             Begun::Whole(k)
         }
         Item::List(p) => {
-            let h = crate::head(text, rules, heap, left - 1, p);
+            let h = nodes::head(text, rules, heap, left - 1, p);
             let Numbered::Got(c, o) = h else {
-                return Begun::Refused(crate::numbered_refusal(h));
+                return Begun::Refused(nodes::numbered_refusal(h));
             };
             *r = lent::lend(o);
             Begun::Opened(c)
@@ -126,7 +127,7 @@ pub fn term(
                     if n == 0 {
                         return Argument::Refused(16);
                     }
-                    let k = crate::node(heap, store, stack, c, top, n);
+                    let k = nodes::node(heap, store, stack, c, top, n);
                     match k {
                         Number::Refused(m) => Argument::Refused(m),
                         Number::Is(k) => Argument::Term(k),

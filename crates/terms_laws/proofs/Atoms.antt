@@ -33,7 +33,7 @@ use Rattle.theory_reading.proofs.Held.{constructor-due, predicate-due}
 use Rattle.theory_reading.proofs.Stored.{Longer, longer-none, Stored, Means, means-longer}
 use Rattle.tables.specs.Representation.{Defs}
 use Rattle.tables.proofs.Defs.{meaning-agrees}
-use Rattle.terms.specs.Terms.{make, constructorDue, predicateDue, atomTerm}
+use Rattle.nodes.specs.Nodes.{make, constructorDue, predicateDue, atomTerm}
 use Rattle.terms_laws.proofs.Rows.{no-words}
 use Rattle.terms_laws.proofs.Making.{TermRead, make-law}
 

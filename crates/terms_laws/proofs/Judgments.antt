@@ -32,7 +32,8 @@ use Rattle.asking_laws.proofs.Places.{Left, At, at-within}
 use Rattle.asking_laws.proofs.Asking.{ItemMet, item-law, WordMet, word-met, word-law, GroupMet, group-met, group-law}
 use Rattle.terms.specs.Terms as walk
 use Rattle.theory_reading.specs.Storing.{Areas}
-use Rattle.terms.specs.Terms.{make, termOf}
+use Rattle.nodes.specs.Nodes.{make}
+use Rattle.terms.specs.Terms.{termOf}
 use Rattle.terms_laws.proofs.Making.{TermRead}
 use Rattle.terms_laws.proofs.Atoms.{SymbolMet, symbol-met, predicate-law}
 use Rattle.terms_laws.proofs.Reading.{asked-no, asked-yes, Ready, made-of, term-law, arguments-law}

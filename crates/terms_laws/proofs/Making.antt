@@ -29,7 +29,7 @@ use Rattle.theory_reading.proofs.Bridge.{symbol-is, used-at}
 use Rattle.theory_reading.proofs.Terms.{accepts-numbers}
 use Rattle.theory_reading.proofs.Stored.{Sized, accepted-sized, Longer, Stored, Means, Numbers, stored-law}
 use Rattle.theory_reading.specs.Storing.{Areas}
-use Rattle.terms.specs.Terms.{headOn, interned, make}
+use Rattle.nodes.specs.Nodes.{headOn, interned, make}
 use Rattle.terms_laws.proofs.Rows.{Row, row-part, row-first, row-at}
 
 -- A term was read on top of the stack: its number stands for the definition's tree in the store afterwards, and what the stack held below

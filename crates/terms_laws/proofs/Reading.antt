@@ -39,7 +39,8 @@ use Rattle.asking_laws.proofs.Places.{Left, At, at-less, at-within}
 use Rattle.asking_laws.proofs.Asking.{ItemMet, atom-met, list-met, item-law, WordMet, word-met, word-law, Looked, look-closed, look-bad, look-ended, look-item, look-law}
 use Rattle.terms.specs.Terms as walk
 use Rattle.theory_reading.specs.Storing.{Areas}
-use Rattle.terms.specs.Terms.{make, constructorDue, headDue, argumentsFrom, termOf}
+use Rattle.nodes.specs.Nodes.{make, constructorDue, headDue}
+use Rattle.terms.specs.Terms.{argumentsFrom, termOf}
 pub use Rattle.terms_laws.proofs.Asked.{asked-then, asked-no, asked-yes}
 use Rattle.terms_laws.proofs.Rows.{Row, no-words, one-word}
 use Rattle.terms_laws.proofs.Making.{TermRead, make-law}

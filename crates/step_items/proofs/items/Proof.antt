@@ -3,7 +3,7 @@ use Prim.Native.Nat.{_+_}
 use mathlib.Core.Path.{_≡_, refl, ap, sym, _∙_}
 use lib.ListN.{length}
 use Rattle.asking.specs.Asking.{looked}
-use Rattle.terms.specs.Terms.{numbered}
+use Rattle.nodes.specs.Nodes.{numbered}
 use Rattle.step_items.specs.StepItems.{itemsFrom, items}
 use Rattle.step_items.proofs.Turns.{items-closed, items-bad, item-refused, items-on, items-none}
 use borrow.Author.Needs.{needs}

@@ -1,7 +1,7 @@
--- `terms::constructor_due` meets its contract. Assumes nothing.
-use Rattle.terms.specs.Terms.{constructorDue}
-use Rattle.terms.proofs.constructor_due.Statement.{statement}
-use Rattle.terms.proofs.constructor_due.Tie as tie
+-- `nodes::constructor_due` meets its contract. Assumes nothing.
+use Rattle.nodes.specs.Nodes.{constructorDue}
+use Rattle.nodes.proofs.constructor_due.Statement.{statement}
+use Rattle.nodes.proofs.constructor_due.Tie as tie
 
 returns : tie.Need-returns
 unfolding constructorDue

@@ -1,6 +1,6 @@
--- `terms::make` meets its contract. Assumes nothing.
-use Rattle.terms.proofs.make.Statement.{statement}
-use Rattle.terms.proofs.make.Tie as tie
+-- `nodes::make` meets its contract. Assumes nothing.
+use Rattle.nodes.proofs.make.Statement.{statement}
+use Rattle.nodes.proofs.make.Tie as tie
 
 same-length : tie.Need-same-length
 same-length c = c .before .before .before .before .before .before .store .given

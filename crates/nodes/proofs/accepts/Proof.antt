@@ -1,13 +1,13 @@
--- `terms::accepts` meets its contract. Assumes nothing.
+-- `nodes::accepts` meets its contract. Assumes nothing.
 use borrow.Author.Tests.{not-true, not-false}
 use Rattle.theory_reading.specs.Reading.{accepted, allFit}
-use Rattle.terms.specs.Terms.{headOn}
+use Rattle.nodes.specs.Nodes.{headOn}
 use mathlib.Core.Path.{_≡_, sym, _∙_}
 use Prim.Native.Nat.{_≤_, _-_}
-use Rattle.terms.proofs.Turns.{accepted-first, not-accepted, fit-on, not-fit, fit-end}
+use Rattle.nodes.proofs.Turns.{accepted-first, not-accepted, fit-on, not-fit, fit-end}
 use borrow.Author.Needs.{needs}
-use Rattle.terms.proofs.accepts.Statement.{statement}
-use Rattle.terms.proofs.accepts.Tie as tie
+use Rattle.nodes.proofs.accepts.Statement.{statement}
+use Rattle.nodes.proofs.accepts.Tie as tie
 
 abbrev Inv-loop : tie.InvT-loop
 Inv-loop heap store stack c from n k₀ k = (k ≤ n) × (accepted (headOn store stack from) heap c n ≡ allFit (headOn store stack from) heap c (n - k) k)

@@ -1,7 +1,7 @@
--- `terms::atom_term` meets its contract. Assumes nothing.
-use Rattle.terms.specs.Terms.{atomTerm}
-use Rattle.terms.proofs.atom_term.Statement.{statement}
-use Rattle.terms.proofs.atom_term.Tie as tie
+-- `nodes::atom_term` meets its contract. Assumes nothing.
+use Rattle.nodes.specs.Nodes.{atomTerm}
+use Rattle.nodes.proofs.atom_term.Statement.{statement}
+use Rattle.nodes.proofs.atom_term.Tie as tie
 
 returns : tie.Need-returns
 unfolding atomTerm

@@ -1,10 +1,10 @@
--- `terms::node` meets its contract. Assumes nothing.
+-- `nodes::node` meets its contract. Assumes nothing.
 use mathlib.Core.Path.{sym, _∙_, refl}
 use borrow.Author.Tests.{not-true, not-false}
-use Rattle.terms.specs.Terms.{make, interned}
+use Rattle.nodes.specs.Nodes.{make, interned}
 use borrow.Author.Needs.{needs}
-use Rattle.terms.proofs.node.Statement.{statement}
-use Rattle.terms.proofs.node.Tie as tie
+use Rattle.nodes.proofs.node.Statement.{statement}
+use Rattle.nodes.proofs.node.Tie as tie
 
 returns : tie.Need-returns
 unfolding make

@@ -1,7 +1,7 @@
--- `terms::predicate_due` meets its contract. Assumes nothing.
-use Rattle.terms.specs.Terms.{predicateDue}
-use Rattle.terms.proofs.predicate_due.Statement.{statement}
-use Rattle.terms.proofs.predicate_due.Tie as tie
+-- `nodes::predicate_due` meets its contract. Assumes nothing.
+use Rattle.nodes.specs.Nodes.{predicateDue}
+use Rattle.nodes.proofs.predicate_due.Statement.{statement}
+use Rattle.nodes.proofs.predicate_due.Tie as tie
 
 returns : tie.Need-returns
 unfolding predicateDue

@@ -1,7 +1,7 @@
--- `terms::sort_of` meets its contract. Assumes nothing.
-use Rattle.terms.specs.Terms.{sortOf}
-use Rattle.terms.proofs.sort_of.Statement.{statement}
-use Rattle.terms.proofs.sort_of.Tie as tie
+-- `nodes::sort_of` meets its contract. Assumes nothing.
+use Rattle.nodes.specs.Nodes.{sortOf}
+use Rattle.nodes.proofs.sort_of.Statement.{statement}
+use Rattle.nodes.proofs.sort_of.Tie as tie
 
 returns : tie.Need-returns
 unfolding sortOf

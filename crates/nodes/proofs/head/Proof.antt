@@ -1,7 +1,7 @@
--- `terms::head` meets its contract. Assumes nothing.
-use Rattle.terms.specs.Terms.{headDue}
-use Rattle.terms.proofs.head.Statement.{statement}
-use Rattle.terms.proofs.head.Tie as tie
+-- `nodes::head` meets its contract. Assumes nothing.
+use Rattle.nodes.specs.Nodes.{headDue}
+use Rattle.nodes.proofs.head.Statement.{statement}
+use Rattle.nodes.proofs.head.Tie as tie
 
 returns : tie.Need-returns
 unfolding headDue
