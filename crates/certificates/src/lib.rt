@@ -16,12 +16,12 @@ use goals::Form;
 use goals::Forms;
 use lex::Reader;
 use names::Found;
+use nodes::Numbered;
 use references::Indexed;
 use steps::Stepped;
 use tables::Kept;
 use tables::Open;
 use tables::Tally;
-use nodes::Numbered;
 
 // The three forms of a certificate, by their heads.
 pub enum Keyword {

@@ -11,8 +11,8 @@ use asking::Named;
 use asking::Passed;
 use lex::Reader;
 use names::Found;
-use tables::Tally;
 use nodes::Numbered;
+use tables::Tally;
 
 // How many goals, abbreviations and steps there are after a form, and the reader after it.
 pub enum Form {

@@ -174,4 +174,3 @@ pub fn head(text: &[u8], rules: &[u8], heap: &[u32], left: u32, reader: Reader) 
     };
     constructor_due(text, rules, heap, s, t, q)
 }
-

@@ -9,8 +9,8 @@ use asking::Named;
 use asking::Passed;
 use lex::Reader;
 use names::Found;
-use numerals::Number;
 use nodes::Numbered;
+use numerals::Number;
 
 // A number as the text has it, and the reader after it.
 pub enum Indexed {

@@ -18,9 +18,10 @@ use Rattle.nodes.specs.declared.Number.the-variants.{Is, Refused}
 use Rattle.terms.specs.Terms.{oneMore, argumentsFrom, termOf, term, arguments}
 use Rattle.terms.specs.declared.Argument.{Argument}
 use Rattle.terms.specs.declared.Argument.the-variants.{Term}
-use Rattle.terms.specs.declared.Begun.{Begun}
-use Rattle.terms.specs.declared.Begun.the-variants.{Opened}
-use Rattle.terms.specs.Levels.{begins, argues, Start, closed, whole, opened, Next, none, one, lookFor, begunBy, begunAt, argumentAt, begun, argument}
+use Rattle.openings.specs.declared.Begun.{Begun}
+use Rattle.openings.specs.declared.Begun.the-variants.{Opened}
+use Rattle.terms.specs.Levels.{argues, Next, none, one, argumentAt, argument}
+use Rattle.openings.specs.Openings.{begins, Start, closed, whole, opened, lookFor, begunBy, begunAt, begun}
 
 -- What follows the arguments of a term in brackets.
 abbrev compounded : List ℕ → ℕ → ℕ → Did Areas (ℕ × Reader) → Did Areas (ℕ × Reader)

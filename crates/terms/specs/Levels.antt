@@ -1,73 +1,33 @@
 -- One level of a term within terms, with the reader lent as words: what each function of the cycle answers.
-use Prim.Native.Nat.{ℕ, _-_}
-use mathlib.Core.Bool.{Bool, true, false}
+use Prim.Native.Nat.{ℕ}
 use mathlib.Core.List.{List}
 use Rattle.lex.specs.declared.Reader.{Reader}
 use Rattle.outcomes.specs.Outcomes.{Outcome, ok, refused}
 use Rattle.outcomes.specs.Leaving.{Did, _leaving_, _>>=_}
 use Rattle.theory_reading.specs.Storing.{Areas}
 use Rattle.asking.specs.Asking as asking
-use Rattle.asking.specs.Asking.{Met, itemDue, closingNext}
-use Rattle.nodes.specs.Nodes.{atomTerm, headDue}
+use Rattle.asking.specs.Asking.{closingNext}
 use Rattle.terms.specs.Terms.{term}
-use Rattle.terms.specs.declared.Begun.{Begun}
-use Rattle.terms.specs.declared.Begun.the-variants as starts
 use Rattle.terms.specs.declared.Argument.{Argument}
 use Rattle.terms.specs.declared.Argument.the-variants as arguing
 
--- What may begin, and what an argument may be.
-pub data Start : Type 0 where
-  closed : Start
-  whole : ℕ → Start
-  opened : ℕ → Start
-
+-- What an argument may be: none where a closing is next.
 pub data Next : Type 0 where
   none : Next
   one : ℕ → Next
-
-abbrev pub begins : Begun → Reader → Outcome (Start × Reader)
-begins starts.Closing r = ok (closed, r)
-begins (starts.Whole k) r = ok (whole k, r)
-begins (starts.Opened c) r = ok (opened c, r)
-begins (starts.Refused n) r = refused n
 
 abbrev pub argues : Argument → Reader → Outcome (Next × Reader)
 argues arguing.Closing r = ok (none, r)
 argues (arguing.Term k) r = ok (one k, r)
 argues (arguing.Refused n) r = refused n
 
--- As a member of a list, a closing may be next instead.
-abbrev pub lookFor : List ℕ → Bool → Reader → Outcome asking.Ahead
-lookFor text true r = closingNext text r
-lookFor text false r = ok (asking.member r)
-
 module _ (left : ℕ) (text rules heap table : List ℕ) (top : ℕ) where
-  -- A term, up to its arguments if it has any.
-  abbrev pub begunBy : Met → List ℕ → List ℕ → Did Areas (Start × Reader)
-  begunBy (asking.atom s t r) store stack = do
-    ((k, r), (store, stack)) ← atomTerm text rules heap table top s t r store stack
-    ok (whole k, r) leaving (store, stack)
-  begunBy (asking.list r) store stack = do
-    ((c, r), (store, stack)) ← headDue text rules heap (left - 1) r leaving (store, stack)
-    ok (opened c, r) leaving (store, stack)
-
-  abbrev pub begunAt : asking.Ahead → List ℕ → List ℕ → Did Areas (Start × Reader)
-  begunAt (asking.closing r) store stack = ok (closed, r) leaving (store, stack)
-  begunAt (asking.member r) store stack = do
-    (i, (store, stack)) ← itemDue text left r leaving (store, stack)
-    begunBy i store stack
-
   -- An argument is a term; a closing ends them.
   abbrev pub argumentAt : asking.Ahead → List ℕ → List ℕ → Did Areas (Next × Reader)
   argumentAt (asking.closing r) store stack = ok (none, r) leaving (store, stack)
   argumentAt (asking.member r) store stack = do
     ((k, r), (store, stack)) ← term left text rules heap table top r store stack
     ok (one k, r) leaving (store, stack)
-
-unfoldable pub begun : Bool → ℕ → List ℕ → List ℕ → List ℕ → List ℕ → ℕ → Reader → List ℕ → List ℕ → Did Areas (Start × Reader)
-begun member left text rules heap table top r store stack = do
-  (a, (store, stack)) ← lookFor text member r leaving (store, stack)
-  begunAt left text rules heap table top a store stack
 
 unfoldable pub argument : ℕ → List ℕ → List ℕ → List ℕ → List ℕ → ℕ → Reader → List ℕ → List ℕ → Did Areas (Next × Reader)
 argument left text rules heap table top r store stack = do

@@ -9,16 +9,9 @@ use asking::Passed;
 use lex::Reader;
 use nodes::Number;
 use nodes::Numbered;
+use openings::Begun;
 
 mod levels;
-
-// What begins where a term or a closing is due: a closing, taken; a term without brackets; a list, by the symbol that is its head.
-pub enum Begun {
-    Closing,
-    Whole(u32),
-    Opened(u32),
-    Refused(u32),
-}
 
 // One argument more, or the closing behind the last.
 pub enum Argument {
@@ -42,7 +35,7 @@ pub fn term(
     ensures { λ r. ⌜ (numbered r leaving (now (store .exit), now (stack .exit))) ≡ term left (now (text .entry)) (now (rules .entry)) (now (heap .entry)) (now (table .entry)) top reader (now (store .entry)) (now (stack .entry)) ⌝ }
 {
     let mut lent = lex::lent::lend(reader);
-    let b = levels::begin(
+    let b = openings::begin(
         text,
         rules,
         heap,

@@ -17,7 +17,7 @@ use Rattle.terms.proofs.levels.+args+term.Lts-args as args-lts
 use Rattle.terms.proofs.levels.term.Reads as term
 use Rattle.terms.proofs.levels.term.Kinds as term-kinds
 use Rattle.terms.proofs.levels.+args+term.Lts-term as term-lts
-use Rattle.terms.proofs.levels.begin.Reads as begin-reads
+use Rattle.openings.proofs.begin.Reads as begin-reads
 use Rattle.nodes.proofs.node.Reads as node-reads
 use Rattle.words.proofs.plus.Reads as plus-reads
 use Rattle.words.proofs.put.Reads as put-reads

@@ -1,6 +1,6 @@
--- `terms::levels::look` meets its contract. Assumes nothing.
-use Rattle.terms.proofs.levels.look.Statement.{statement}
-use Rattle.terms.proofs.levels.look.Tie as tie
+-- `openings::look` meets its contract. Assumes nothing.
+use Rattle.openings.proofs.look.Statement.{statement}
+use Rattle.openings.proofs.look.Tie as tie
 
 returns : tie.Need-returns
 returns c = rw (c .before .if1 .taken) (c .closing-next .ensures)

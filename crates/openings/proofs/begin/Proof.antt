@@ -1,7 +1,7 @@
--- `terms::levels::begin` meets its contract. Assumes nothing.
-use Rattle.terms.specs.Levels.{begun}
-use Rattle.terms.proofs.levels.begin.Statement.{statement}
-use Rattle.terms.proofs.levels.begin.Tie as tie
+-- `openings::begin` meets its contract. Assumes nothing.
+use Rattle.openings.specs.Openings.{begun}
+use Rattle.openings.proofs.begin.Statement.{statement}
+use Rattle.openings.proofs.begin.Tie as tie
 
 returns : tie.Need-returns
 unfolding begun

@@ -1,8 +1,8 @@
--- `terms::levels::item` meets its contract. Assumes nothing.
+-- `openings::item` meets its contract. Assumes nothing.
 use Rattle.asking.specs.Asking.{itemDue}
 use borrow.Author.Needs.{needs}
-use Rattle.terms.proofs.levels.item.Statement.{statement}
-use Rattle.terms.proofs.levels.item.Tie as tie
+use Rattle.openings.proofs.item.Statement.{statement}
+use Rattle.openings.proofs.item.Tie as tie
 
 returns : tie.Need-returns
 unfolding itemDue
