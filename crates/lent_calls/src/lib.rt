@@ -78,63 +78,24 @@ fn with_areas(p: Before, x: Answer, a: &[u32], b: &[u32], c: &[u32], d: &[u32]) 
     Answer { number: 99, ..x }
 }
 
-// The call with the rulebook alone, over areas that held other words.
-fn run_alone(
-    p: Before,
-    rulebook: &[u8],
-    a: &mut [u32],
-    b: &mut [u32],
-    c: &mut [u32],
-    d: &mut [u32],
-) -> reports::RulebookReport {
-    areas::fill_all(p.first, p.step, a, b, c, d);
-    kernel::rulebook(rulebook, a, b, c, d)
-}
-
-// The call with three texts, over the same.
-fn run_whole(
-    p: Before,
-    rulebook: &[u8],
-    goals: &[u8],
-    certificate: &[u8],
-    a: &mut [u32],
-    b: &mut [u32],
-    c: &mut [u32],
-    d: &mut [u32],
-) -> reports::Report {
-    areas::fill_all(p.first, p.step, a, b, c, d);
-    kernel::release(rulebook, goals, certificate, a, b, c, d)
-}
-
-// The call with the rulebook alone, with its areas tested.
-fn called_alone(
-    p: Before,
-    rulebook: &[u8],
-    a: &mut [u32],
-    b: &mut [u32],
-    c: &mut [u32],
-    d: &mut [u32],
-) -> Answer {
-    let r = run_alone(p, rulebook, a, b, c, d);
-    with_areas(p, rulebook_answer(r), a, b, c, d)
-}
-
-// The call with three texts, with its areas tested.
-fn called_whole(
-    p: Before,
-    rulebook: &[u8],
-    goals: &[u8],
-    certificate: &[u8],
-    a: &mut [u32],
-    b: &mut [u32],
-    c: &mut [u32],
-    d: &mut [u32],
-) -> Answer {
-    let r = run_whole(p, rulebook, goals, certificate, a, b, c, d);
-    with_areas(p, release_answer(r), a, b, c, d)
-}
-
 // Either call.
+fn call(
+    alone: bool,
+    rulebook: &[u8],
+    goals: &[u8],
+    certificate: &[u8],
+    a: &mut [u32],
+    b: &mut [u32],
+    c: &mut [u32],
+    d: &mut [u32],
+) -> Answer {
+    if alone {
+        return rulebook_answer(kernel::rulebook(rulebook, a, b, c, d));
+    }
+    release_answer(kernel::release(rulebook, goals, certificate, a, b, c, d))
+}
+
+// Either call over areas that held other words, with its areas tested.
 fn called(
     p: Before,
     alone: bool,
@@ -146,10 +107,9 @@ fn called(
     c: &mut [u32],
     d: &mut [u32],
 ) -> Answer {
-    if alone {
-        return called_alone(p, rulebook, a, b, c, d);
-    }
-    called_whole(p, rulebook, goals, certificate, a, b, c, d)
+    areas::fill_all(p.first, p.step, a, b, c, d);
+    let x = call(alone, rulebook, goals, certificate, a, b, c, d);
+    with_areas(p, x, a, b, c, d)
 }
 
 // As many words of each area as the case lends; 98 where it lends more than there are.
