@@ -7,13 +7,14 @@ use Rattle.outcomes.specs.Outcomes.{Outcome, ok, refused}
 use Rattle.outcomes.specs.Leaving.{Did, _leaving_, _>>=_}
 use Rattle.theory.specs.Walks as walks
 use Rattle.theory.specs.Walks.{theory}
-use Rattle.tables.specs.Words.{noneYet}
+use Rattle.tables.specs.Words.{goalBuckets, noneYet}
 use Rattle.tables.specs.declared.Tally.{Tally}
 use Rattle.goals.specs.Goals as goals
 use Rattle.certificates.specs.Certificates.{AllAreas, around, certificate}
 use Rattle.checker.specs.declared.Counts.{Counts}
 use Rattle.checker.specs.declared.Checked.{Checked}
 use Rattle.checker.specs.declared.Checked.the-variants as checks
+use Rattle.nodes.specs.Limits.{nodeLimit, indexPlaces, defBuckets}
 
 -- What each case of an answer says: the counts of an accepted release, or a refusal by its number.
 abbrev pub checked : Checked → Outcome Counts
@@ -33,6 +34,6 @@ unfoldable pub check : List ℕ → List ℕ → List ℕ → List ℕ → List 
 check rulebook text certificateText store table stack heap = do
   (_, (((store, stack), heap), table)) ← besideStore store (theory rulebook table stack heap)
   (tally, (((store, stack), heap), table)) ← around heap
-      (goals.goals text rulebook heap (noneYet 128) (emptied store 2048 4096) stack (cleared (128 + 128) table))
+      (goals.goals text rulebook heap (noneYet defBuckets) (emptied store nodeLimit indexPlaces) stack (cleared (goalBuckets + defBuckets) table))
   (tally, (((store, stack), heap), table)) ← certificate certificateText text rulebook tally store stack heap table
   ok (countsOf tally store) leaving (((store, stack), heap), table)

@@ -3,6 +3,7 @@ ghost use mathlib.Core.Path.{_≡_};
 ghost use Rattle.outcomes.specs.Leaving.{_leaving_};
 ghost use Rattle.checker.specs.Checker as models;
 use goals::Forms;
+use nodes::limits;
 use theory::Judged;
 
 // How many steps and goals an accepted release has, and how many terms the store holds at its end.
@@ -35,8 +36,8 @@ pub fn check(
     if let Judged::Refused(n) = judged {
         return Checked::Refused(n);
     }
-    arena::empty(store, 2048, 4096);
-    let none = tables::begin(table, 128);
+    arena::empty(store, limits::NODES, limits::PLACES);
+    let none = tables::begin(table, limits::DEF_BUCKETS);
     let gathered = goals::goals(text, rulebook, heap, table, store, stack, none);
     let Forms::All(tally) = gathered else {
         return Checked::Refused(goals::forms_refusal(gathered));

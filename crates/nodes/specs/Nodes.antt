@@ -15,6 +15,7 @@ use Rattle.theory_reading.specs.Reading.{constructorFound, predicateFound, outp
 use Rattle.theory_reading.specs.Storing as storing
 use Rattle.theory_reading.specs.Storing.{Areas}
 use Rattle.asking.specs.Asking.{atomDue}
+use Rattle.nodes.specs.Limits.{nodeLimit, wordLimit, indexPlaces, defBuckets}
 use Rattle.nodes.specs.declared.Number.{Number}
 use Rattle.nodes.specs.declared.Number.the-variants as plain
 use Rattle.nodes.specs.declared.Numbered.{Numbered}
@@ -32,15 +33,15 @@ given (plain.Refused n) r = refused n
 
 -- The sort of a term is what its head gives.
 unfoldable pub sortOf : List ℕ → List ℕ → ℕ → ℕ
-sortOf heap store k = outputOf heap (headOf store 2048 4096 k)
+sortOf heap store k = outputOf heap (headOf store nodeLimit indexPlaces k)
 
 -- The heads of the terms that stand on the stack from a place on.
 abbrev pub headOn : List ℕ → List ℕ → ℕ → ℕ → ℕ
-headOn store stack from i = headOf store 2048 4096 (getD stack (from + i) 0)
+headOn store stack from i = headOf store nodeLimit indexPlaces (getD stack (from + i) 0)
 
 -- A node with these words.
 unfoldable pub interned : List ℕ → Reader → List ℕ → List ℕ → Did Areas (ℕ × Reader)
-interned key r store stack = storing.numbered r (internAnswer store 2048 8192 4096 key) leaving (internArea store 2048 8192 4096 key, stack)
+interned key r store stack = storing.numbered r (internAnswer store nodeLimit wordLimit indexPlaces key) leaving (internArea store nodeLimit wordLimit indexPlaces key, stack)
 
 -- "Then 15 for arity and sorts, then the store."
 unfoldable pub make : List ℕ → ℕ → ℕ → ℕ → Reader → List ℕ → List ℕ → Did Areas (ℕ × Reader)
@@ -63,7 +64,7 @@ unfoldable pub atomTerm : List ℕ → List ℕ → List ℕ → List ℕ → �
 atomTerm text rules heap table top s t r store stack =
     pick (question text s)
     (λ _. do
-      (k, (store, stack)) ← orElse (defMeaning 128 text (part s t text) table) 12 leaving (store, stack)
+      (k, (store, stack)) ← orElse (defMeaning defBuckets text (part s t text) table) 12 leaving (store, stack)
       ok (k, r) leaving (store, stack))
     (λ _. do
       ((c, q), (store, stack)) ← constructorDue text rules heap s t r leaving (store, stack)

@@ -1,6 +1,6 @@
 // Nodes of terms and judgments in goals and certificate. A term is the number of its node in the store, a symbol the address of its entry in
 // the theory's area (crate items says how that is laid out); names of symbols stand in the rulebook, those of abbreviations in the text
-// that is read. Abbreviations stand in the table with 128 buckets (crate tables). On the stack a node is under construction from word `top`
+// that is read. Abbreviations stand in the table (crate tables). On the stack a node is under construction from word `top`
 // on: its head, then its arguments.
 ghost use mathlib.Core.Path.{_≡_};
 ghost use Rattle.outcomes.specs.Outcomes.{refusal};
@@ -13,6 +13,8 @@ use asking::Named;
 use lex::Reader;
 use names::Found;
 use tables::Kept;
+
+pub mod limits;
 
 // The number of a node, the address of a symbol, or how many arguments there are; and the reader after it.
 pub enum Numbered {
@@ -40,7 +42,7 @@ pub fn numbered_refusal(r: Numbered) -> u32
 pub fn sort_of(heap: &[u32], store: &[u32], k: u32) -> u32
     ensures { λ r. ⌜ r ≡ sortOf (now (heap .entry)) (now (store .entry)) k ⌝ }
 {
-    let head = arena::node_head(store, 2048, 4096, k);
+    let head = arena::node_head(store, limits::NODES, limits::PLACES, k);
     theory_reading::output(heap, head)
 }
 
@@ -54,7 +56,7 @@ pub fn accepts(heap: &[u32], store: &[u32], stack: &[u32], c: u32, from: u32, n:
     let mut k: u32 = 0;
     while k < n {
         let argument = words::at(stack, from as usize + k as usize);
-        let head = arena::node_head(store, 2048, 4096, argument);
+        let head = arena::node_head(store, limits::NODES, limits::PLACES, argument);
         if !theory_reading::fits_input(heap, head, c, k) {
             return false;
         }
@@ -72,7 +74,7 @@ pub fn node(heap: &[u32], store: &mut [u32], stack: &mut [u32], c: u32, top: u32
     }
     words::put(stack, top as usize, c);
     let key = words::words_part(stack, top as usize, top as usize + 1 + n as usize);
-    let answer = arena::intern(store, 2048, 8192, 4096, key);
+    let answer = arena::intern(store, limits::NODES, limits::WORDS, limits::PLACES, key);
     match answer {
         Answer::Found(k) => Number::Is(k),
         Answer::Made(k) => Number::Is(k),
@@ -151,7 +153,7 @@ pub fn atom_term(
     ensures { λ r. ⌜ (numbered r leaving (now (store .exit), now (stack .exit))) ≡ atomTerm (now (text .entry)) (now (rules .entry)) (now (heap .entry)) (now (table .entry)) top s t reader (now (store .entry)) (now (stack .entry)) ⌝ }
 {
     if items::is_question(text, s) {
-        let known = tables::meaning(table, 128, text, s, t);
+        let known = tables::meaning(table, limits::DEF_BUCKETS, text, s, t);
         let Kept::Is(k) = known else {
             return Numbered::Refused(12);
         };

@@ -11,6 +11,7 @@ use Rattle.references.specs.References.{ruleDue, countedReferences}
 use Rattle.step_items.specs.StepItems.{Worked, items}
 use Rattle.steps.specs.declared.Stepped.{Stepped}
 use Rattle.steps.specs.declared.Stepped.the-variants as stepped
+use Rattle.nodes.specs.Limits.{nodeLimit, wordLimit, indexPlaces}
 
 -- What a step answers: its judgment's number, its rule's address, the place of its references in the text, and the reader after its items.
 abbrev pub judged : Stepped → Outcome (ℕ × ℕ × ℕ × Reader)
@@ -21,7 +22,7 @@ judged (stepped.Refused n) = refused n
 unfoldable pub itemsJudged : List ℕ → List ℕ → List ℕ → ℕ → ℕ → ℕ → Reader → List ℕ → List ℕ → List ℕ → Did Worked (ℕ × Reader)
 itemsJudged text rules table steps rule n r store stack heap = do
   ((word, r), ((store, stack), heap)) ← items text rules table rule n r store stack (unbound (variableCount heap rule) heap)
-  (j, areas) ← stepConcluded 2048 8192 4096 table steps rule word stack store heap
+  (j, areas) ← stepConcluded nodeLimit wordLimit indexPlaces table steps rule word stack store heap
   ok (j, r) leaving areas
 
 -- "`(step I R (I...) item...)`", behind its head.

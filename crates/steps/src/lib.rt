@@ -6,6 +6,7 @@ ghost use Rattle.steps.specs.Steps as models;
 use lex::Reader;
 use matching::Concluded;
 use nodes::Numbered;
+use nodes::limits;
 
 // A step's judgment by its number, its rule's address, the place of its references in the certificate, and the reader after its items.
 pub enum Stepped {
@@ -41,9 +42,9 @@ pub fn items_judged(
         table,
         stack,
         heap,
-        2048,
-        8192,
-        4096,
+        limits::NODES,
+        limits::WORDS,
+        limits::PLACES,
         steps,
         rule,
         word,

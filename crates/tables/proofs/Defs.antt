@@ -12,7 +12,7 @@ use Rattle.horn.specs.Checker.{Def, def, isDef, meaning}
 use Rattle.names.specs.Tables.{Entry, entry, top, Table, no-entry, Stands, none-yet, other-kind, declared, Agree, both-none, both-some, present}
 use Rattle.names.proofs.Kept.{kept-within, kept-put, add-law}
 use Rattle.names.proofs.Declared.{stands-kept, find-agrees, find-present}
-use Rattle.tables.specs.Words.{entered, defFound, defMeaning}
+use Rattle.tables.specs.Words.{goalBuckets, entered, defFound, defMeaning}
 use Rattle.tables.specs.Representation.{DefAt, Defs}
 use Rattle.facts.proofs.Lists.{one-more}
 use Rattle.tables.proofs.Areas.{Same, entered-value, entered-same}
@@ -22,7 +22,7 @@ module _ {text table : List ℕ} {buckets base : ℕ} {Means : ℕ → Term → 
   -- Whatever keeps the buckets of abbreviations and their words keeps them.
   pub defs-kept : (table′ : List ℕ) → Defs text table buckets base Means defs
       → length table′ ≡ length table
-      → Same table table′ 128 (128 + buckets)
+      → Same table table′ goalBuckets (goalBuckets + buckets)
       → Same table table′ base (base + 4 * length defs)
       → Defs text table′ buckets base Means defs
   defs-kept table′ d l h k =
@@ -45,7 +45,7 @@ module _ {text table : List ℕ} {buckets base : ℕ} {Means : ℕ → Term → 
       → t < 4294967296
       → Means w u
       → someOf (isDef (part s t text)) defs ≡ false
-      → Defs text (entered 128 buckets (base + 4 * length defs) text s t w table) buckets base Means (defs ++ (def (part s t text) u ∷ []))
+      → Defs text (entered goalBuckets buckets (base + 4 * length defs) text s t w table) buckets base Means (defs ++ (def (part s t text) u ∷ []))
   unfolding top isDef entered meaning
   defs-add s t w u d room x y m n =
       let e : ℕ = base + 4 * length defs in
@@ -53,17 +53,17 @@ module _ {text table : List ℕ} {buckets base : ℕ} {Means : ℕ → Term → 
       let f = d .names .buckets-first in
       let p = d .names .some-bucket in
       let o = one-more defs (def name u) in
-      let same = entered-same table 128 buckets e text s t w p base e f (omega arith) in
+      let same = entered-same table goalBuckets buckets e text s t w p base e f (omega arith) in
       record {
         entries = entry e name ∷ d .entries;
         names = kept-put (e + 3) w (add-law e s t (d .names) (d .below) (omega arith) x y) (omega arith);
         below = omega arith;
         stands =
             declared {a = def name u} {e = e} {name = name} refl (λ key. refl)
-            (record { above = omega arith; below = omega arith; value = rw (entered-value table 128 buckets e text s t w (omega arith)) m })
+            (record { above = omega arith; below = omega arith; value = rw (entered-value table goalBuckets buckets e text s t w (omega arith)) m })
             n
             (stands-kept isDef (DefAt table Means base (base + 4 * length defs))
-            (DefAt (entered 128 buckets e text s t w table) Means base (base + 4 * length (defs ++ (def name u ∷ [])))) (d .stands)
+            (DefAt (entered goalBuckets buckets e text s t w table) Means base (base + 4 * length (defs ++ (def name u ∷ [])))) (d .stands)
             (λ i other a q z.
             let low = z .above in
             let high = z .below in
@@ -101,7 +101,7 @@ pub defs-raised : {text table : List ℕ} {buckets base : ℕ} {Means : ℕ → 
 unfolding top
 defs-raised {text} {table} {buckets} {base} base′ d h =
     let z = no-entries (d .stands) refl in
-    let t : Table table 128 buckets base text [] = rw z at (d .names) in
+    let t : Table table goalBuckets buckets base text [] = rw z at (d .names) in
     let f = t .buckets-first in
     record {
       entries = [];
@@ -116,7 +116,7 @@ pub defs-elsewhere : {text table : List ℕ} {buckets base : ℕ} {Means : ℕ �
 unfolding top
 defs-elsewhere {text} {table} {buckets} {base} text′ d =
     let z = no-entries (d .stands) refl in
-    let t : Table table 128 buckets base text [] = rw z at (d .names) in
+    let t : Table table goalBuckets buckets base text [] = rw z at (d .names) in
     record {
       entries = [];
       names = record { some-bucket = t .some-bucket; buckets-first = t .buckets-first; inside = t .inside; heads = t .heads; chain = no-entry };

@@ -18,7 +18,7 @@ use Rattle.horn.proofs.Equality.{case, named-decides, apart, differ, first-some
 use Rattle.names.specs.Tables.{Entry, entry, top, Stands, other-kind, declared, Owns, bucket-word, entry-word, Agree, both-none, both-some, present}
 use Rattle.names.proofs.Kept.{kept-within, kept-put, kept-set, add-law}
 use Rattle.names.proofs.Declared.{stands-kept, find-agrees, find-present}
-use Rattle.tables.specs.Words.{entered, goalFound, openAt, goalOpen}
+use Rattle.tables.specs.Words.{goalBuckets, entered, goalFound, openAt, goalOpen}
 use Rattle.tables.specs.Representation.{Sits, here, there, GoalsAt, no-goal, still-open, is-closed, Goals, OpenAt, OpenAgree}
 use Rattle.tables.specs.Representation.{none-open as nothing-open, one-open}
 use Rattle.facts.proofs.Lists.{one-more}
@@ -171,7 +171,7 @@ module _ {text table : List ℕ} {base : ℕ} {Means : ℕ → Term → Type 0} 
   -- Whatever keeps the buckets of goals and the goals' words keeps the goals.
   pub goals-kept : (table′ : List ℕ) → Goals text table base Means goals openGoals
       → length table′ ≡ length table
-      → Same table table′ 0 128
+      → Same table table′ 0 goalBuckets
       → Same table table′ base (base + 4 * length goals)
       → Goals text table′ base Means goals openGoals
   goals-kept table′ g l h k =
@@ -194,7 +194,7 @@ module _ {text table : List ℕ} {base : ℕ} {Means : ℕ → Term → Type 0} 
       → v ≡ w + 1
       → Means w j
       → someOf (isGoal (part s t text)) goals ≡ false
-      → Goals text (entered 0 128 (base + 4 * length goals) text s t v table) base Means
+      → Goals text (entered 0 goalBuckets (base + 4 * length goals) text s t v table) base Means
       (goals ++ (goal (part s t text) j ∷ [])) (openGoals ++ (goal (part s t text) j ∷ []))
   unfolding top isGoal entered
   goals-add s t w v j g room x y z m n =
@@ -203,7 +203,7 @@ module _ {text table : List ℕ} {base : ℕ} {Means : ℕ → Term → Type 0} 
       let new : List Goal = goal name j ∷ [] in
       let f = g .names .buckets-first in
       let o = one-more goals (goal name j) in
-      let c = length-entered table 0 128 e text s t v in
+      let c = length-entered table 0 goalBuckets e text s t v in
       record {
         entries = entry e name ∷ g .entries;
         names = kept-put (e + 3) v (add-law e s t (g .names) (g .below) (omega arith) x y) (omega arith);
@@ -213,8 +213,8 @@ module _ {text table : List ℕ} {base : ℕ} {Means : ℕ → Term → Type 0} 
             (stands-kept isGoal (Sits base goals) (Sits base (goals ++ new)) (g .stands) (λ d other a p q. sits-more new q));
         values =
             values-add w name j
-            (values-kept (g .values) (λ i l h. entered-same table 0 128 e text s t v (omega arith) base e (omega arith) (omega arith) .words i l h))
-            (entered-value table 0 128 e text s t v (omega arith) ∙ z) m n;
+            (values-kept (g .values) (λ i l h. entered-same table 0 goalBuckets e text s t v (omega arith) base e (omega arith) (omega arith) .words i l h))
+            (entered-value table 0 goalBuckets e text s t v (omega arith) ∙ z) m n;
       }
 
 -- An address that stands for something.
@@ -288,6 +288,6 @@ module _ {text table : List ℕ} {base : ℕ} {Means : ℕ → Term → Type 0} 
         },
         q,
       ) where
-        not-owned : {j : Term} → Sits base goals e (goal key j) → Owns 0 128 (g .entries) (e + 3) → ⊥
+        not-owned : {j : Term} → Sits base goals e (goal key j) → Owns 0 goalBuckets (g .entries) (e + 3) → ⊥
         not-owned s (bucket-word l h) = let (low, high) = sits-bounds s in let f = g .names .buckets-first in omega arith
         not-owned s (entry-word m l h) = let (b, t) = stands-means (g .stands) m in sits-apart t s l h

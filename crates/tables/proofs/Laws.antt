@@ -19,7 +19,7 @@ use Rattle.names.proofs.Kept.{empty-table}
 use Rattle.words.proofs.Writing.{length-cleared, getD-cleared}
 use Rattle.names.proofs.Declared.{stands-kept}
 use Rattle.words.specs.Sums.{sum32}
-use Rattle.tables.specs.Words.{noneYet, entered, goalFound, goalOpen, goalAdded, goalCounted, goalClosed, goalDone, defFound}
+use Rattle.tables.specs.Words.{goalBuckets, noneYet, entered, goalFound, goalOpen, goalAdded, goalCounted, goalClosed, goalDone, defFound}
 use Rattle.tables.specs.Words.{defMeaning, defAdded, defCounted, stepAdded, stepCounted, stepWord}
 use Rattle.tables.specs.declared.Tally.{Tally}
 use Rattle.tables.specs.Representation.{GoalsAt, no-goal, still-open, is-closed, DefAt, StepAt, Tables, OpenAt, OpenAgree, StepAgree}
@@ -45,18 +45,18 @@ open-few (is-closed v n g) = omega (arith, open-few g)
 -- At the start nothing is held.
 pub begin-holds : (goalsText certificate table : List ℕ) (buckets : ℕ) (Means : ℕ → Term → Type 0) (Recorded : ℕ → ℕ → ℕ → Step → Type 0)
     → 0 < buckets
-    → 128 + buckets ≤ length table
+    → goalBuckets + buckets ≤ length table
     → length table < 4294967296
-    → Tables goalsText certificate (cleared (128 + buckets) table) buckets Means Recorded (noneYet buckets) [] [] [] []
+    → Tables goalsText certificate (cleared (goalBuckets + buckets) table) buckets Means Recorded (noneYet buckets) [] [] [] []
 unfolding noneYet top
 begin-holds goalsText certificate table buckets Means Recorded p f small =
-    let l = length-cleared (128 + buckets) table in
-    let z = sum-small 128 buckets (omega arith) in
+    let l = length-cleared (goalBuckets + buckets) table in
+    let z = sum-small goalBuckets buckets (omega arith) in
     record {
       goal-part =
           record {
             entries = [];
-            names = empty-table goalsText (omega arith) (omega arith) (omega arith) (λ i x y. getD-cleared (128 + buckets) table i (omega arith));
+            names = empty-table goalsText (omega arith) (omega arith) (omega arith) (λ i x y. getD-cleared (goalBuckets + buckets) table i (omega arith));
             below = omega arith;
             inside = omega arith;
             stands = none-yet;
@@ -65,7 +65,7 @@ begin-holds goalsText certificate table buckets Means Recorded p f small =
       def-part =
           record {
             entries = [];
-            names = empty-table certificate p (omega arith) (omega arith) (λ i x y. getD-cleared (128 + buckets) table i y);
+            names = empty-table certificate p (omega arith) (omega arith) (λ i x y. getD-cleared (goalBuckets + buckets) table i y);
             below = omega arith;
             stands = none-yet;
           };
@@ -85,7 +85,7 @@ module _ {goalsText certificate table : List ℕ} {buckets : ℕ} {Means : ℕ �
   pub known-goal : (key : Name) → present (goalFound goalsText key table) ≡ someOf (isGoal key) goals
   known-goal key = goal-known (h .goal-part) key
 
-  pub open-goal : (key : Name) → OpenAgree table (128 + buckets) Means goals key (goalOpen goalsText key table) (first (isGoal key) openGoals)
+  pub open-goal : (key : Name) → OpenAgree table (goalBuckets + buckets) Means goals key (goalOpen goalsText key table) (first (isGoal key) openGoals)
   open-goal key = open-agrees (h .goal-part) key
 
   pub known-def : (key : Name) → present (defFound buckets certificate key table) ≡ someOf (isDef key) defs
@@ -116,18 +116,18 @@ module _ {goalsText certificate table : List ℕ} {buckets : ℕ} {Means : ℕ �
       let i = h .step-part .inside in
       let k = h .small in
       let p = h .def-part .names .some-bucket in
-      let l = length-entered table 128 buckets e certificate s t w in
+      let l = length-entered table goalBuckets buckets e certificate s t w in
       let z = sum-small e 4 (omega arith) in
       let o = one-more defs (def (part s t certificate) u) in
       record {
         goal-part =
-            goals-kept (entered 128 buckets e certificate s t w table) (h .goal-part) l
-            (entered-below table 128 buckets e certificate s t w p 0 128 (omega arith) (omega arith))
-            (entered-same table 128 buckets e certificate s t w p (128 + buckets) (128 + buckets + 4 * length goals) (omega arith) (omega arith));
+            goals-kept (entered goalBuckets buckets e certificate s t w table) (h .goal-part) l
+            (entered-below table goalBuckets buckets e certificate s t w p 0 goalBuckets (omega arith) (omega arith))
+            (entered-same table goalBuckets buckets e certificate s t w p (goalBuckets + buckets) (goalBuckets + buckets + 4 * length goals) (omega arith) (omega arith));
         def-part = rw q (defs-add s t w u (h .def-part) (omega arith) x y m n);
         step-part =
-            steps-kept (entered 128 buckets e certificate s t w table) (h .step-part) l
-            (entered-above table 128 buckets e certificate s t w p (length table - 3 * length steps) (length table) (omega arith) (omega arith));
+            steps-kept (entered goalBuckets buckets e certificate s t w table) (h .step-part) l
+            (entered-above table goalBuckets buckets e certificate s t w p (length table - 3 * length steps) (length table) (omega arith) (omega arith));
         small = omega arith;
         room = omega arith;
         top-is = omega arith;
@@ -154,12 +154,12 @@ module _ {goalsText certificate table : List ℕ} {buckets : ℕ} {Means : ℕ �
       record {
         goal-part =
             goals-kept (stepAdded j r place tally table) (h .goal-part) l
-            (step-added-below table j r place tally 0 128 (omega arith))
-            (step-added-below table j r place tally (128 + buckets) (128 + buckets + 4 * length goals) (omega arith));
+            (step-added-below table j r place tally 0 goalBuckets (omega arith))
+            (step-added-below table j r place tally (goalBuckets + buckets) (goalBuckets + buckets + 4 * length goals) (omega arith));
         def-part =
             defs-kept (stepAdded j r place tally table) (h .def-part) l
-            (step-added-below table j r place tally 128 (128 + buckets) (omega arith))
-            (step-added-below table j r place tally (128 + buckets + 4 * length goals) (128 + buckets + 4 * length goals + 4 * length defs) (omega arith));
+            (step-added-below table j r place tally goalBuckets (goalBuckets + buckets) (omega arith))
+            (step-added-below table j r place tally (goalBuckets + buckets + 4 * length goals) (goalBuckets + buckets + 4 * length goals + 4 * length defs) (omega arith));
         step-part = steps-add j r place s tally (h .step-part) c (omega arith) x m;
         small = omega arith;
         room = omega arith;
@@ -170,7 +170,7 @@ module _ {goalsText certificate table : List ℕ} {buckets : ℕ} {Means : ℕ �
       }
 
   -- A goal closed: "(result N I)".
-  pub close-goal : (key : Name) (e w : ℕ) (g : Goal) → OpenAt table (128 + buckets) Means goals key e w g
+  pub close-goal : (key : Name) (e w : ℕ) (g : Goal) → OpenAt table (goalBuckets + buckets) Means goals key e w g
       → Tables goalsText certificate (goalClosed e table) buckets Means Recorded (goalDone tally) goals (without key openGoals) defs steps
   unfolding goalClosed goalDone
   close-goal key e w g a =
@@ -184,8 +184,8 @@ module _ {goalsText certificate table : List ℕ} {buckets : ℕ} {Means : ℕ �
         goal-part = p;
         def-part =
             defs-kept (set table (e + 3) 0) (h .def-part) l
-            (set-same table (e + 3) 0 128 (128 + buckets) (λ x y. omega arith))
-            (set-same table (e + 3) 0 (128 + buckets + 4 * length goals) (128 + buckets + 4 * length goals + 4 * length defs) (λ x y. omega arith));
+            (set-same table (e + 3) 0 goalBuckets (goalBuckets + buckets) (λ x y. omega arith))
+            (set-same table (e + 3) 0 (goalBuckets + buckets + 4 * length goals) (goalBuckets + buckets + 4 * length goals + 4 * length defs) (λ x y. omega arith));
         step-part =
             steps-kept (set table (e + 3) 0) (h .step-part) l
             (set-same table (e + 3) 0 (length table - 3 * length steps) (length table) (λ x y. omega arith));
@@ -231,7 +231,7 @@ module _ {goalsText certificate table : List ℕ} {buckets : ℕ} {Means : ℕ �
         steps-is = h .steps-is;
       } where
         low : ℕ
-        low = 128 + buckets + 4 * length goals
+        low = goalBuckets + buckets + 4 * length goals
 
         high : ℕ
         high = low + 4 * length defs
@@ -258,13 +258,13 @@ add-goal {goalsText} {certificate} {table} {buckets} {tally} {goals} {openGoals}
     let e : ℕ = tally .top in
     let v : ℕ = sum32 w 1 in
     let g : Goal = goal (part s t goalsText) j in
-    let q : e ≡ 128 + buckets + 4 * length goals = let u = h .top-is in omega arith in
+    let q : e ≡ goalBuckets + buckets + 4 * length goals = let u = h .top-is in omega arith in
     let i = h .step-part .inside in
     let k = h .small in
     let c = h .goals-is in
     let d = h .left-is in
     let shorter = open-few (h .goal-part .values) in
-    let l = length-entered table 0 128 e goalsText s t v in
+    let l = length-entered table 0 goalBuckets e goalsText s t v in
     let u₁ = sum-small e 4 (omega arith) in
     let u₂ = sum-small (tally .goals) 1 (omega arith) in
     let u₃ = sum-small (tally .left) 1 (omega arith) in
@@ -273,14 +273,14 @@ add-goal {goalsText} {certificate} {table} {buckets} {tally} {goals} {openGoals}
     record {
       goal-part = rw q (goals-add s t w v j (h .goal-part) (omega arith) x y (sum-small w 1 z) m n);
       def-part =
-          defs-raised (128 + buckets + 4 * length (goals ++ (g ∷ [])))
-          (defs-kept (entered 0 128 e goalsText s t v table) (h .def-part) l
-          (entered-same table 0 128 e goalsText s t v (omega arith) 128 (128 + buckets) (omega arith) (omega arith))
-          (entered-same table 0 128 e goalsText s t v (omega arith) (128 + buckets + 4 * length goals) (128 + buckets + 4 * length goals + 0) (omega arith) (omega arith)))
+          defs-raised (goalBuckets + buckets + 4 * length (goals ++ (g ∷ [])))
+          (defs-kept (entered 0 goalBuckets e goalsText s t v table) (h .def-part) l
+          (entered-same table 0 goalBuckets e goalsText s t v (omega arith) goalBuckets (goalBuckets + buckets) (omega arith) (omega arith))
+          (entered-same table 0 goalBuckets e goalsText s t v (omega arith) (goalBuckets + buckets + 4 * length goals) (goalBuckets + buckets + 4 * length goals + 0) (omega arith) (omega arith)))
           (omega arith);
       step-part =
-          steps-kept (entered 0 128 e goalsText s t v table) (h .step-part) l
-          (entered-above table 0 128 e goalsText s t v (omega arith) (length table - 3 * length steps) (length table) (omega arith) (omega arith));
+          steps-kept (entered 0 goalBuckets e goalsText s t v table) (h .step-part) l
+          (entered-above table 0 goalBuckets e goalsText s t v (omega arith) (length table - 3 * length steps) (length table) (omega arith) (omega arith));
       small = omega arith;
       room = omega arith;
       top-is = omega arith;

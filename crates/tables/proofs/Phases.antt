@@ -21,7 +21,7 @@ use Rattle.capacity.proofs.Forms.{goal-keeps, certificate-keeps}
 use Rattle.capacity.proofs.Rooms.{goals-start, certificate-start}
 use Rattle.tables.specs.declared.Tally.{Tally}
 use Rattle.words.specs.Sums.{sum32}
-use Rattle.tables.specs.Words.{noneYet, goalAdded, goalCounted, goalClosed, goalDone, defAdded, defCounted, stepAdded, stepCounted}
+use Rattle.tables.specs.Words.{goalBuckets, noneYet, goalAdded, goalCounted, goalClosed, goalDone, defAdded, defCounted, stepAdded, stepCounted}
 use Rattle.tables.specs.Representation.{OpenAt}
 use Rattle.tables.specs.Phases.{Gathering, Between}
 use Rattle.facts.proofs.Lists.{one-more}
@@ -59,13 +59,13 @@ module _ (goalsText certificate : List ℕ) (goalsBytes certificateBytes buckets
   So-far = Between goalsText certificate goalsBytes certificateBytes buckets Means Recorded
 
   -- Before the first goal.
-  pub first-goal : (table : List ℕ) → 0 < buckets → 128 + buckets ≤ length table → length table < 4294967296 → length goalsText ≤ goalsBytes
-      → Roomy (128 + buckets) goalsBytes certificateBytes (length table)
-      → Goals-so-far (cleared (128 + buckets) table) (noneYet buckets) [] (items (tokens goalsText))
+  pub first-goal : (table : List ℕ) → 0 < buckets → goalBuckets + buckets ≤ length table → length table < 4294967296 → length goalsText ≤ goalsBytes
+      → Roomy (goalBuckets + buckets) goalsBytes certificateBytes (length table)
+      → Goals-so-far (cleared (goalBuckets + buckets) table) (noneYet buckets) [] (items (tokens goalsText))
   first-goal table p f small short r =
       record {
         tables = begin-holds goalsText certificate table buckets Means Recorded p f small;
-        roomy = same-room _ (length-cleared (128 + buckets) table) r;
+        roomy = same-room _ (length-cleared (goalBuckets + buckets) table) r;
         budget = goals-start goalsText goalsBytes short;
       }
 
@@ -85,7 +85,7 @@ module _ (goalsText certificate : List ℕ) (goalsBytes certificateBytes buckets
       let room = goal-room (g .roomy) (g .tables) b (one-more goals (goal (part s t goalsText) j)) in
       record {
         tables = add-goal s t w j (g .tables) room x y z m n;
-        roomy = same-room _ (length-entered table 0 128 (tally .top) goalsText s t (sum32 w 1)) (g .roomy);
+        roomy = same-room _ (length-entered table 0 goalBuckets (tally .top) goalsText s t (sum32 w 1)) (g .roomy);
         budget = b;
       }
 
@@ -119,7 +119,7 @@ module _ (goalsText certificate : List ℕ) (goalsBytes certificateBytes buckets
         let room = def-room (g .roomy) (g .tables) (g .few) b (one-more (now .defs) (def (part s t certificate) u)) refl in
         record {
           tables = add-def (g .tables) s t w u room x y m n;
-          roomy = same-room _ (length-entered table 128 buckets (tally .top) certificate s t w) (g .roomy);
+          roomy = same-room _ (length-entered table goalBuckets buckets (tally .top) certificate s t w) (g .roomy);
           few = g .few;
           budget = b;
         }
@@ -144,7 +144,7 @@ module _ (goalsText certificate : List ℕ) (goalsBytes certificateBytes buckets
     -- "(result N I)".
     pub next-result : (key : Name) (e w : ℕ) (a : Goal)
         → certificateForm limits th now item store ≡ ok (record { defs = now .defs; openGoals = without key (now .openGoals); steps = now .steps }, store′)
-        → OpenAt table (128 + buckets) Means goals key e w a
+        → OpenAt table (goalBuckets + buckets) Means goals key e w a
         → So-far (goalClosed e table) (goalDone tally) goals (record { defs = now .defs; openGoals = without key (now .openGoals); steps = now .steps }) rest
     unfolding goalClosed
     next-result key e w a f o =

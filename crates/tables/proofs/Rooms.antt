@@ -13,9 +13,10 @@ use Rattle.capacity.specs.Budgets.{GoalBudget, Budget, Roomy}
 use Rattle.capacity.proofs.Rooms.{goals-fit, tables-fit}
 use Rattle.tables.specs.declared.Tally.{Tally}
 use Rattle.tables.specs.Representation.{Tables}
+use Rattle.tables.specs.Words.{goalBuckets}
 
 module _ {goalsText certificate table : List ℕ} {buckets : ℕ} {Means : ℕ → Term → Type 0} {Recorded : ℕ → ℕ → ℕ → Step → Type 0} {tally : Tally}
-    {goals openGoals : List Goal} {goalsBytes certificateBytes : ℕ} (roomy : Roomy (128 + buckets) goalsBytes certificateBytes (length table)) where
+    {goals openGoals : List Goal} {goalsBytes certificateBytes : ℕ} (roomy : Roomy (goalBuckets + buckets) goalsBytes certificateBytes (length table)) where
   -- While goals are read.
   pub goal-room : {more : List Goal} {left : Items}
       → Tables goalsText certificate table buckets Means Recorded tally goals openGoals [] []

@@ -11,7 +11,7 @@ use Rattle.horn.specs.StoredTerms.{Term}
 use Rattle.horn.specs.Checker.{Def, meaning, isDef, Goal, goal, isGoal}
 use Rattle.horn.specs.Matching.{Step}
 use Rattle.names.specs.Tables.{Entry, top, Table, Stands}
-use Rattle.tables.specs.Words.{stepAt}
+use Rattle.tables.specs.Words.{goalBuckets, stepAt}
 use Rattle.tables.specs.declared.Tally.{Tally}
 
 -- The address of each of some things, four words apart, from an address on.
@@ -38,7 +38,7 @@ pub data GoalsAt (table : List ℕ) (Means : ℕ → Term → Type 0) : ℕ → 
 -- The goals: found by name, in order from `base` on, each open or closed.
 pub record Goals (text table : List ℕ) (base : ℕ) (Means : ℕ → Term → Type 0) (goals openGoals : List Goal) : Type 0 where
   pub entries : List Entry
-  pub names : Table table 0 128 base text entries
+  pub names : Table table 0 goalBuckets base text entries
   pub below : top base entries ≤ base + 4 * length goals
   pub inside : base + 4 * length goals ≤ length table
   pub stands : Stands isGoal (Sits base goals) entries goals
@@ -53,7 +53,7 @@ pub record DefAt (table : List ℕ) (Means : ℕ → Term → Type 0) (low high 
 -- The abbreviations, which stand from `base` on.
 pub record Defs (text table : List ℕ) (buckets base : ℕ) (Means : ℕ → Term → Type 0) (defs : List Def) : Type 0 where
   pub entries : List Entry
-  pub names : Table table 128 buckets base text entries
+  pub names : Table table goalBuckets buckets base text entries
   pub below : top base entries ≤ base + 4 * length defs
   pub stands : Stands isDef (DefAt table Means base (base + 4 * length defs)) entries defs
 
@@ -70,12 +70,12 @@ pub record Steps (table : List ℕ) (Recorded : ℕ → ℕ → ℕ → Step →
 -- All of them in one area, and how many there are.
 pub record Tables (goalsText certificate table : List ℕ) (buckets : ℕ) (Means : ℕ → Term → Type 0) (Recorded : ℕ → ℕ → ℕ → Step → Type 0)
     (tally : Tally) (goals openGoals : List Goal) (defs : List Def) (steps : List Step) : Type 0 where
-  pub goal-part : Goals goalsText table (128 + buckets) Means goals openGoals
-  pub def-part : Defs certificate table buckets (128 + buckets + 4 * length goals) Means defs
+  pub goal-part : Goals goalsText table (goalBuckets + buckets) Means goals openGoals
+  pub def-part : Defs certificate table buckets (goalBuckets + buckets + 4 * length goals) Means defs
   pub step-part : Steps table Recorded steps
   pub small : length table < 4294967296
   pub room : tally .top + 3 * length steps ≤ length table
-  pub top-is : tally .top ≡ 128 + buckets + 4 * length goals + 4 * length defs
+  pub top-is : tally .top ≡ goalBuckets + buckets + 4 * length goals + 4 * length defs
   pub goals-is : tally .goals ≡ length goals
   pub left-is : tally .left ≡ length openGoals
   pub steps-is : tally .steps ≡ length steps

@@ -13,6 +13,10 @@ use Rattle.tables.specs.declared.Open.the-variants as opened
 use Rattle.tables.specs.declared.Kept.{Kept}
 use Rattle.tables.specs.declared.Kept.the-variants as kept
 
+-- Buckets of goals; those of abbreviations stand behind them.
+abbrev pub goalBuckets : ℕ
+goalBuckets = 128
+
 -- What the cases of an answer say: a word, or that there is none;
 abbrev pub told : Kept → Option ℕ
 told (kept.Is w) = some w
@@ -24,7 +28,7 @@ toldOpen (opened.At e j) = some (e, j)
 toldOpen opened.Nothing = none
 
 unfoldable pub noneYet : ℕ → Tally
-noneYet buckets = record { top = sum32 128 buckets; goals = 0; left = 0; steps = 0 }
+noneYet buckets = record { top = sum32 goalBuckets buckets; goals = 0; left = 0; steps = 0 }
 
 -- A new entry with its value.
 unfoldable pub entered : ℕ → ℕ → ℕ → List ℕ → ℕ → ℕ → ℕ → List ℕ → List ℕ
@@ -32,7 +36,7 @@ entered buckets count e text s t value table = set (added table buckets count e 
 
 -- Goals.
 unfoldable pub goalFound : List ℕ → List ℕ → List ℕ → Option ℕ
-goalFound goals key table = found table 0 128 goals key
+goalFound goals key table = found table 0 goalBuckets goals key
 
 unfoldable pub openAt : List ℕ → ℕ → Option (ℕ × ℕ)
 openAt table e = elim (eqb (getD table (e + 3) 0) 0) [ true ↦ none | false ↦ some (e, getD table (e + 3) 0 - 1) ]
@@ -41,7 +45,7 @@ unfoldable pub goalOpen : List ℕ → List ℕ → List ℕ → Option (ℕ × 
 goalOpen goals key table = elim (goalFound goals key table) [ none ↦ none | some e ↦ openAt table e ]
 
 unfoldable pub goalAdded : List ℕ → ℕ → ℕ → ℕ → Tally → List ℕ → List ℕ
-goalAdded goals s t judgment tally table = entered 0 128 (tally .top) goals s t (sum32 judgment 1) table
+goalAdded goals s t judgment tally table = entered 0 goalBuckets (tally .top) goals s t (sum32 judgment 1) table
 
 unfoldable pub goalCounted : Tally → Tally
 goalCounted tally =
@@ -55,14 +59,14 @@ goalDone tally = record { top = tally .top; goals = tally .goals; left = tally .
 
 -- Abbreviations.
 unfoldable pub defFound : ℕ → List ℕ → List ℕ → List ℕ → Option ℕ
-defFound buckets certificate key table = found table 128 buckets certificate key
+defFound buckets certificate key table = found table goalBuckets buckets certificate key
 
 unfoldable pub defMeaning : ℕ → List ℕ → List ℕ → List ℕ → Option ℕ
 defMeaning buckets certificate key table =
     elim (defFound buckets certificate key table) [ none ↦ none | some e ↦ some (getD table (e + 3) 0) ]
 
 unfoldable pub defAdded : ℕ → List ℕ → ℕ → ℕ → ℕ → Tally → List ℕ → List ℕ
-defAdded buckets certificate s t term tally table = entered 128 buckets (tally .top) certificate s t term table
+defAdded buckets certificate s t term tally table = entered goalBuckets buckets (tally .top) certificate s t term table
 
 unfoldable pub defCounted : Tally → Tally
 defCounted tally = record { top = sum32 (tally .top) 4; goals = tally .goals; left = tally .left; steps = tally .steps }

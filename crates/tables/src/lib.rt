@@ -7,7 +7,7 @@ ghost use Prim.Native.Nat.{_+_, _-_, _%_};
 ghost use lib.ListN.{length};
 ghost use Rattle.words.specs.Parts.{part, cleared};
 ghost use Rattle.names.specs.Chains.{answered};
-ghost use Rattle.tables.specs.Words.{told, toldOpen, noneYet, entered, goalFound, goalOpen, goalAdded, goalCounted, goalClosed, goalDone};
+ghost use Rattle.tables.specs.Words.{goalBuckets, told, toldOpen, noneYet, entered, goalFound, goalOpen, goalAdded, goalCounted, goalClosed, goalDone};
 ghost use Rattle.tables.specs.Words.{defFound, defMeaning, defAdded, defCounted, stepAt, stepAdded, stepCounted, stepWord};
 use names::Found;
 
@@ -31,14 +31,18 @@ pub enum Kept {
     Nothing,
 }
 
+// Buckets of goals; those of abbreviations stand behind them.
+pub const GOAL_BUCKETS: u32 = 128;
+
 // No goal, no abbreviation, no step: zero buckets.
 pub fn begin(table: &mut [u32], buckets: u32) -> Tally
     ensures { λ r. ⌜ r ≡ noneYet buckets ⌝ }
-    ensures { λ r. ⌜ now (table .exit) ≡ cleared (128 + buckets) (now (table .entry)) ⌝ }
+    ensures { λ r. ⌜ now (table .exit) ≡ cleared (goalBuckets + buckets) (now (table .entry)) ⌝ }
 {
-    words::clear(table, 128 + buckets as usize);
+    let words = GOAL_BUCKETS as usize + buckets as usize;
+    words::clear(table, words);
     Tally {
-        top: words::plus(128, buckets),
+        top: words::plus(GOAL_BUCKETS, buckets),
         goals: 0,
         left: 0,
         steps: 0,
@@ -66,7 +70,7 @@ fn enter(
 pub fn find_goal(table: &[u32], goals: &[u8], from: &[u8], s: usize, t: usize) -> Found
     ensures { λ r. ⌜ answered r ≡ goalFound (now (goals .entry)) (part s t (now (from .entry))) (now (table .entry)) ⌝ }
 {
-    names::find(table, 0, 128, goals, from, s, t)
+    names::find(table, 0, GOAL_BUCKETS, goals, from, s, t)
 }
 
 // The goal still open that has a name.
@@ -97,7 +101,16 @@ pub fn add_goal(
     ensures { λ r. ⌜ now (table .exit) ≡ goalAdded (now (goals .entry)) s t judgment tally (now (table .entry)) ⌝ }
 {
     let e = tally.top;
-    enter(table, 0, 128, e, goals, s, t, words::plus(judgment, 1));
+    enter(
+        table,
+        0,
+        GOAL_BUCKETS,
+        e,
+        goals,
+        s,
+        t,
+        words::plus(judgment, 1),
+    );
     Tally {
         top: words::plus(e, 4),
         goals: words::plus(tally.goals, 1),
@@ -128,7 +141,7 @@ pub fn close_goal(table: &mut [u32], e: u32, tally: Tally) -> Tally
 pub fn find_def(table: &[u32], buckets: u32, certificate: &[u8], s: usize, t: usize) -> Found
     ensures { λ r. ⌜ answered r ≡ defFound buckets (now (certificate .entry)) (part s t (now (certificate .entry))) (now (table .entry)) ⌝ }
 {
-    names::find(table, 128, buckets, certificate, certificate, s, t)
+    names::find(table, GOAL_BUCKETS, buckets, certificate, certificate, s, t)
 }
 
 // The term that an abbreviation stands for.
@@ -156,7 +169,7 @@ pub fn add_def(
     ensures { λ r. ⌜ now (table .exit) ≡ defAdded buckets (now (certificate .entry)) s t term tally (now (table .entry)) ⌝ }
 {
     let e = tally.top;
-    enter(table, 128, buckets, e, certificate, s, t, term);
+    enter(table, GOAL_BUCKETS, buckets, e, certificate, s, t, term);
     Tally {
         top: words::plus(e, 4),
         goals: tally.goals,

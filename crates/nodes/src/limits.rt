@@ -1,0 +1,11 @@
+// 01's limits where goals and certificate are read (specs/Limits.antt says the same of the models).
+
+// "At most 2,048 nodes and 8,192 words", and the places of the store's index.
+pub const NODES: u32 = 2048;
+
+pub const WORDS: u32 = 8192;
+
+pub const PLACES: u32 = 4096;
+
+// Buckets of abbreviations.
+pub const DEF_BUCKETS: u32 = 128;
