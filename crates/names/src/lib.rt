@@ -41,8 +41,7 @@ fn is_named(area: &[u32], e: u32, text: &[u8], key: &[u8]) -> bool
 {
     let start = words::at(area, e as usize);
     let end = words::at(area, e as usize + 1);
-    let name = words::bytes_part(text, start as usize, end as usize);
-    words::same(name, key)
+    words::is_part(text, start as usize, end as usize, key)
 }
 
 // The entry before the one at e in its bucket. A link that does not fall is no link, so every chain ends.

@@ -11,8 +11,8 @@ use native.Mathlib.Numerals.{add-one}
 use native.Mathlib.Omega.{arith}
 use borrow.Author.Tests.{ne-eqb, eq-eqb}
 use lib.Dec.{eqb}
-use lib.ListN.{length, take, drop, getD, set, length-drop, drop-of-length-le}
-use lib.Seq.{take-all, take-nil, drop-cons}
+use lib.ListN.{length, take, drop, getD, set, length-drop, length-take, drop-of-length-le}
+use lib.Seq.{take-all, take-nil, drop-cons, getD-take, getD-drop}
 use Rattle.words.specs.Parts.{part, sameBytes, cleared}
 use Rattle.words.specs.Hash.{hashed, hashedAll}
 
@@ -44,6 +44,18 @@ lengths-differ (x ∷ a) (y ∷ b) d = below (eqb x y) (lengths-differ a b (λ e
   below true h = h
   below false h = refl
 
+-- Texts that differ somewhere differ.
+differ-at : (a b : List ℕ) (i : ℕ) → (getD a i 0 ≡ getD b i 0 → ⊥) → sameBytes a b ≡ false
+unfolding sameBytes
+differ-at [] [] i d = absurd (d refl)
+differ-at [] (y ∷ b) i d = refl
+differ-at (x ∷ a) [] i d = refl
+differ-at (x ∷ a) (y ∷ b) zero d = rw (ne-eqb x y d, sameBytes)
+differ-at (x ∷ a) (y ∷ b) (suc i) d = below (eqb x y) (differ-at a b i d) where
+  below : (t : Bool) → sameBytes a b ≡ false → elim t [ true ↦ sameBytes a b | false ↦ false ] ≡ false
+  below true h = h
+  below false h = refl
+
 module _ (a b : List ℕ) (i : ℕ) (h : i < length a) (k : i < length b) where
   -- One turn of the comparison where the bytes are equal, and where they differ.
   pub same-on : getD a i 0 ≡ getD b i 0 → sameBytes (drop i a) (drop i b) ≡ sameBytes (drop (i + 1) a) (drop (i + 1) b)
@@ -57,6 +69,30 @@ module _ (a b : List ℕ) (i : ℕ) (h : i < length a) (k : i < length b) where
 pub same-end : (a b : List ℕ) (i : ℕ) → length a ≤ i → length b ≤ i → sameBytes (drop i a) (drop i b) ≡ true
 unfolding sameBytes
 same-end a b i h k = rw (drop-of-length-le a h, drop-of-length-le b k)
+
+module _ (text key : List ℕ) (start end : ℕ) (h : end ≤ length text) where
+  -- A part that is there differs from what has another length, and from what ends on another byte.
+  length-within : length (part start end text) ≡ end - start
+  unfolding part
+  length-within = length-take (end - start) (drop start text) ∙ rw (length-drop start text) (omega arith)
+
+  pub part-empty : (length key ≡ 0 → ⊥) → end ≤ start → sameBytes (part start end text) key ≡ false
+  part-empty n k = lengths-differ (part start end text) key (λ e. n (sym e ∙ length-within ∙ omega arith))
+
+  pub part-unlike : (end - start ≡ length key → ⊥) → sameBytes (part start end text) key ≡ false
+  part-unlike n = lengths-differ (part start end text) key (λ e. n (sym length-within ∙ e))
+
+  pub part-ends : (length key ≡ 0 → ⊥) → end - start ≡ length key → (getD text (end - 1) 0 ≡ getD key (length key - 1) 0 → ⊥)
+      → sameBytes (part start end text) key ≡ false
+  unfolding part
+  part-ends n l d =
+      differ-at (part start end text) key last
+      (λ e. d
+      (ap (λ (k : ℕ). getD text k 0) (omega (arith, n)) ∙ sym (getD-drop start text last 0)
+      ∙ sym (getD-take (end - start) (drop start text) last 0 (omega (arith, n)))
+      ∙ e)) where
+        last : ℕ
+        last = length key - 1
 
 -- Clearing one word more.
 pub cleared-more : (n : ℕ) (s : List ℕ) → n < length s → set (cleared n s) n 0 ≡ cleared (n + 1) s

@@ -102,6 +102,37 @@ pub fn same_words(a: &[u32], b: &[u32]) -> bool
     true
 }
 
+// Whether a part of a text is equal to `key`, by taking the part.
+fn is_taken(text: &[u8], start: usize, end: usize, key: &[u8]) -> bool
+    ensures { λ r. ⌜ r ≡ sameBytes (part start end (now (text .entry))) (now (key .entry)) ⌝ }
+{
+    let x = bytes_part(text, start, end);
+    same(x, key)
+}
+
+// The same, where names are searched for: the bounds and the last byte tell most parts that are not equal.
+pub fn is_part(text: &[u8], start: usize, end: usize, key: &[u8]) -> bool
+    ensures { λ r. ⌜ r ≡ sameBytes (part start end (now (text .entry))) (now (key .entry)) ⌝ }
+{
+    let n = key.len();
+    if n == 0 {
+        return is_taken(text, start, end, key);
+    }
+    if text.len() < end {
+        return is_taken(text, start, end, key);
+    }
+    if end <= start {
+        return false;
+    }
+    if end - start != n {
+        return false;
+    }
+    if text[end - 1] != key[n - 1] {
+        return false;
+    }
+    is_taken(text, start, end, key)
+}
+
 // Whether a part of one text is equal to a part of another.
 pub fn same_bytes(a: &[u8], start: usize, end: usize, b: &[u8], from: usize, to: usize) -> bool
     ensures { λ r. ⌜ r ≡ sameBytes (part start end (now (a .entry))) (part from to (now (b .entry))) ⌝ }

@@ -6,10 +6,10 @@ use Rattle.names.proofs.is_named.Tie as tie
 
 returns : tie.Need-returns
 unfolding nameAt
-returns c = rw (← c .before .before .before .at .ensures, ← c .before .before .at2 .ensures, ← c .before .bytes-part .ensures) (c .same .ensures)
+returns c = rw (← c .before .before .at .ensures, ← c .before .at2 .ensures) (c .is-part .ensures)
 
 pub is-named-spec : {M : Type 1} → statement M
 is-named-spec =
     tie.close
     (tie.spec (λ c κs. search needs) (λ c. search needs) (λ c κs. search needs) (λ c. search needs) (λ c. search needs)
-    (λ c κs. search needs) (λ c κs. search needs) returns)
+    (λ c κs. search needs) returns)
