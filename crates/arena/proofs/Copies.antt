@@ -1,17 +1,12 @@
 -- Words read from lists.
 use Prim.Native.Nat.{ℕ, zero, suc, _+_, _-_, _≤_, _<_}
-use mathlib.Core.Path.{_≡_, refl, sym, ap, _∙_}
+use mathlib.Core.Path.{_≡_, refl, sym, _∙_}
 use mathlib.Core.List.{List}
 use native.Mathlib.Omega.{arith}
 use lib.ListN.{length, getD, take, drop}
 use lib.Seq.{drop-cons, take-length}
 use Rattle.words.specs.Parts.{part}
 use Rattle.arena.specs.Store.{wordsAt}
-
-pub length-wordsAt : (s : List ℕ) (i n : ℕ) → length (wordsAt s i n) ≡ n
-unfolding wordsAt
-length-wordsAt s i zero = refl
-length-wordsAt s i (suc n) = ap suc (length-wordsAt s (i + 1) n)
 
 pub wordsAt-same : (a b : List ℕ) (i j n : ℕ) → ((d : ℕ) → d < n → getD a (i + d) 0 ≡ getD b (j + d) 0) → wordsAt a i n ≡ wordsAt b j n
 unfolding wordsAt

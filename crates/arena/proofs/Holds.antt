@@ -196,7 +196,8 @@ module _ (nodes words places : ℕ) (pos : 0 < places) (place : Node → ℕ) (p
             (λ (p : ℕ). getD new (placeAt nodes p) 0) p free
             (λ i b ne.
             new-else (placeAt nodes i) (λ e. ne (omega arith)) (λ e. omega arith) (λ e. omega arith) ∙ before (placeAt nodes i) (omega arith))
-            (grown-place nodes copy (length s) (total s + length key) p (omega (arith, copy-length, long, p-below)) ∙ native.Mathlib.Numerals.add-one (length s))
+            (grown-place nodes copy (length s) (total s + length key) p (omega (arith, copy-length, long, p-below))
+            ∙ native.Mathlib.Numerals.add-one (length s))
 
         new-length : length new ≡ length a
         unfolding new

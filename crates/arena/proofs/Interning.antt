@@ -125,7 +125,8 @@ module _ (nodes words places : ℕ) (l : Limits nodes words places) where
               made
               (rw (t1, t2, t3, counted))
               (rw (t1, t2, t3)
-              (H.holds-more nodes words places (places-positive nodes words places l) (place places) (place-below nodes words places l) a s h x p e room (omega (arith, fits))))
+              (H.holds-more nodes words places (places-positive nodes words places l) (place places) (place-below nodes words places l) a s h x p e room
+              (omega (arith, fits))))
               absent
               (omega arith)
               (omega (arith, fits))

@@ -6,12 +6,12 @@ use native.Mathlib.Omega.{arith}
 use lib.ListN.{length, getD, take}
 use Rattle.horn.specs.Rulebook.{Symbol}
 use Rattle.horn.specs.StoredTerms.{Term}
-use Rattle.arena.specs.Store.{areaWords, placeAt, wordAt, wordsAt, count, start, sizeOf, headOf, argumentOf, emptied}
+use Rattle.arena.specs.Store.{areaWords, wordAt, wordsAt, count, start, sizeOf, headOf, argumentOf, emptied}
 use Rattle.arena.proofs.Copies.{getD-wordsAt}
 use Rattle.arena.proofs.Nodes.{Node, Nodes, nodeOf, total, total-next}
 use Rattle.arena.proofs.Limits.{Limits}
-use Rattle.arena.proofs.Interning.{Kept, kept-empty, kept-emptied}
-use Rattle.arena.proofs.Trees.{Trees, Formed, treeOf, build, stand-empty}
+use Rattle.arena.proofs.Interning.{Kept, kept-emptied}
+use Rattle.arena.proofs.Trees.{Trees, treeOf, stand-empty}
 
 module _ (nodes words places : ℕ) (a : List ℕ) (s : Nodes) (h : Kept nodes words places a s) (k : ℕ) (b : k < length s) where
   first : start a k ≡ total (take k s)
@@ -41,12 +41,7 @@ module _ (nodes words places : ℕ) (a : List ℕ) (s : Nodes) (h : Kept nodes w
       rw z at (word-read (1 + j) i)
 
 module _ (symbolAt : ℕ → Symbol) (used : ℕ → Type 0) (nodes words places : ℕ) where
-  -- An area whose counts and index are zero holds no tree.
-  pub trees-empty : Limits nodes words places → (a : List ℕ) → areaWords nodes words places ≤ length a → count a ≡ 0 → start a 0 ≡ 0 →
-      ((i : ℕ) → i < places → getD a (placeAt nodes i) 0 ≡ 0) → Trees symbolAt used nodes words places a []
-  trees-empty l a long none first zeros =
-      record { nodesOf = []; kept = kept-empty nodes words places l a long none first zeros; stand = stand-empty symbolAt used }
-
+  -- An area that was emptied holds no tree.
   pub trees-emptied : Limits nodes words places → (a : List ℕ) → areaWords nodes words places ≤ length a →
       Trees symbolAt used nodes words places (emptied a nodes places) []
   trees-emptied l a long = record { nodesOf = []; kept = kept-emptied nodes words places l a long; stand = stand-empty symbolAt used }
@@ -54,15 +49,6 @@ module _ (symbolAt : ℕ → Symbol) (used : ℕ → Type 0) (nodes words places
   module _ (a : List ℕ) (ts : List Term) (t : Trees symbolAt used nodes words places a ts) where
     pub trees-counted : count a ≡ length ts
     trees-counted = t .kept .counted ∙ sym (t .stand .same)
-
-    -- Number k stands for the k-th tree, which its words build from trees with lower numbers.
-    pub tree-read : (k : ℕ) → k < length ts →
-        (treeOf symbolAt ts k ≡ build symbolAt ts (wordsAt a (wordAt nodes places (start a k)) (sizeOf a k))) ×
-        Formed used k (wordsAt a (wordAt nodes places (start a k)) (sizeOf a k))
-    tree-read k b =
-        let i : k < length (t .nodesOf) = omega (arith, t .stand .same) in
-        let e = node-read nodes words places a (t .nodesOf) (t .kept) k i in
-        (rw e (t .stand .built k i), rw e (t .stand .each k i))
 
     -- Numbers are equal exactly when trees are.
     pub one-tree : (j k : ℕ) → j < length ts → k < length ts → treeOf symbolAt ts j ≡ treeOf symbolAt ts k → j ≡ k

@@ -240,7 +240,8 @@ module _ (symbolAt : ℕ → Symbol) where
               words = omega (arith, size-append ts (build ts x), all-size, build-size ts fx)
 
               nodes-first : Dec (length s + 1 ≤ limits .nodes) →
-                  (need (leb (length (ts ++ (build ts x ∷ []))) (limits .nodes) && leb (size (ts ++ (build ts x ∷ []))) (limits .nodeWords)) storeFull >>= λ _. ok (ts ++ (build ts x ∷ []))) ≡ refused storeFull
+                  (need (leb (length (ts ++ (build ts x ∷ []))) (limits .nodes) && leb (size (ts ++ (build ts x ∷ []))) (limits .nodeWords)) storeFull
+                  >>= λ _. ok (ts ++ (build ts x ∷ []))) ≡ refused storeFull
               nodes-first (yes i) =
                   let p = le-leb (length (ts ++ (build ts x ∷ []))) (limits .nodes) (omega (arith, count)) in
                   let q = lt-leb (size (ts ++ (build ts x ∷ []))) (limits .nodeWords) (lt-of-not-le (λ j. over i (omega (arith, words)))) in
@@ -275,7 +276,8 @@ module _ (symbolAt : ℕ → Symbol) where
               known k e left (omega (arith, h .same)) (t .0) (t .1) (defined-held ts s h x fs limits (t .1))
           go (made e k absent i j) =
               let f = not-held ts s h x fs absent in
-              new (e ∙ ap Made (sym (h .same))) (record { nodesOf = s ++ (x ∷ []); kept = k; stand = stand-more ts s h x fs absent }) f (defined-new ts s h x fs limits f i j)
+              new (e ∙ ap Made (sym (h .same))) (record { nodesOf = s ++ (x ∷ []); kept = k; stand = stand-more ts s h x fs absent }) f
+              (defined-new ts s h x fs limits f i j)
           go (full e left absent over) =
               let f = not-held ts s h x fs absent in
               refuses e left f (defined-full ts s h x fs limits f over)

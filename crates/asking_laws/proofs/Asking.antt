@@ -27,7 +27,7 @@ use Rattle.outcomes.specs.Simulation.{Answers, both-refuse, both-ok}
 use Rattle.theory_laws.proofs.Lookups.{part-length}
 use Rattle.asking.specs.Asking as asked
 use Rattle.asking.specs.Asking.{Met, Ahead, Top, itemDue, atomDue, listDue, closingDue, closingNext, formDue}
-use Rattle.asking_laws.proofs.Places.{Begins, Comes, Left, At}
+use Rattle.asking_laws.proofs.Places.{Begins, Comes, RestComes, At}
 
 -- "Asking for an item at depth 257 is refusal 4, before its token is taken": the code counts down, the definition up.
 pub asked-at : {A B : Type 0} {Q : A → B → Type 0} {o : Outcome A} {m : Result B} (left depth : ℕ) → depth + left ≡ 257 → Answers Q o m
@@ -77,35 +77,35 @@ module _ (text : List ℕ) where
   module _ (K : Stream Token → Type 0) (n : ℕ) where
     -- An item that was asked for: an atom by its bounds, or a list, its opening taken; what is left of the list around it stays.
     pub data ItemMet : Met → Item × Items → Type 0 where
-      atom-met : {s t : ℕ} {r : Reader} {name : Name} {rest : Items} → part s t text ≡ name → s < t → t ≤ length text → At text (Left rest K) (n + 2) r
+      atom-met : {s t : ℕ} {r : Reader} {name : Name} {rest : Items} → part s t text ≡ name → s < t → t ≤ length text → At text (RestComes rest K) (n + 2) r
           → ItemMet (asked.atom s t r) (word name, rest)
-      list-met : {r : Reader} {inner rest : Items} → At text (Left inner (Left rest K)) n r → ItemMet (asked.list r) (group inner, rest)
+      list-met : {r : Reader} {inner rest : Items} → At text (RestComes inner (RestComes rest K)) n r → ItemMet (asked.list r) (group inner, rest)
 
     pub data WordMet : ℕ × ℕ × Reader → Name × Items → Type 0 where
-      word-met : {s t : ℕ} {r : Reader} {name : Name} {rest : Items} → part s t text ≡ name → s < t → t ≤ length text → At text (Left rest K) (n + 2) r
+      word-met : {s t : ℕ} {r : Reader} {name : Name} {rest : Items} → part s t text ≡ name → s < t → t ≤ length text → At text (RestComes rest K) (n + 2) r
           → WordMet (s, t, r) (name, rest)
 
     pub data GroupMet : Reader → Items × Items → Type 0 where
-      group-met : {r : Reader} {inner rest : Items} → At text (Left inner (Left rest K)) n r → GroupMet r (inner, rest)
+      group-met : {r : Reader} {inner rest : Items} → At text (RestComes inner (RestComes rest K)) n r → GroupMet r (inner, rest)
 
     -- The next item.
-    pub item-law : (is : Items) (left depth : ℕ) {r : Reader} → depth + left ≡ 257 → At text (Left is K) n r
+    pub item-law : (is : Items) (left depth : ℕ) {r : Reader} → depth + left ≡ 257 → At text (RestComes is K) n r
         → Answers ItemMet (itemDue text left r) (definition.ask depth is)
-    unfolding itemDue definition.ask absent Left Comes number
+    unfolding itemDue definition.ask absent RestComes Comes number
     item-law closed left depth {r} e a = asked-at left depth e (by (token-got closing a)) where
       by : {b : lexed.Answer} → Got K n closing b → Answers ItemMet (asked.itemFrom b) (refusals.refused strayClosing)
       by (got-closing h) = both-refuse refl
     item-law ended left depth {r} e a = asked-at left depth e (rw (end-taken a) (both-refuse refl))
     item-law badLine left depth {r} e a = asked-at left depth e (rw (bad-taken a) (both-refuse refl))
     item-law (word name then rest) left depth {r} e a = asked-at left depth e (by (token-got (atom name) a)) where
-      by : {b : lexed.Answer} → Got (Left rest K) n (atom name) b → Answers ItemMet (asked.itemFrom b) (refusals.ok (word name, rest))
+      by : {b : lexed.Answer} → Got (RestComes rest K) n (atom name) b → Answers ItemMet (asked.itemFrom b) (refusals.ok (word name, rest))
       by (got-atom p l u h) = both-ok (atom-met p l u h)
     item-law (group inner then rest) left depth {r} e a = asked-at left depth e (by (token-got opening a)) where
-      by : {b : lexed.Answer} → Got (Left inner (Left rest K)) n opening b → Answers ItemMet (asked.itemFrom b) (refusals.ok (group inner, rest))
+      by : {b : lexed.Answer} → Got (RestComes inner (RestComes rest K)) n opening b → Answers ItemMet (asked.itemFrom b) (refusals.ok (group inner, rest))
       by (got-opening h) = both-ok (list-met h)
 
     -- Where an atom is due, and where a list is.
-    pub word-law : (is : Items) (left depth : ℕ) {r : Reader} → depth + left ≡ 257 → At text (Left is K) n r
+    pub word-law : (is : Items) (left depth : ℕ) {r : Reader} → depth + left ≡ 257 → At text (RestComes is K) n r
         → Answers WordMet (atomDue text left r) (definition.askWord depth is)
     unfolding atomDue definition.askWord definition.wordDue refusals._>>=_ number
     word-law is left depth e a = bind-answers asked.atomOnly _ (item-law is left depth e a) (λ x y m. by m) where
@@ -114,7 +114,7 @@ module _ (text : List ℕ) where
       by (atom-met p l u h) = both-ok (word-met p l u h)
       by (list-met h) = both-refuse refl
 
-    pub group-law : (is : Items) (left depth : ℕ) {r : Reader} → depth + left ≡ 257 → At text (Left is K) n r
+    pub group-law : (is : Items) (left depth : ℕ) {r : Reader} → depth + left ≡ 257 → At text (RestComes is K) n r
         → Answers GroupMet (listDue text left r) (definition.askGroup depth is)
     unfolding listDue definition.askGroup definition.groupDue refusals._>>=_ number
     group-law is left depth e a = bind-answers asked.listOnly _ (item-law is left depth e a) (λ x y m. by m) where
@@ -124,20 +124,20 @@ module _ (text : List ℕ) where
       by (list-met h) = both-ok (group-met h)
 
     -- Where a closing is due.
-    pub closing-law : (is : Items) {r : Reader} → At text (Left is K) n r
+    pub closing-law : (is : Items) {r : Reader} → At text (RestComes is K) n r
         → Answers (λ (q : Reader) (x : Unit {0}). At text K n q) (closingDue text r) (definition.closingDue is)
-    unfolding closingDue definition.closingDue Left Comes number
+    unfolding closingDue definition.closingDue RestComes Comes number
     closing-law closed a = by (token-got closing a) where
       by : {b : lexed.Answer} → Got K n closing b → Answers (λ (q : Reader) (x : Unit {0}). At text K n q) (asked.closedFrom b) (refusals.ok tt)
       by (got-closing h) = both-ok h
     closing-law ended a = rw (end-taken a) (both-refuse refl)
     closing-law badLine a = rw (bad-taken a) (both-refuse refl)
     closing-law (word name then rest) a = by (token-got (atom name) a) where
-      by : {b : lexed.Answer} → Got (Left rest K) n (atom name) b
+      by : {b : lexed.Answer} → Got (RestComes rest K) n (atom name) b
           → Answers (λ (q : Reader) (x : Unit {0}). At text K n q) (asked.closedFrom b) (refusals.refused excess)
       by (got-atom p l u h) = both-refuse refl
     closing-law (group inner then rest) a = by (token-got opening a) where
-      by : {b : lexed.Answer} → Got (Left inner (Left rest K)) n opening b
+      by : {b : lexed.Answer} → Got (RestComes inner (RestComes rest K)) n opening b
           → Answers (λ (q : Reader) (x : Unit {0}). At text K n q) (asked.closedFrom b) (refusals.refused excess)
       by (got-opening h) = both-refuse refl
 
@@ -145,13 +145,14 @@ module _ (text : List ℕ) where
     pub data Looked : Items → Outcome Ahead → Type 0 where
       look-closed : {q : Reader} → At text K n q → Looked closed (outcomes.ok (asked.closing q))
       look-bad : Looked badLine (outcomes.refused 3)
-      look-ended : {q : Reader} → At text (Left ended K) n q → Looked ended (outcomes.ok (asked.member q))
-      look-item : {q : Reader} {item : Item} {rest : Items} → At text (Left (item then rest) K) n q → Looked (item then rest) (outcomes.ok (asked.member q))
+      look-ended : {q : Reader} → At text (RestComes ended K) n q → Looked ended (outcomes.ok (asked.member q))
+      look-item : {q : Reader} {item : Item} {rest : Items} → At text (RestComes (item then rest) K) n q
+          → Looked (item then rest) (outcomes.ok (asked.member q))
 
     seen-at : {L : Stream Token → Type 0} {r q : Reader} (a : At text L n r) → Stands text q (a .coming) → At text L n q
     seen-at a st = record { coming = a .coming; stands = st; here = a .here; light = a .light }
 
-    closed-next : {q : Reader} → At text (Left closed K) n q
+    closed-next : {q : Reader} → At text (RestComes closed K) n q
         → Looked closed (outcomes._>>=_ (closingDue text q) (λ after. outcomes.ok (asked.closing after)))
     unfolding definition.closingDue
     closed-next {q} a = by (closing-law closed a) where
@@ -159,8 +160,8 @@ module _ (text : List ℕ) where
           → Looked closed (outcomes._>>=_ o (λ after. outcomes.ok (asked.closing after)))
       by (both-ok h) = look-closed h
 
-    pub look-law : (is : Items) {r : Reader} → At text (Left is K) n r → Looked is (closingNext text r)
-    unfolding closingNext Left Comes
+    pub look-law : (is : Items) {r : Reader} → At text (RestComes is K) n r → Looked is (closingNext text r)
+    unfolding closingNext RestComes Comes
     look-law closed {r} a =
         go (rw (a .here .next) at (sees text r (a .coming) (a .stands))) (λ q st. closed-next (seen-at a (rw (← a .here .next) at st))) where
           go : {b : lexed.Answer} {u : Stream Token} → Sees text (closing ▹ u) b
@@ -176,13 +177,13 @@ module _ (text : List ℕ) where
     look-law (word name then rest) {r} a =
         go (rw (a .here .next) at (sees text r (a .coming) (a .stands))) (λ q st. seen-at a (rw (← a .here .next) at st)) where
           go : {b : lexed.Answer} {u : Stream Token} → Sees text (atom name ▹ u) b
-              → ((q : Reader) → Stands text q (atom name ▹ u) → At text (Left (word name then rest) K) n q)
+              → ((q : Reader) → Stands text q (atom name ▹ u) → At text (RestComes (word name then rest) K) n q)
               → Looked (word name then rest) (asked.nextFrom text r b)
           go (see-atom st) g = look-item (g _ st)
     look-law (group inner then rest) {r} a =
         go (rw (a .here .next) at (sees text r (a .coming) (a .stands))) (λ q st. seen-at a (rw (← a .here .next) at st)) where
           go : {b : lexed.Answer} {u : Stream Token} → Sees text (opening ▹ u) b
-              → ((q : Reader) → Stands text q (opening ▹ u) → At text (Left (group inner then rest) K) n q)
+              → ((q : Reader) → Stands text q (opening ▹ u) → At text (RestComes (group inner then rest) K) n q)
               → Looked (group inner then rest) (asked.nextFrom text r b)
           go (see-opening st) g = look-item (g _ st)
 
@@ -192,18 +193,19 @@ module _ (text : List ℕ) where
       form-bad : FormMet badLine (outcomes.refused 3)
       form-closing : FormMet closed (outcomes.refused 6)
       form-atom : {name : Name} {rest : Items} → FormMet (word name then rest) (outcomes.refused 7)
-      form-list : {q : Reader} {inner rest : Items} → At text (Left inner (Left rest K)) n q → FormMet (group inner then rest) (outcomes.ok (asked.form q))
+      form-list : {q : Reader} {inner rest : Items} → At text (RestComes inner (RestComes rest K)) n q
+          → FormMet (group inner then rest) (outcomes.ok (asked.form q))
 
-    pub form-law : (is : Items) {r : Reader} → At text (Left is K) n r → FormMet is (formDue text r)
-    unfolding formDue Left Comes
+    pub form-law : (is : Items) {r : Reader} → At text (RestComes is K) n r → FormMet is (formDue text r)
+    unfolding formDue RestComes Comes
     form-law closed a = by (token-got closing a) where
       by : {b : lexed.Answer} → Got K n closing b → FormMet closed (asked.formFrom b)
       by (got-closing h) = form-closing
     form-law ended a = rw (end-taken a) form-over
     form-law badLine a = rw (bad-taken a) form-bad
     form-law (word name then rest) a = by (token-got (atom name) a) where
-      by : {b : lexed.Answer} → Got (Left rest K) n (atom name) b → FormMet (word name then rest) (asked.formFrom b)
+      by : {b : lexed.Answer} → Got (RestComes rest K) n (atom name) b → FormMet (word name then rest) (asked.formFrom b)
       by (got-atom p l u h) = form-atom
     form-law (group inner then rest) a = by (token-got opening a) where
-      by : {b : lexed.Answer} → Got (Left inner (Left rest K)) n opening b → FormMet (group inner then rest) (asked.formFrom b)
+      by : {b : lexed.Answer} → Got (RestComes inner (RestComes rest K)) n opening b → FormMet (group inner then rest) (asked.formFrom b)
       by (got-opening h) = form-list h

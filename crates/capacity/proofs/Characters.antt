@@ -1,14 +1,14 @@
 -- The characters of a text have no more bytes than it. Assumes nothing.
 use Prim.Native.Nat.{ℕ, suc, _+_, _-_, _≤_, _<_}
-use mathlib.Core.Path.{_≡_, refl, ap, _∙_}
+use mathlib.Core.Path.{_≡_, refl}
 use mathlib.Core.List.{List, [], _∷_}
 use mathlib.Core.Option.{Option, none, some, Option·map}
 use native.Mathlib.Omega.{arith}
-use lib.Dec.{eqb}
 use lib.ListN.{length, length-append}
 use Rattle.horn.specs.Utf8.{Range, Sequence, sequence, sequences, Char, char, within, startedBy, resumed, decoded}
-use Rattle.horn.specs.Tokens.{Stream, end, bad, _▹_, before, ontoFirstLine, lines, characters}
+use Rattle.horn.specs.Tokens.{Stream, end, bad, _▹_, before, lines, characters}
 use Rattle.horn.proofs.Post.{either}
+use Rattle.horn.proofs.Counts.{byteCount, bytes-lines}
 use Rattle.capacity.specs.Costs.{wide}
 
 -- A character has a byte at least.
@@ -80,29 +80,13 @@ unfolding streamBytes charBytes before
 bytes-before [] s = omega arith
 bytes-before (char bytes value ∷ cs) s = let h = bytes-before cs s in omega arith
 
-lineBytes : List (List ℕ) → ℕ
-lineBytes [] = 0
-lineBytes (line ∷ rest) = length line + lineBytes rest
-
-bytes-onto : (b : ℕ) (ls : List (List ℕ)) → lineBytes (ontoFirstLine b ls) ≡ suc (lineBytes ls)
-unfolding lineBytes ontoFirstLine
-bytes-onto b [] = omega arith
-bytes-onto b (line ∷ rest) = omega arith
-
-bytes-lines : (text : List ℕ) → lineBytes (lines text) ≡ length text
-unfolding lineBytes lines
-bytes-lines [] = refl
-bytes-lines (b ∷ bs) =
-    let h = bytes-lines bs in
-    either (λ ls. lineBytes ls ≡ suc (length bs)) (eqb b 0x0A) {x = (b ∷ []) ∷ lines bs} {y = ontoFirstLine b (lines bs)} (omega arith) (bytes-onto b (lines bs) ∙ ap suc h)
-
-few-bytes : (ls : List (List ℕ)) → streamBytes (characters ls) ≤ lineBytes ls
-unfolding streamBytes lineBytes characters
+few-bytes : (ls : List (List ℕ)) → streamBytes (characters ls) ≤ byteCount ls
+unfolding streamBytes byteCount characters
 few-bytes [] = omega arith
 few-bytes (line ∷ rest) = go (decoded line) (few-bytes rest) (within-decoded line)
   where
-    go : (o : Option (List Char)) → streamBytes (characters rest) ≤ lineBytes rest → Within (length line) o
-        → streamBytes (elim o [ none ↦ bad | some cs ↦ before cs (characters rest) ]) ≤ length line + lineBytes rest
+    go : (o : Option (List Char)) → streamBytes (characters rest) ≤ byteCount rest → Within (length line) o
+        → streamBytes (elim o [ none ↦ bad | some cs ↦ before cs (characters rest) ]) ≤ length line + byteCount rest
     go none r f = omega arith
     go (some cs) r (within-some h) = let e = bytes-before cs (characters rest) in omega arith
 

@@ -1,5 +1,5 @@
 -- What one form takes: 11 bytes for a goal, 10 for an abbreviation, 12 for a step, at the least. So the budgets are kept. Assumes nothing.
-use Prim.Native.Nat.{ℕ, suc, _+_, _*_, _≤_}
+use Prim.Native.Nat.{ℕ, _+_, _*_, _≤_}
 use mathlib.Core.Path.{_≡_, refl, ap, sym, _∙_}
 use mathlib.Core.Bool.{Bool, true, false, not, _&&_, true≢false}
 use mathlib.Core.List.{List, [], _∷_}
@@ -22,58 +22,20 @@ use Rattle.horn.specs.Certificate.{Progress, Given, given, FormWord, stepWord, 
 use Rattle.horn.proofs.Equality.{case, both, not-true, named-decides}
 use Rattle.horn.proofs.Inversion.{not-ok, ok-equal, afterᵣ, after, given-is, afterₗ, after-need, after-found}
 use Rattle.horn.proofs.Inversion.{absent-not, lift-absent, lift-refused}
+use Rattle.horn.proofs.WasRead.{is-word, is-group, is-asked, is-asked-word, is-asked-group, is-closed, ReadTerms, read-none, read-next, read-judgment}
+use Rattle.horn.proofs.WasRead.{ReadGoal, read-goal, goal-read}
 use Rattle.capacity.specs.Costs.{wide, isWord, wordFirst, itemCost, itemsCost, gap, atomBytes, itemBytes, itemsBytes}
 use Rattle.capacity.specs.Budgets.{GoalBudget, Budget}
 use Rattle.capacity.proofs.Characters.{wide-some}
 
--- What was asked for stands first.
-pub asked {ℓ} : {C : Type ℓ} (depth : ℕ) (is : Items) {p : Item × Items} → checker.ask depth is ≡ ok p → (is ≡ (p .0) then (p .1) → C) → C
-unfolding checker.ask
-asked depth closed e k = absent-not depth _ e
-asked depth ended e k = absent-not depth _ e
-asked depth badLine e k = absent-not depth _ e
-asked depth (item then rest) {p} e k =
-    afterᵣ _ e λ u e₁ e₂. let q = ok-equal e₂ in k (ap (λ (z : Item × Items). (z .0) then (z .1)) q)
-
-pub word-due {ℓ} : {C : Type ℓ} (item : Item) {name : Name} → checker.wordDue item ≡ ok name → (item ≡ word name → C) → C
-unfolding checker.wordDue
-word-due (word n) e k = k (ap word (ok-equal e))
-word-due (group inner) e k = not-ok e
-
-pub group-due {ℓ} : {C : Type ℓ} (item : Item) {inner : Items} → checker.groupDue item ≡ ok inner → (item ≡ group inner → C) → C
-unfolding checker.groupDue
-group-due (word n) e k = not-ok e
-group-due (group inner) e k = k (ap group (ok-equal e))
-
-pub asked-word {ℓ} : {C : Type ℓ} (depth : ℕ) (is : Items) {p : Name × Items} → checker.askWord depth is ≡ ok p → (is ≡ word (p .0) then (p .1) → C) → C
-unfolding checker.askWord
-asked-word depth is e k =
-    afterᵣ _ e λ q e₁ e₂. afterᵣ _ e₂ λ name e₃ e₄. word-due (q .0) e₃ λ w. asked depth is e₁ λ z.
-    let o = ok-equal e₄ in
-    k (z ∙ rw w (ap (λ (x : Name × Items). word (x .0) then (x .1)) o))
-
-pub asked-group {ℓ} : {C : Type ℓ} (depth : ℕ) (is : Items) {p : Items × Items} → checker.askGroup depth is ≡ ok p → (is ≡ group (p .0) then (p .1) → C) → C
-unfolding checker.askGroup
-asked-group depth is e k =
-    afterᵣ _ e λ q e₁ e₂. afterᵣ _ e₂ λ inner e₃ e₄. group-due (q .0) e₃ λ w. asked depth is e₁ λ z.
-    let o = ok-equal e₄ in
-    k (z ∙ rw w (ap (λ (x : Items × Items). group (x .0) then (x .1)) o))
-
-pub asked-number {ℓ} : {C : Type ℓ} (depth : ℕ) (is : Items) {p : ℕ × Items} → checker.askNumber depth is ≡ ok p
+-- The items of a number that was asked for.
+is-asked-number {ℓ} : {C : Type ℓ} (depth : ℕ) (is : Items) {p : ℕ × Items} → checker.askNumber depth is ≡ ok p
     → ((name : Name) → is ≡ word name then (p .1) → C)
     → C
 unfolding checker.askNumber checker.numberDue
-asked-number depth is e k =
-    afterᵣ _ e λ q e₁ e₂. afterᵣ _ e₂ λ n e₃ e₄. afterᵣ _ e₃ λ name e₅ e₆. word-due (q .0) e₅ λ w. asked depth is e₁ λ z.
-    let o = ok-equal e₄ in
-    k name (z ∙ rw w (ap (λ (x : ℕ × Items). word name then (x .1)) o))
-
-pub closing-due {ℓ} : {C : Type ℓ} (is : Items) {u : Unit {0}} → checker.closingDue is ≡ ok u → (is ≡ closed → C) → C
-unfolding checker.closingDue
-closing-due closed e k = k refl
-closing-due ended e k = not-ok e
-closing-due badLine e k = not-ok e
-closing-due (item then rest) e k = not-ok e
+is-asked-number depth is e k =
+    afterᵣ _ e λ q e₁ e₂. afterᵣ _ e₂ λ n e₃ e₄. afterᵣ _ e₃ λ name e₅ e₆.
+    k name (is-asked depth is e₁ ∙ ap (λ (x : Item). x then (q .1)) (is-word (q .0) e₅) ∙ ap (λ (x : ℕ × Items). word name then (x .1)) (ok-equal e₄))
 
 -- An item has a byte at least, a list that was read to its closing too.
 pub item-some : (item : Item) (b : Bool) → 1 ≤ itemBytes item b
@@ -86,15 +48,6 @@ unfolding itemsCost
 more-some item rest = let h = item-some item (wordFirst rest) in omega arith
 
 module _ (limits : Setting) (th : Theory) where
-  pub arguments-some : (defs : List Def) (depth : ℕ) (is : Items) (s : Store) {s′ : Store} {ts : Terms}
-      → checker.arguments limits th defs depth is s ≡ ok (ts, s′)
-      → 1 ≤ itemsBytes is
-  unfolding checker.arguments itemsCost
-  arguments-some defs depth closed s e = omega arith
-  arguments-some defs depth badLine s e = lift-refused _ _ e
-  arguments-some defs depth ended s e = lift-absent _ _ _ e
-  arguments-some defs depth (item then rest) s e = more-some item rest
-
   pub references-some : (is : Items) {ns : List ℕ} → certificate.references is ≡ ok ns → 1 ≤ itemsBytes is
   unfolding certificate.references itemsCost
   references-some closed e = omega arith
@@ -128,22 +81,8 @@ module _ (limits : Setting) (th : Theory) where
       → C
   unfolding checker.askTerm
   asked-term defs depth is s e k =
-      afterₗ _ _ _ e λ p e₁ e₂. after _ e₂ λ t s₁ e₃ e₄. given-is e₄ λ same u. asked depth is e₁ λ z.
-      k (p .0) (z ∙ ap (λ (x : Term × Items). (p .0) then (x .1)) same) (λ b. term-two defs depth (p .0) b s e₃)
-
-  -- A judgment has three: brackets and a head.
-  pub asked-judgment {ℓ} : {C : Type ℓ} (defs : List Def) (depth : ℕ) (is : Items) (s : Store) {s′ : Store} {q : Term × Items}
-      → checker.askJudgment limits th defs depth is s ≡ ok (q, s′)
-      → ((inner : Items) → is ≡ group inner then (q .1) → 2 ≤ itemsBytes inner → C)
-      → C
-  unfolding checker.askJudgment checker.headedJudgment itemsCost
-  asked-judgment defs depth is s e k =
-      afterₗ _ _ _ e λ p e₁ e₂. afterₗ _ _ _ e₂ λ h e₃ e₄. after _ e₄ λ j s₁ e₅ e₆. given-is e₆ λ same u.
-      afterₗ _ _ _ e₅ λ c e₇ e₈. after _ e₈ λ ts s₂ e₉ f.
-      asked-group depth is e₁ λ z. asked-word (suc depth) (p .0) e₃ λ w.
-      let a = arguments-some defs (suc depth) (h .1) s e₉ in
-      let b = item-some (word (h .0)) (wordFirst (h .1)) in
-      k (p .0) (z ∙ ap (λ (x : Term × Items). group (p .0) then (x .1)) same) (rw w (omega arith))
+      afterₗ _ _ _ e λ p e₁ e₂. after _ e₂ λ t s₁ e₃ e₄. given-is e₄ λ same u.
+      k (p .0) (is-asked depth is e₁ ∙ ap (λ (x : Term × Items). (p .0) then (x .1)) same) (λ b. term-two defs depth (p .0) b s e₃)
 
 -- The bytes of names.
 pub wide-name : (name : Name) (n : ℕ) (key : Name) → named name key ≡ true → wide key ≡ n → wide name ≡ n
@@ -214,43 +153,23 @@ unfolding isDef
 is-def name e =
     by-keyword name defWord e (λ k w. other-keyword isDef k refl refl) (λ k. other-keyword isDef k refl refl) (λ k w. w) (λ k. other-keyword isDef k refl refl)
 
--- The three forms by their shapes, for where the reading is followed item by item.
-pub goal-shape : (head name : Name) (inner : Items) (b : Bool) → wide head ≡ 4 → 2 ≤ itemsBytes inner
-    → 11 ≤ itemBytes (group (word head then word name then group inner then closed)) b
-unfolding itemCost itemsCost wordFirst isWord atomBytes gap
-goal-shape head name inner b h k = omega (arith, wide-some name)
-
-pub def-shape : (head name : Name) (item : Item) (b : Bool) → wide head ≡ 3 → 2 ≤ wide name → 2 ≤ gap (isWord item) + itemBytes item false
-    → 10 ≤ itemBytes (group (word head then word name then item then closed)) b
-unfolding itemCost itemsCost wordFirst isWord atomBytes gap
-def-shape head name item b h k l = omega arith
-
-pub step-shape : (head number name : Name) (refs left : Items) (b : Bool) → wide head ≡ 4 → 1 ≤ itemsBytes refs → 1 ≤ itemsBytes left
-    → 12 ≤ itemBytes (group (word head then word number then word name then group refs then left)) b
-unfolding itemCost itemsCost wordFirst isWord atomBytes gap
-step-shape head number name refs left b h k l = omega (arith, wide-some number, wide-some name)
-
 module _ (limits : Setting) (th : Theory) where
-  -- "(goal N J)".
+  -- "(goal N J)". A judgment has three bytes: brackets and a head.
+  terms-some : {defs : List Def} {is : Items} {s s′ : Store} {ts : Terms} → ReadTerms limits th defs is s ts s′ → 1 ≤ itemsBytes is
+  unfolding itemsCost
+  terms-some read-none = omega arith
+  terms-some (read-next {item} {rest} t ts) = more-some item rest
+
+  goal-some : {goals : List Goal} {item : Item} {s s′ : Store} {g : Goal} (b : Bool) → ReadGoal limits th goals item s g s′ → 11 ≤ itemBytes item b
+  unfolding itemCost itemsCost wordFirst isWord atomBytes gap
+  goal-some b (read-goal {name} {head} new (read-judgment p ts a i)) = omega (arith, wide-goal, wide-some name, wide-some head, terms-some ts)
+
   pub goal-takes : (goals : List Goal) (item : Item) (b : Bool) (s : Store) {s′ : Store} {more : List Goal}
       → checker.goalForm limits th goals item s ≡ ok (more, s′)
       → (length more ≡ length goals + 1) × (11 ≤ itemBytes item b)
-  unfolding checker.goalForm itemCost itemsCost wordFirst isWord atomBytes gap
   goal-takes goals item b s e =
-      afterₗ _ _ _ e λ inner e₁ e₂.
-      afterₗ _ _ _ e₂ λ p e₃ e₄.
-      after-need _ _ _ _ e₄ λ h e₅.
-      afterₗ _ _ _ e₅ λ p₁ e₆ e₇.
-      after-need _ _ _ _ e₇ λ h₁ e₈.
-      after _ e₈ λ p₂ s₁ e₉ f.
-      afterₗ _ _ _ f λ u f₁ f₂.
-      after-need _ _ _ _ f₂ λ new f₃.
-      given-is f₃ λ same q.
-      group-due item e₁ λ i₀. asked-word 1 inner e₃ λ i₁. asked-word 1 (p .1) e₆ λ i₂.
-      asked-judgment limits th [] 1 (p₁ .1) s e₉ λ j i₃ two. closing-due (p₂ .1) f₁ λ i₄.
-      let w = wide-name (p .0) 4 (codes "goal") h wide-goal in
-      let v = wide-some (p₁ .0) in
-      (ap length (sym same) ∙ length-append goals (goal (p₁ .0) (p₂ .0) ∷ []), rw (i₀, i₁, i₂, i₃, i₄) (omega arith))
+      let (g, added, r) = goal-read limits th goals item s e in
+      (ap length (sym added) ∙ length-append goals (g ∷ []), goal-some b r)
 
   -- "(def ?a T)", behind its head.
   pub def-takes : (now : Progress) (is : Items) (s : Store) {s′ : Store} {next : Progress} → certificate.defForm limits th now is s ≡ ok (next, s′)
@@ -263,12 +182,12 @@ module _ (limits : Setting) (th : Theory) where
       after-need _ _ _ _ e₅ λ new e₆.
       afterₗ _ _ _ e₆ λ u e₇ e₈.
       given-is e₈ λ same q.
-      asked-word 1 is e₁ λ i₁. asked-term limits th (now .defs) 1 (p .1) s e₄ λ item i₂ two. closing-due (p₁ .1) e₇ λ i₃.
+      asked-term limits th (now .defs) 1 (p .1) s e₄ λ item i₂ two.
       let w = wide-variable (p .0) h in
       let t = two false in (
         ap (λ (x : Progress). length (x .defs)) (sym same) ∙ length-append (now .defs) (def (p .0) (p₁ .0) ∷ []),
         ap (λ (x : Progress). length (x .steps)) (sym same),
-        rw (i₁, i₂, i₃) (omega arith),
+        rw (is-asked-word 1 is e₁, i₂, is-closed (p₁ .1) e₇) (omega arith),
       )
 
   -- "(step I R (I...) item...)", behind its head.
@@ -286,14 +205,14 @@ module _ (limits : Setting) (th : Theory) where
       after _ f₂ λ g s₁ f₃ f₄.
       after _ f₄ λ j s₂ f₅ f₆.
       given-is f₆ λ same q.
-      asked-number 1 is e₁ λ name i₁. asked-word 1 (p .1) e₄ λ i₂. asked-group 1 (p₁ .1) e₈ λ i₃.
+      is-asked-number 1 is e₁ λ name i₁.
       let a = wide-some name in
       let b = wide-some (p₁ .0) in
       let c = references-some limits th (p₂ .0) f in
       let d = items-some limits th (now .defs) r (p₂ .1) (given [] none) s f₃ in (
         ap (λ (x : Progress). length (x .defs)) (sym same),
         ap (λ (x : Progress). length (x .steps)) (sym same) ∙ length-append (now .steps) (step j r ∷ []),
-        rw (i₁, i₂, i₃) (omega arith),
+        rw (i₁, is-asked-word 1 (p .1) e₄, is-asked-group 1 (p₁ .1) e₈) (omega arith),
       )
 
   pub result-takes : (now : Progress) (is : Items) (s : Store) {s′ : Store} {next : Progress} → certificate.resultForm limits th now is s ≡ ok (next, s′)
@@ -329,8 +248,7 @@ module _ (limits : Setting) (th : Theory) where
   certificate-takes now item b s e =
       afterₗ _ _ _ e λ inner e₁ e₂.
       afterₗ _ _ _ e₂ λ p e₃ e₄.
-      group-due item e₁ λ i₀. asked-word 1 inner e₃ λ i₁.
-      rw (i₀, i₁) (form-takes (certificate.formWord (p .0)) now (p .0) (p .1) s refl e₄)
+      rw (is-group item e₁, is-asked-word 1 inner e₃) (form-takes (certificate.formWord (p .0)) now (p .0) (p .1) s refl e₄)
 
   -- So each form keeps the budget, whatever comes behind it.
   pub goal-keeps : {limit : ℕ} (goals : List Goal) (item : Item) (rest : Items) (s : Store) {s′ : Store} {more : List Goal}

@@ -23,7 +23,7 @@ use Rattle.items.specs.Items.{question}
 use Rattle.outcomes.specs.Simulation.{Answers, both-refuse, both-ok, then, Simulates, refuse, leave}
 use Rattle.theory_laws.proofs.Lookups.{part-question, part-length, bare-width}
 use Rattle.theory_reading.specs.Storing as storing
-use Rattle.asking_laws.proofs.Places.{Left, At}
+use Rattle.asking_laws.proofs.Places.{RestComes, At}
 use Rattle.asking_laws.proofs.Asking.{WordMet, word-met, word-law}
 use Rattle.asking.specs.Asking.{atomDue}
 use Rattle.certificates.specs.Certificates.{defNamed}
@@ -52,7 +52,7 @@ module _ (text : List ℕ) (K : Stream Token → Type 0) (n : ℕ) where
     pub name : part (x .0) (x .1) text ≡ y .0
     pub some : x .0 < x .1
     pub inside : x .1 ≤ length text
-    pub reader : At text (Left (y .1) K) (n + 2) (x .2)
+    pub reader : At text (RestComes (y .1) K) (n + 2) (x .2)
 
   word-is : {x : ℕ × ℕ × Reader} {y : Name × Items} → WordMet text K n x y → WordIs x y
   word-is (word-met e l u a) = record { name = e; some = l; inside = u; reader = a }
@@ -62,13 +62,14 @@ module _ (text : List ℕ) (K : Stream Token → Type 0) (n : ℕ) where
   answered (both-ok m) = both-ok (word-is m)
 
   -- An atom of a form.
-  pub member-law : (is : Items) {r : Reader} → At text (Left is K) n r → Answers WordIs (atomDue text 256 r) (definition.askWord 1 is)
+  pub member-law : (is : Items) {r : Reader} → At text (RestComes is K) n r → Answers WordIs (atomDue text 256 r) (definition.askWord 1 is)
   member-law is a = answered (word-law text K n is 256 1 refl a)
 
   -- "Name without `?`, or `?` alone, 11".
-  pub def-named : (is : Items) {r : Reader} → At text (Left is K) n r
+  pub def-named : (is : Items) {r : Reader} → At text (RestComes is K) n r
       → Answers WordIs (defNamed text r)
-      (refusals._>>=_ (definition.askWord 1 is) (λ y. refusals._>>=_ (refusals.need (questioned (y .0) && not (bare (y .0))) variableName) (λ _. refusals.ok y)))
+      (refusals._>>=_ (definition.askWord 1 is) (λ y. refusals._>>=_ (refusals.need (questioned (y .0) && not (bare (y .0))) variableName)
+      (λ _. refusals.ok y)))
   unfolding defNamed refusals._>>=_ refusals.need number
   def-named is a = then _ _ (member-law is a) (λ x y m. by x y m) where
     by : (x : ℕ × ℕ × Reader) (y : Name × Items) → WordIs x y

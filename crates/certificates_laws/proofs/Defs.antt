@@ -23,6 +23,7 @@ use Rattle.lex.specs.declared.Reader.{Reader}
 use Rattle.names.specs.Tables.{present}
 use Rattle.outcomes.specs.Leaving.{Did}
 use Rattle.outcomes.specs.Simulation.{Simulates, refuse, leave, knowing}
+use Rattle.items.specs.Places as places
 use Rattle.theory_laws.specs.Representation.{Entries, Holds}
 use Rattle.theory_laws.proofs.Frames.{Keeps}
 use Rattle.theory_reading.specs.Storing.{Areas}
@@ -33,7 +34,7 @@ use Rattle.tables.specs.Words.{defFound, defAdded, defCounted}
 use Rattle.tables.specs.Representation.{Tables}
 use Rattle.tables.proofs.Laws.{known-def}
 use Rattle.tables.proofs.Phases.{next-def}
-use Rattle.asking_laws.proofs.Places.{Left, Any, At, at-less}
+use Rattle.asking_laws.proofs.Places.{RestComes, Any, At, at-less}
 use Rattle.asking_laws.proofs.Asking.{closing-law}
 use Rattle.terms_laws.proofs.Judgments.{lifted, AskedRead}
 use Rattle.terms_laws.proofs.Whole.{certificate-term}
@@ -62,7 +63,8 @@ data DefRead (es : Entries) (th : Theory) (certificate table : List ℕ) (tally 
       (defined now (part s t certificate) u, us)
 
 -- "Duplicate 13".
-known : {goalsText certificate table : List ℕ} {Means : ℕ → Term → Type 0} {Recorded : ℕ → ℕ → ℕ → Step → Type 0} {tally : Tally} {goals openGoals : List Goal} {defs : List Def}
+known : {goalsText certificate table : List ℕ} {Means : ℕ → Term → Type 0} {Recorded : ℕ → ℕ → ℕ → Step → Type 0} {tally : Tally} {goals openGoals : List Goal}
+    {defs : List Def}
     {steps : List Step} {key name : Name} → Tables goalsText certificate table 128 Means Recorded tally goals openGoals defs steps → key ≡ name
     → present (defFound 128 certificate key table) ≡ someOf (isDef name) defs
 known {name} t e = rw e (known-def t name)
@@ -79,11 +81,11 @@ beside-live live (leave q) k = leave (k _ _ _ q)
 module _ {rules heap : List ℕ} {es : Entries} {bound : ℕ} {th : Theory} (h : Holds rules heap es bound th) (high : bound ≤ 11948)
     (goalsText certificate : List ℕ) (short : length certificate ≤ 32768) {goals : List Goal} {tally : Tally} (now : Progress)
     {ts : List Term} {store live table : List ℕ} (stack : List ℕ) (stored : Stored es th document01 4096 store ts) (long : length stack ≡ 16384)
-    (keep : Keeps 12288 heap live) where
+    (keep : Keeps places.bindings heap live) where
   -- The form is read whole before the table is written.
   reads : {Recorded : ℕ → ℕ → ℕ → Step → Type 0} (K : Stream Token → Type 0) (is : Items) (r : Reader)
       → Tables goalsText certificate table 128 (Means es th ts) Recorded tally goals (now .openGoals) (now .defs) (now .steps)
-      → At certificate (Left is K) 0 r
+      → At certificate (RestComes is K) 0 r
       → Simulates (DefRead es th certificate table tally now K ts) (walk.defForm certificate rules live tally r store stack table)
       (definition.defForm document01 th now is ts)
   unfolding walk.defForm definition.defForm checker._>>=_ checker.lift checker.give AskedRead number
@@ -95,24 +97,28 @@ module _ {rules heap : List ℕ} {es : Entries} {bound : ℕ} {th : Theory} (h :
       (tested (not (present (defFound 128 certificate (part (x .0) (x .1) certificate) table))) 13 duplicate (ap not (known t (m .name))) refl) (λ a b fresh.
       lifted (v .1) _ _ (closing-law certificate K 4 (v .0 .1) (k .reader)) (λ q c there.
       rw (← m .name)
-      (leave (def-read {s = x .0} {t = x .1} {k = z .0} {u = v .0 .0} (let i = m .some in let j = m .inside in omega arith) (let j = m .inside in omega arith) (k .means) (rw (m .name) (not-true _ fresh)) (at-less 0 (omega arith) there)
+      (leave (def-read {s = x .0} {t = x .1} {k = z .0} {u = v .0 .0} (let i = m .some in let j = m .inside in omega arith) (let j = m .inside in omega arith)
+      (k .means) (rw (m .name) (not-true _ fresh)) (at-less 0 (omega arith) there)
       (k .stored) (k .grown) (k .keeps .same-length ∙ long)))))))
 
   -- From a reader behind the head of the form.
   pub def-law : (item : Item) (rest is : Items) (r : Reader) → SoFar rules heap es bound th goalsText certificate goals ts table tally now (item then rest)
       → definition.certificateForm document01 th now item ts ≡ definition.defForm document01 th now is ts
-      → At certificate (Left is (Left rest Any)) 0 r
+      → At certificate (RestComes is (RestComes rest Any)) 0 r
       → Simulates (Standing rules heap es bound th goalsText certificate goals rest)
       (walk.around live (walk.defForm certificate rules live tally r store stack table)) (definition.defForm document01 th now is ts)
   def-law item rest is r so-far same at-items =
-      beside-live live (knowing (reads (Left rest Any) is r (so-far .tables) at-items)) (λ x areas y p. by (p .0) (p .1)) where
-        by : {x : Tally × Reader} {areas : Areas × List ℕ} {y : Progress × List Term} → DefRead es th certificate table tally now (Left rest Any) ts x areas y
+      beside-live live (knowing (reads (RestComes rest Any) is r (so-far .tables) at-items)) (λ x areas y p. by (p .0) (p .1)) where
+        by : {x : Tally × Reader} {areas : Areas × List ℕ} {y : Progress × List Term}
+            → DefRead es th certificate table tally now (RestComes rest Any) ts x areas y
             → definition.defForm document01 th now is ts ≡ ok y
             → Standing rules heap es bound th goalsText certificate goals rest x ((areas .0, live), areas .1) y
         by (def-read {s} {t} {k} {u} {us} a b m fresh there st g l) e =
             record {
               reader = there;
-              between = next-def goalsText certificate 8192 32768 128 (Means es th us) (StepRecorded rules heap es bound th us) document01 th ts (between-longer g so-far) s t k u (same ∙ e) a b m fresh;
+              between =
+                  next-def goalsText certificate 8192 32768 128 (Means es th us) (StepRecorded rules heap es bound th us) document01 th ts
+                  (between-longer g so-far) s t k u (same ∙ e) a b m fresh;
               stored = st;
               long = l;
               keeps = keep;

@@ -24,7 +24,7 @@ use Rattle.outcomes.specs.Simulation.{Answers, both-refuse, both-ok, Simulates,
 use Rattle.theory_laws.specs.Representation.{Entries, Holds}
 use Rattle.tables.specs.declared.Tally.{Tally}
 use Rattle.asking.specs.Asking.{Top}
-use Rattle.asking_laws.proofs.Places.{Left, Any, At, at-less}
+use Rattle.asking_laws.proofs.Places.{RestComes, Any, At, at-less}
 use Rattle.asking_laws.proofs.Asking.{FormMet, form-over, form-bad, form-closing, form-atom, form-list}
 use Rattle.asking_laws.proofs.Asking as asking
 use Rattle.terms_laws.proofs.Judgments.{lifted}
@@ -60,14 +60,15 @@ module _ {rules heap : List ℕ} {es : Entries} {bound : ℕ} {th : Theory} (h :
     -- The form by its head.
     by-head : {k : walk-keyword.Keyword} {k′ : definition.FormWord} (is : Items) (q : Reader) → Headed k k′
         → definition.certificateForm document01 th now (group inner) ts ≡ definition.headedForm document01 th k′ now is ts
-        → At certificate (Left is (Left rest Any)) 0 q
+        → At certificate (RestComes is (RestComes rest Any)) 0 q
         → Simulates (Standing rules heap es bound th goalsText certificate goals rest)
         (walk.headedForm k certificate goalsText rules tally q (areas .0 .0 .0) (areas .0 .0 .1) (areas .0 .1) (areas .1))
         (definition.headedForm document01 th k′ now is ts)
     unfolding definition.headedForm checker.lift refusals._>>=_ number
     by-head is q is-step e at-items =
         step-form-law goalsText certificate now (areas .0 .0 .0) (areas .0 .0 .1) (areas .0 .1) (group inner) rest is q (s .between) e
-        (step-law h high w goalsText certificate short now (StepRecorded rules heap es bound th ts) (λ j e p c k. k .means) (s .between .tables) (Left rest Any) is q
+        (step-law h high w goalsText certificate short now (StepRecorded rules heap es bound th ts) (λ j e p c k. k .means) (s .between .tables)
+        (RestComes rest Any) is q
         (areas .0 .0 .1) (s .stored) (s .long) (s .keeps) at-items)
     by-head is q is-result e at-items =
         result-law h goalsText certificate now (areas .0 .0 .1) (s .stored) (s .long) (s .keeps) (group inner) rest is q (s .between) e at-items
@@ -76,13 +77,13 @@ module _ {rules heap : List ℕ} {es : Entries} {bound : ℕ} {th : Theory} (h :
     by-head is q is-other e at-items = refuse refl
 
     -- A form, its opening taken.
-    pub form-law : (q : Reader) → At certificate (Left inner (Left rest Any)) 0 q
+    pub form-law : (q : Reader) → At certificate (RestComes inner (RestComes rest Any)) 0 q
         → Simulates (Standing rules heap es bound th goalsText certificate goals rest)
         (walk.formRead certificate goalsText rules tally q (areas .0 .0 .0) (areas .0 .0 .1) (areas .0 .1) (areas .1))
         (definition.certificateForm document01 th now (group inner) ts)
     unfolding walk.formRead definition.certificateForm checker._>>=_ checker.lift checker.groupDue refusals._>>=_
     form-law q at-items =
-        lifted ts _ _ (known (member-law certificate (Left rest Any) 0 inner at-items)) (λ x y p.
+        lifted ts _ _ (known (member-law certificate (RestComes rest Any) 0 inner at-items)) (λ x y p.
         rw (p .0 .name)
         (by-head (y .1) (x .2) (headed (y .0)) (rw (p .1)) (at-less 0 (omega arith) (p .0 .reader))))
 
@@ -93,7 +94,8 @@ module _ {rules heap : List ℕ} {es : Entries} {bound : ℕ} {th : Theory} (h :
       → FormMet certificate Any 0 is o
       → Simulates (Finished rules heap es bound th goalsText certificate goals)
       (leaving._>>=_ (o leaving areas)
-      (λ p. walk.oneForm (walk.formsFrom fuel certificate goalsText rules) certificate goalsText rules tally (p .0) (areas .0 .0 .0) (areas .0 .0 .1) (areas .0 .1) (areas .1)))
+      (λ p. walk.oneForm (walk.formsFrom fuel certificate goalsText rules) certificate goalsText rules tally (p .0) (areas .0 .0 .0) (areas .0 .0 .1)
+      (areas .0 .1) (areas .1)))
       (definition.certificateForms document01 th now is ts)
   unfolding definition.certificateForms checker._>>=_ checker.lift checker.give checker.groupDue definition.certificateForm refusals._>>=_ number itemCount
   one-turn fuel on tally r areas now ts l s form-over = leave record { tables = s .between .tables; stored = s .stored }

@@ -17,7 +17,7 @@ use Rattle.theory_laws.specs.Representation.{Entries}
 use Rattle.theory_reading.proofs.Stored.{Means}
 use Rattle.tables.specs.declared.Tally.{Tally}
 use Rattle.tables.proofs.Phases.{next-step}
-use Rattle.asking_laws.proofs.Places.{Left, Any}
+use Rattle.asking_laws.proofs.Places.{RestComes, Any}
 use Rattle.steps.specs.Steps as steps
 use Rattle.steps_laws.proofs.Whole.{StepRead}
 use Rattle.certificates.specs.Certificates as walk
@@ -30,7 +30,8 @@ module _ {rules heap : List ℕ} {es : Entries} {bound : ℕ} {th : Theory} (goa
   pub step-form-law : (item : Item) (rest is : Items) (r : Reader)
       → SoFar rules heap es bound th goalsText certificate goals ts table tally now (item then rest)
       → definition.certificateForm document01 th now item ts ≡ definition.stepForm document01 th now is ts
-      → Simulates (StepRead rules heap es bound th certificate ts now (Left rest Any)) (steps.step certificate rules table (tally .steps) r store stack live)
+      → Simulates (StepRead rules heap es bound th certificate ts now (RestComes rest Any))
+      (steps.step certificate rules table (tally .steps) r store stack live)
       (definition.stepForm document01 th now is ts)
       → Simulates (Standing rules heap es bound th goalsText certificate goals rest) (walk.stepForm certificate rules tally r store stack live table)
       (definition.stepForm document01 th now is ts)

@@ -23,6 +23,7 @@ use Rattle.lex.specs.declared.Reader.{Reader}
 use Rattle.outcomes.specs.Outcomes as outcomes
 use Rattle.outcomes.specs.Leaving.{beside}
 use Rattle.outcomes.specs.Simulation.{Answers, both-refuse, both-ok, Simulates, leave, knowing, aside}
+use Rattle.items.specs.Places as places
 use Rattle.theory_laws.specs.Representation.{Entries, Holds}
 use Rattle.theory_laws.proofs.Frames.{Keeps}
 use Rattle.theory_reading.proofs.Stored.{Stored, Means, means-same}
@@ -31,7 +32,7 @@ use Rattle.tables.specs.Words.{goalOpen, goalClosed, goalDone, stepWord}
 use Rattle.tables.specs.Representation.{Tables, OpenAt, OpenAgree, none-open, one-open, StepAgree, no-step, one-step}
 use Rattle.tables.proofs.Laws.{open-goal, step-of}
 use Rattle.tables.proofs.Phases.{next-result}
-use Rattle.asking_laws.proofs.Places.{Left, Any, At, at-less}
+use Rattle.asking_laws.proofs.Places.{RestComes, Any, At, at-less}
 use Rattle.asking_laws.proofs.Asking.{closing-law}
 use Rattle.terms_laws.proofs.Judgments.{lifted}
 use Rattle.steps_laws.proofs.Numbers.{number-law}
@@ -45,7 +46,8 @@ abbrev closed : Progress → Name → Progress
 closed now name = record { defs = now .defs; openGoals = without name (now .openGoals); steps = now .steps }
 
 -- What was read of a result, and what was written.
-data ResultRead (certificate table : List ℕ) (Means : ℕ → Term → Type 0) (tally : Tally) (goals : List Goal) (now : Progress) (K : Stream Token → Type 0) (ts : List Term) :
+data ResultRead (certificate table : List ℕ) (Means : ℕ → Term → Type 0) (tally : Tally) (goals : List Goal) (now : Progress) (K : Stream Token → Type 0)
+    (ts : List Term) :
     Tally × Reader → List ℕ → Progress × List Term → Type 0 where
   result-read : {e w : ℕ} {r : Reader} {key : Name} {g : Goal}
       → OpenAt table 256 Means goals key e w g
@@ -83,10 +85,10 @@ module _ {goalsText certificate table : List ℕ} {Means : ℕ → Term → Type
 module _ {rules heap : List ℕ} {es : Entries} {bound : ℕ} {th : Theory} (h : Holds rules heap es bound th)
     (goalsText certificate : List ℕ) {goals : List Goal} {tally : Tally} (now : Progress)
     {ts : List Term} {store live table : List ℕ} (stack : List ℕ) (stored : Stored es th document01 4096 store ts) (long : length stack ≡ 16384)
-    (keep : Keeps 12288 heap live) where
+    (keep : Keeps places.bindings heap live) where
   reads : (K : Stream Token → Type 0) (is : Items) (r : Reader)
       → Tables goalsText certificate table 128 (Means es th ts) (StepRecorded rules heap es bound th ts) tally goals (now .openGoals) (now .defs) (now .steps)
-      → At certificate (Left is K) 0 r
+      → At certificate (RestComes is K) 0 r
       → Simulates (ResultRead certificate table (Means es th ts) tally goals now K ts) (walk.resultForm certificate goalsText tally r table)
       (definition.resultForm document01 th now is ts)
   unfolding walk.resultForm definition.resultForm checker._>>=_ checker.lift checker.give number
@@ -102,19 +104,21 @@ module _ {rules heap : List ℕ} {es : Entries} {bound : ℕ} {th : Theory} (h :
   -- From a reader behind the head of the form.
   pub result-law : (item : Item) (rest is : Items) (r : Reader) → SoFar rules heap es bound th goalsText certificate goals ts table tally now (item then rest)
       → definition.certificateForm document01 th now item ts ≡ definition.resultForm document01 th now is ts
-      → At certificate (Left is (Left rest Any)) 0 r
+      → At certificate (RestComes is (RestComes rest Any)) 0 r
       → Simulates (Standing rules heap es bound th goalsText certificate goals rest)
       (beside ((store, stack), live) (walk.resultForm certificate goalsText tally r table)) (definition.resultForm document01 th now is ts)
   result-law item rest is r so-far same at-items =
-      aside ((store, stack), live) (knowing (reads (Left rest Any) is r (so-far .tables) at-items)) (λ x left y p. by (p .0) (p .1)) where
+      aside ((store, stack), live) (knowing (reads (RestComes rest Any) is r (so-far .tables) at-items)) (λ x left y p. by (p .0) (p .1)) where
         by : {x : Tally × Reader} {left : List ℕ} {y : Progress × List Term}
-            → ResultRead certificate table (Means es th ts) tally goals now (Left rest Any) ts x left y
+            → ResultRead certificate table (Means es th ts) tally goals now (RestComes rest Any) ts x left y
             → definition.resultForm document01 th now is ts ≡ ok y
             → Standing rules heap es bound th goalsText certificate goals rest x (((store, stack), live), left) y
         by (result-read {e} {w} {key} {g} a there) f =
             record {
               reader = there;
-              between = next-result goalsText certificate 8192 32768 128 (Means es th ts) (StepRecorded rules heap es bound th ts) document01 th ts so-far key e w g (same ∙ f) a;
+              between =
+                  next-result goalsText certificate 8192 32768 128 (Means es th ts) (StepRecorded rules heap es bound th ts) document01 th ts so-far key e w g
+                  (same ∙ f) a;
               stored = stored;
               long = long;
               keeps = keep;

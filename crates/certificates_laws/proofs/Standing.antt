@@ -14,6 +14,7 @@ use Rattle.horn.specs.Certificate.{Progress}
 use Rattle.lex.specs.declared.Reader.{Reader}
 use Rattle.arena.specs.Store.{count}
 use Rattle.arena.proofs.Readings.{trees-counted}
+use Rattle.items.specs.Places as places
 use Rattle.theory_laws.specs.Representation.{Entries, RuleAt}
 use Rattle.theory_laws.proofs.Frames.{Keeps}
 use Rattle.theory_reading.specs.Addresses.{symbolAt, Used}
@@ -22,7 +23,7 @@ use Rattle.tables.specs.declared.Tally.{Tally}
 use Rattle.tables.specs.Representation.{Tables}
 use Rattle.tables.specs.Phases.{Between}
 use Rattle.tables.proofs.Phases.{between-more}
-use Rattle.asking_laws.proofs.Places.{Left, Any, At}
+use Rattle.asking_laws.proofs.Places.{RestComes, Any, At}
 use Rattle.certificates.specs.Certificates.{AllAreas}
 
 -- The store's count is the number of its trees.
@@ -41,11 +42,11 @@ module _ (rules heap : List ℕ) (es : Entries) (bound : ℕ) (th : Theory) wher
     SoFar ts table tally now left = Between goalsText certificate 8192 32768 128 (Means es th ts) (StepRecorded ts) table tally goals now left
 
     pub record Standing (left : Items) (x : Tally × Reader) (areas : AllAreas) (y : Progress × List Term) : Type 0 where
-      pub reader : At certificate (Left left Any) 0 (x .1)
+      pub reader : At certificate (RestComes left Any) 0 (x .1)
       pub between : SoFar (y .1) (areas .1) (x .0) (y .0) left
       pub stored : Stored es th document01 4096 (areas .0 .0 .0) (y .1)
       pub long : length (areas .0 .0 .1) ≡ 16384
-      pub keeps : Keeps 12288 heap (areas .0 .1)
+      pub keeps : Keeps places.bindings heap (areas .0 .1)
 
     -- After the last form.
     pub record Finished (tally : Tally) (areas : AllAreas) (y : Progress × List Term) : Type 0 where

@@ -19,6 +19,7 @@ use Rattle.horn.proofs.Counts.{few-items}
 use Rattle.horn.proofs.SoundnessWords.{WellFormed}
 use Rattle.lex.specs.Answers.{start}
 use Rattle.outcomes.specs.Simulation.{Simulates, leave, bind}
+use Rattle.items.specs.Places as places
 use Rattle.theory_laws.specs.Representation.{Entries, Holds}
 use Rattle.theory_laws.proofs.Frames.{Keeps}
 use Rattle.theory_reading.proofs.Stored.{Stored, Means}
@@ -45,11 +46,12 @@ pub certificate-law : {rules heap : List ℕ} {es : Entries} {bound : ℕ} {th :
     → (goalsText certificate : List ℕ) → length certificate ≤ 32768
     → {table : List ℕ} {tally : Tally} {goals : List Goal} {left : Items} {ts : List Term}
     → Gathering goalsText certificate 8192 32768 128 (Means es th ts) (StepRecorded rules heap es bound th ts) table tally goals left
-    → {store live : List ℕ} (stack : List ℕ) → Stored es th document01 4096 store ts → length stack ≡ 16384 → Keeps 12288 heap live
+    → {store live : List ℕ} (stack : List ℕ) → Stored es th document01 4096 store ts → length stack ≡ 16384 → Keeps places.bindings heap live
     → Simulates (CertificateRead es th goals) (walk.certificate certificate goalsText rules tally store stack live table)
     (definition.certificateOf document01 th goals certificate ts)
 unfolding walk.certificate definition.certificateOf checker._>>=_ checker.lift checker.give number
-certificate-law {rules} {heap} {es} {bound} {th} h high w goalsText certificate short {table} {tally} {goals} {ts} gathered {store} {live} stack stored long keep =
+certificate-law {rules} {heap} {es} {bound} {th} h high w goalsText certificate short {table} {tally} {goals} {ts} gathered {store}
+    {live} stack stored long keep =
     let few = few-items certificate in
     bind _ _
     (forms-law h high w goalsText certificate short (length certificate + 1) (items (tokens certificate)) tally start (((store, stack), live), table)

@@ -20,6 +20,7 @@ use Rattle.arena.proofs.Settings.{limits-01}
 use Rattle.outcomes.specs.Outcomes as outcomes
 use Rattle.outcomes.specs.Leaving as leaving
 use Rattle.outcomes.specs.Leaving.{Did, _leaving_}
+use Rattle.items.specs.Places as places
 use Rattle.theory.specs.Walks as walks
 use Rattle.theory.specs.declared.Counts as declared
 use Rattle.outcomes.specs.Simulation.{Simulates, refuse, leave, bind, knowing}
@@ -85,7 +86,7 @@ module _ (rulebook text certificateText : List ℕ) (short-rulebook : length rul
       (λ tally s y g.
       bind _ _
       (certificate-law (j .holds) (j .high) (theory-formed rulebook e) text certificateText short (g .1 .gathering) (s .0 .0 .1) (g .1 .stored) (g .1 .long)
-      (subst (Keeps 12288 heap) (sym (g .0)) keeps-all))
+      (subst (Keeps places.bindings heap) (sym (g .0)) keeps-all))
       (λ last areas q k. leave (rw (k .steps-are, k .goals-are, terms-counted (k .stored)))))
 
   pub check-law : (store table stack heap : List ℕ) → length store ≡ 16384 → length table ≡ 16384 → length stack ≡ 16384 → length heap ≡ 16384

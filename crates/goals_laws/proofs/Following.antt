@@ -18,7 +18,7 @@ use Rattle.outcomes.specs.Leaving as leaving
 use Rattle.outcomes.specs.Leaving.{Did, _leaving_}
 use Rattle.outcomes.specs.Simulation.{Simulates}
 use Rattle.asking.specs.Asking.{atomDue}
-use Rattle.asking_laws.proofs.Places.{Left, At}
+use Rattle.asking_laws.proofs.Places.{RestComes, At}
 use Rattle.terms_laws.proofs.Following.{first-of}
 use Rattle.asking_laws.proofs.Asking.{WordMet, word-met, word-law}
 
@@ -26,8 +26,8 @@ module _ {S C D E : Type 0} {R : E → S → D → Type 0} (s : S) (ts : List Te
   -- What comes first of something that leaves the areas as they are, where that is an atom, by its bounds.
   pub word-first : (text : List ℕ) (K : Stream Token → Type 0) (n : ℕ) (is : Items) (left depth : ℕ) {r : Reader} (k : ℕ × ℕ × Reader → Outcome C)
       (g : (Name × Items) × List Term → Result D)
-      → depth + left ≡ 257 → At text (Left is K) n r
-      → ((a b : ℕ) (q : Reader) (rest : Items) → a < b → b ≤ length text → At text (Left rest K) (n + 2) q
+      → depth + left ≡ 257 → At text (RestComes is K) n r
+      → ((a b : ℕ) (q : Reader) (rest : Items) → a < b → b ≤ length text → At text (RestComes rest K) (n + 2) q
       → Simulates R (leaving._>>=_ (k (a, b, q) leaving s) f) (g ((part a b text, rest), ts)))
       → Simulates R (leaving._>>=_ (outcomes._>>=_ (atomDue text left r) k leaving s) f)
       (refusals._>>=_ {A = (Name × Items) × List Term} (refusals._>>=_ (definition.askWord depth is) (λ b. refusals.ok (b, ts))) g)

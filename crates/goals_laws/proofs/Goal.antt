@@ -28,7 +28,7 @@ use Rattle.tables.specs.Words.{goalAdded, goalCounted}
 use Rattle.tables.specs.Phases.{Gathering}
 use Rattle.tables.proofs.Laws.{known-goal}
 use Rattle.tables.proofs.Phases.{gathering-more, next-goal}
-use Rattle.asking_laws.proofs.Places.{Left, At, at-less}
+use Rattle.asking_laws.proofs.Places.{RestComes, At, at-less}
 use Rattle.asking_laws.proofs.Asking.{closing-law}
 use borrow.Author.Tests.{not-true}
 use Rattle.terms_laws.proofs.Judgments.{lifted, AskedRead}
@@ -48,7 +48,8 @@ pub record GoalRead (es : Entries) (th : Theory) (goalsText certificate : List �
   pub gathering : Gathering goalsText certificate 8192 32768 128 (Means es th (y .1)) (Recorded (y .1)) (left .1) (x .0) (y .0) rest
 
 -- The same before it is known that the definition accepts the form: what was added, by its name's bounds and its judgment's number.
-record GoalMet (es : Entries) (th : Theory) (goalsText : List ℕ) (K : Stream Token → Type 0) (ts : List Term) (goals : List Goal) (tally : Tally) (table : List ℕ)
+record GoalMet (es : Entries) (th : Theory) (goalsText : List ℕ) (K : Stream Token → Type 0) (ts : List Term) (goals : List Goal) (tally : Tally)
+    (table : List ℕ)
     (x : Tally × Reader) (left : Gathered) (y : List Goal × List Term) : Type 0 where
   pub reader : At goalsText K 0 (x .1)
   pub stored : Stored es th document01 4096 (left .0 .0) (y .1)
@@ -73,10 +74,11 @@ module _ {rules heap : List ℕ} {es : Entries} {bound : ℕ} {th : Theory} (h :
     {ts : List Term} {goals : List Goal} {tally : Tally} {table : List ℕ} (store stack : List ℕ) {inner rest : Items}
     (g : Gathering goalsText certificate 8192 32768 128 (Means es th ts) (Recorded ts) table tally goals (group inner then rest))
     (stored : Stored es th document01 4096 store ts) (long : length stack ≡ 16384) (K : Stream Token → Type 0) {r : Reader}
-    (there : At goalsText (Left inner K) 0 r) where
+    (there : At goalsText (RestComes inner K) 0 r) where
   goal-met : Simulates (GoalMet es th goalsText K ts goals tally table) (walk.goal goalsText rules heap tally r store stack table)
       (definition.goalForm document01 th goals (group inner) ts)
-  unfolding AskedRead walk.goal walk.goalName definition.goalForm definition._>>=_ definition.lift definition.give definition.groupDue refusals._>>=_ number codes
+  unfolding AskedRead walk.goal walk.goalName definition.goalForm definition._>>=_ definition.lift definition.give definition.groupDue refusals._>>=_ number
+      codes
   goal-met =
       word-first _ ts _ goalsText K 0 inner 256 1 _ _ refl there (λ a b q is l u at-name.
       first-of _ ts _ _ _ (tested _ 9 form (same-named (part a b goalsText) walk.goalWord) refl) (λ x y e.
@@ -119,7 +121,8 @@ module _ {rules heap : List ℕ} {es : Entries} {bound : ℕ} {th : Theory} (h :
         long = m .long;
         gathering = rw (m .counted, m .entered, m .one-more)
             (next-goal goalsText certificate 8192 32768 128 (Means es th (y .1)) (Recorded (y .1)) document01 th ts (m .s) (m .t) (m .w) (m .j)
-            (gathering-more (Means es th (y .1)) (Recorded (y .1)) (λ w t d. means-longer (m .grown) d) (λ j r p s d. survives ts (y .1) j r p s (m .grown) d) g)
+            (gathering-more (Means es th (y .1)) (Recorded (y .1)) (λ w t d. means-longer (m .grown) d)
+            (λ j r p s d. survives ts (y .1) j r p s (m .grown) d) g)
             (k .1 ∙ ap (λ (gs : List Goal). refusals.ok (gs, y .1)) (m .one-more))
             (omega arith) (omega arith) (omega arith) (m .means) (m .fresh));
       })

@@ -34,7 +34,7 @@ use Rattle.tables.specs.Phases.{Gathering}
 use Rattle.tables.proofs.Laws.{none-left}
 use Rattle.tables.proofs.Phases.{first-goal}
 use Rattle.asking.specs.Asking.{Top}
-use Rattle.asking_laws.proofs.Places.{Left, Any, At, at-start}
+use Rattle.asking_laws.proofs.Places.{RestComes, Any, At, at-start}
 use Rattle.asking_laws.proofs.Asking.{FormMet, form-over, form-bad, form-closing, form-atom, form-list, form-law}
 use Rattle.terms_laws.proofs.Judgments.{lifted}
 use Rattle.goals.specs.Goals as walk
@@ -65,7 +65,7 @@ module _ {rules heap : List ℕ} {es : Entries} {bound : ℕ} {th : Theory} (h :
   Reads fuel =
       (is : Items) (goals : List Goal) (ts : List Term) (tally : Tally) (r : Reader) (store stack table : List ℕ) → suc (itemCount is) ≤ fuel
       → Gathering goalsText certificate 8192 32768 128 (Means es th ts) (Recorded ts) table tally goals is
-      → Stored es th document01 4096 store ts → length stack ≡ 16384 → At goalsText (Left is Any) 0 r
+      → Stored es th document01 4096 store ts → length stack ≡ 16384 → At goalsText (RestComes is Any) 0 r
       → Simulates (GoalsRead es th goalsText certificate Recorded) (walk.goalsFrom fuel goalsText rules heap tally r store stack table)
       (definition.goalForms document01 th goals is ts)
 
@@ -75,7 +75,8 @@ module _ {rules heap : List ℕ} {es : Entries} {bound : ℕ} {th : Theory} (h :
       → Gathering goalsText certificate 8192 32768 128 (Means es th ts) (Recorded ts) table tally goals is
       → Stored es th document01 4096 store ts → length stack ≡ 16384
       → Simulates (GoalsRead es th goalsText certificate Recorded)
-      (leaving._>>=_ (o leaving ((store, stack), table)) (λ p. walk.oneGoal (walk.goalsFrom fuel goalsText rules heap) goalsText rules heap tally (p .0) store stack table))
+      (leaving._>>=_ (o leaving ((store, stack), table))
+      (λ p. walk.oneGoal (walk.goalsFrom fuel goalsText rules heap) goalsText rules heap tally (p .0) store stack table))
       (definition.goalForms document01 th goals is ts)
   unfolding definition.goalForms definition._>>=_ definition.lift definition.give refusals._>>=_ itemCount number
   goals-on fuel on goals ts tally store stack table form-over f g st long =
@@ -84,7 +85,7 @@ module _ {rules heap : List ℕ} {es : Entries} {bound : ℕ} {th : Theory} (h :
   goals-on fuel on goals ts tally store stack table form-closing f g st long = refuse refl
   goals-on fuel on goals ts tally store stack table (form-atom {name}) f g st long = rw (atom-form th goals name ts) (refuse refl)
   goals-on fuel on goals ts tally store stack table (form-list {rest} there) f g st long =
-      bind _ _ (goal-law h goalsText certificate Recorded survives short store stack g st long (Left rest Any) there)
+      bind _ _ (goal-law h goalsText certificate Recorded survives short store stack g st long (RestComes rest Any) there)
       (λ x left y m. on rest (y .0) (y .1) (x .0) (x .1) (left .0 .0) (left .0 .1) (left .1) (omega arith) (m .gathering) (m .stored) (m .long) (m .reader))
 
   pub goals-law : (fuel : ℕ) → Reads fuel
@@ -102,7 +103,8 @@ module _ {rules heap : List ℕ} {es : Entries} {bound : ℕ} {th : Theory} (h :
       let n = few-items goalsText in
       bind _ _
       (goals-law (length goalsText + 1) (items (tokens goalsText)) [] [] (noneYet 128) start store stack (cleared 256 table) (omega arith)
-      (first-goal goalsText certificate 8192 32768 128 (Means es th []) (Recorded []) document01 th table (omega arith) (omega arith) (omega arith) short (rw words roomy-01))
+      (first-goal goalsText certificate 8192 32768 128 (Means es th []) (Recorded []) document01 th table (omega arith) (omega arith) (omega arith) short
+      (rw words roomy-01))
       st long (at-start goalsText))
       (λ tally left y m.
       let t = m .gathering .tables in

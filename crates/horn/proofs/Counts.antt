@@ -62,7 +62,7 @@ length-before [] s = omega arith
 length-before (a ∷ as′) s = let h = length-before as′ s in omega arith
 
 -- The bytes of all lines are the bytes of the text.
-byteCount : List (List ℕ) → ℕ
+unfoldable pub byteCount : List (List ℕ) → ℕ
 byteCount [] = zero
 byteCount (line ∷ rest) = length line + byteCount rest
 
@@ -71,7 +71,7 @@ unfolding byteCount ontoFirstLine
 bytes-onto b [] = omega arith
 bytes-onto b (line ∷ rest) = omega arith
 
-bytes-lines : (text : List ℕ) → byteCount (lines text) ≡ length text
+pub bytes-lines : (text : List ℕ) → byteCount (lines text) ≡ length text
 unfolding byteCount lines
 bytes-lines [] = refl
 bytes-lines (b ∷ bs) =

@@ -40,7 +40,7 @@ lookup-kept (bind m v ∷ binds) n u name t e =
     (λ p q. chose-true _ _ p ∙ q)
     (λ p q. chose-false _ _ p ∙ lookup-kept binds n u name t q)
 
-lookup-new : (binds : List Bind) (n : Name) (u : Term) → lookup n binds ≡ none → lookup n (binds ++ (bind n u ∷ [])) ≡ some u
+pub lookup-new : (binds : List Bind) (n : Name) (u : Term) → lookup n binds ≡ none → lookup n (binds ++ (bind n u ∷ [])) ≡ some u
 unfolding lookup
 lookup-new [] n u e = chose-true _ _ (named-decides .same n)
 lookup-new (bind m v ∷ binds) n u e =

@@ -19,38 +19,38 @@ use Rattle.horn.proofs.Equality.{case, not-true, named-decides}
 use Rattle.horn.proofs.Inversion.{not-ok, ok-equal, afterᵣ, after, given-is, afterₗ, after-need, after-found, absent-not, lift-absent, lift-refused}
 
 -- What stood where `ask` and the like were not refused.
-is-word : (item : Item) {name : Name} → wordDue item ≡ ok name → item ≡ word name
+pub is-word : (item : Item) {name : Name} → wordDue item ≡ ok name → item ≡ word name
 unfolding wordDue
 is-word (word n) e = ap word (ok-equal e)
 is-word (group inner) e = not-ok e
 
-is-group : (item : Item) {inner : Items} → groupDue item ≡ ok inner → item ≡ group inner
+pub is-group : (item : Item) {inner : Items} → groupDue item ≡ ok inner → item ≡ group inner
 unfolding groupDue
 is-group (word n) e = not-ok e
 is-group (group inner) e = ap group (ok-equal e)
 
-is-asked : (depth : ℕ) (is : Items) {q : Item × Items} → ask depth is ≡ ok q → is ≡ (q .0 then q .1)
+pub is-asked : (depth : ℕ) (is : Items) {q : Item × Items} → ask depth is ≡ ok q → is ≡ (q .0 then q .1)
 unfolding ask
 is-asked depth closed e = absent-not _ _ e
 is-asked depth ended e = absent-not _ _ e
 is-asked depth badLine e = absent-not _ _ e
 is-asked depth (item then rest) e = afterᵣ _ e λ u e₁ e₂. ap (λ q. q .0 then q .1) (ok-equal e₂)
 
-is-asked-word : (depth : ℕ) (is : Items) {q : Name × Items} → askWord depth is ≡ ok q → is ≡ (word (q .0) then q .1)
+pub is-asked-word : (depth : ℕ) (is : Items) {q : Name × Items} → askWord depth is ≡ ok q → is ≡ (word (q .0) then q .1)
 unfolding askWord
 is-asked-word depth is e =
     afterᵣ _ e λ p e₁ e₂.
     afterᵣ _ e₂ λ name e₃ e₄.
     is-asked depth is e₁ ∙ ap (λ x. x then p .1) (is-word (p .0) e₃) ∙ ap (λ q. word (q .0) then q .1) (ok-equal e₄)
 
-is-asked-group : (depth : ℕ) (is : Items) {q : Items × Items} → askGroup depth is ≡ ok q → is ≡ (group (q .0) then q .1)
+pub is-asked-group : (depth : ℕ) (is : Items) {q : Items × Items} → askGroup depth is ≡ ok q → is ≡ (group (q .0) then q .1)
 unfolding askGroup
 is-asked-group depth is e =
     afterᵣ _ e λ p e₁ e₂.
     afterᵣ _ e₂ λ inner e₃ e₄.
     is-asked depth is e₁ ∙ ap (λ x. x then p .1) (is-group (p .0) e₃) ∙ ap (λ q. group (q .0) then q .1) (ok-equal e₄)
 
-is-closed : (is : Items) {u : Unit {0}} → closingDue is ≡ ok u → is ≡ closed
+pub is-closed : (is : Items) {u : Unit {0}} → closingDue is ≡ ok u → is ≡ closed
 unfolding closingDue
 is-closed closed e = refl
 is-closed ended e = not-ok e
@@ -192,7 +192,7 @@ module _ (limits : Setting) (th : Theory) where
       (subst (λ z. ReadJudgment limits th [] (p₁ .0) (p₁ .1) s (z .0) s′) same
       (subst (ReadJudgment limits th [] (p₁ .0) (p₁ .1) s j) q (judgment-read limits th [] (suc depth) (p₁ .0) (p₁ .1) s e₅)))
 
-  goal-read : (goals : List Goal) (item : Item) (s : Store) {s′ : Store} {more : List Goal} → Checker.goalForm limits th goals item s ≡ ok (more, s′)
+  pub goal-read : (goals : List Goal) (item : Item) (s : Store) {s′ : Store} {more : List Goal} → Checker.goalForm limits th goals item s ≡ ok (more, s′)
       → (g : Goal) × (goals ++ (g ∷ []) ≡ more) × ReadGoal goals item s g s′
   unfolding Checker.goalForm
   goal-read goals item s {s′} e =

@@ -18,7 +18,10 @@ use Rattle.items.specs.declared.Walk.{Walk}
 
 -- To unfold one of these is to unfold the definitions that are named after it.
 unfoldable pub openTokens : Unit {0}
-unfolding Refusals.number Utf8.within Utf8.tail Utf8.sequences Utf8.startedBy Tokens.white Tokens.whiteRanges Tokens.inSome Tokens.kind Parts.part Parts.sameBytes Sums.sum32 Answers.tokenAt Answers.scannedOn Answers.scanned Answers.takenBy Answers.taken Answers.start Characters.oneMore Characters.rest Characters.first Characters.width Characters.value Characters.kindAt Characters.inRange Characters.longerBy Classes.kindNumber Scan.blanks Scan.atomEnd Scan.lineEnd
+unfolding Refusals.number Utf8.within Utf8.tail Utf8.sequences Utf8.startedBy Tokens.white Tokens.whiteRanges Tokens.inSome Tokens.kind Parts.part
+    Parts.sameBytes Sums.sum32 Answers.tokenAt Answers.scannedOn Answers.scanned Answers.takenBy Answers.taken Answers.start Characters.oneMore Characters.rest
+    Characters.first Characters.width Characters.value Characters.kindAt Characters.inRange Characters.longerBy Classes.kindNumber Scan.blanks Scan.atomEnd
+    Scan.lineEnd
 openTokens = tt
 
 unfoldable pub openNames : Unit {0}

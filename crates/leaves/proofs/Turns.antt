@@ -1,6 +1,6 @@
 -- One turn of the search for a variable, on the side of the models.
-use Prim.Native.Nat.{ℕ, zero, suc, _+_, _*_, _-_, _<_, _≤_}
-use mathlib.Core.Path.{_≡_, refl, sym, _∙_}
+use Prim.Native.Nat.{ℕ, suc, _+_, _*_, _-_, _<_, _≤_}
+use mathlib.Core.Path.{_≡_}
 use mathlib.Core.Bool.{Bool, true, false}
 use mathlib.Core.List.{List}
 use lib.ListN.{getD}
@@ -11,30 +11,34 @@ use Rattle.items.specs.declared.Walk.{Walk}
 use mathlib.Core.Option.{none, some}
 use native.Mathlib.Omega.{arith}
 use Rattle.words.specs.Parts.{part, sameBytes}
-use Rattle.leaves.specs.Leaves.{variableName, positionFrom, position, metAgain}
+use Rattle.leaves.specs.Leaves.{nameOfVariable, variableFrom, metAgain}
 
-module _ (text vars key : List ℕ) (n i : ℕ) where
-  pub variable-here : i < n → sameBytes (variableName text vars i) key ≡ true → positionFrom (n - i) text vars key i ≡ some i
-  unfolding positionFrom
-  variable-here l h = let e : n - i ≡ suc (n - (i + 1)) = omega arith in rw (e, h)
+module _ (area text : List ℕ) (place : ℕ) (key : List ℕ) (n : ℕ) where
+  pub variable-first : variableFrom n area text place key 0 ≡ variableFrom (n - 0) area text place key 0
+  variable-first = let e : n - 0 ≡ n = omega arith in rw e
 
-  pub variable-on : i < n → sameBytes (variableName text vars i) key ≡ false → positionFrom (n - i) text vars key i ≡ positionFrom (n - (i + 1)) text vars key (i + 1)
-  unfolding positionFrom
-  variable-on l h = let e : n - i ≡ suc (n - (i + 1)) = omega arith in rw (e, h)
+  module _ (i : ℕ) where
+    pub variable-here : i < n → sameBytes (nameOfVariable area text place i) key ≡ true → variableFrom (n - i) area text place key i ≡ some i
+    unfolding variableFrom
+    variable-here l h = let e : n - i ≡ suc (n - (i + 1)) = omega arith in rw (e, h)
 
-  pub variable-nowhere : n ≤ i → positionFrom (n - i) text vars key i ≡ none
-  unfolding positionFrom
-  variable-nowhere l = let e : n - i ≡ 0 = omega arith in rw e
+    pub variable-on : i < n → sameBytes (nameOfVariable area text place i) key ≡ false
+        → variableFrom (n - i) area text place key i ≡ variableFrom (n - (i + 1)) area text place key (i + 1)
+    unfolding variableFrom
+    variable-on l h = let e : n - i ≡ suc (n - (i + 1)) = omega arith in rw (e, h)
 
-pub variable-first : (text vars : List ℕ) (n s t : ℕ) → position text vars n s t ≡ positionFrom (n - 0) text vars (part s t text) 0
-unfolding position
-variable-first text vars n s t = let e : n - 0 ≡ n = omega arith in rw e
+    pub variable-nowhere : n ≤ i → variableFrom (n - i) area text place key i ≡ none
+    unfolding variableFrom
+    variable-nowhere l = let e : n - i ≡ 0 = omega arith in rw e
 
--- The name of the i-th variable, whose bounds are a and b, beside the name that is looked for.
-pub variable-seen : (text vars : List ℕ) (i s t a b : ℕ) {x v : Bool} → a ≡ getD vars (3 * i) 0 → b ≡ getD vars (3 * i + 1) 0
-    → x ≡ sameBytes (part a b text) (part s t text) → x ≡ v → sameBytes (variableName text vars i) (part s t text) ≡ v
-unfolding variableName
-variable-seen text vars i s t a b e f g h = rw (← e, ← f) (sym g ∙ h)
+-- The name's bounds are the variable's words, and the name is compared with the key.
+pub variable-compared : (area text : List ℕ) (place : ℕ) (key : List ℕ) (i : ℕ) {s t : ℕ} {b : Bool}
+    → s ≡ getD area (place + 3 * i) 0
+    → t ≡ getD area (place + 3 * i + 1) 0
+    → b ≡ sameBytes (part s t text) key
+    → sameBytes (nameOfVariable area text place i) key ≡ b
+unfolding nameOfVariable
+variable-compared area text place key i p q h = rw (h, p, q)
 
 -- "At another sort is 14": x is the sort that the variable has.
 pub met-apart : (v sort : ℕ) (w : Walk) (vars heap : List ℕ) (x : ℕ) → x ≡ getD vars (3 * v + 2) 0 → (x ≡ sort → ⊥)

@@ -1,6 +1,6 @@
 -- Atoms and heads in a rule's patterns: what each function answers, and what it leaves of a rule's variables and of the theory.
 use Prim.Native.Nat.{ℕ, zero, suc, _+_, _*_, _-_, _%_}
-use mathlib.Core.Bool.{Bool, true, false, not}
+use mathlib.Core.Bool.{not}
 use mathlib.Core.List.{List}
 use mathlib.Core.Option.{Option, none, some}
 use lib.Dec.{eqb}
@@ -8,8 +8,7 @@ use lib.ListN.{getD, set}
 use Rattle.words.specs.Parts.{part, sameBytes}
 use Rattle.names.specs.Chains.{found}
 use Rattle.items.specs.Places as places
-use Rattle.outcomes.specs.Outcomes.{Outcome, ok, refused, need, orElse, pick}
-use Rattle.outcomes.specs.Outcomes as outcomes
+use Rattle.outcomes.specs.Outcomes.{ok, need, orElse, pick}
 use Rattle.outcomes.specs.Leaving.{Did, _leaving_, _>>=_, beside}
 use Rattle.words.specs.Sums.{sum32}
 use Rattle.items.specs.Items.{pushed, question, headDue}
@@ -19,20 +18,17 @@ use Rattle.items.specs.declared.Walk.{Walk}
 abbrev pub Areas : Type 0
 Areas = List ℕ × List ℕ
 
--- The name of a rule's variable, from its three words.
-unfoldable pub variableName : List ℕ → List ℕ → ℕ → List ℕ
-variableName text vars v = part (getD vars (3 * v) 0) (getD vars (3 * v + 1) 0) text
+-- The name of a rule's variable. The words of the variables stand from `place` on, three for each.
+unfoldable pub nameOfVariable : List ℕ → List ℕ → ℕ → ℕ → List ℕ
+nameOfVariable area text place v = part (getD area (place + 3 * v) 0) (getD area (place + 3 * v + 1) 0) text
 
 -- The first variable that has the name `key`, from the i-th on.
-unfoldable pub positionFrom : ℕ → List ℕ → List ℕ → List ℕ → ℕ → Option ℕ
-positionFrom zero text vars key i = none
-positionFrom (suc left) text vars key i =
-    pick (sameBytes (variableName text vars i) key)
+unfoldable pub variableFrom : ℕ → List ℕ → List ℕ → ℕ → List ℕ → ℕ → Option ℕ
+variableFrom zero area text place key i = none
+variableFrom (suc left) area text place key i =
+    pick (sameBytes (nameOfVariable area text place i) key)
     (λ _. some i)
-    (λ _. positionFrom left text vars key (i + 1))
-
-unfoldable pub position : List ℕ → List ℕ → ℕ → ℕ → ℕ → Option ℕ
-position text vars variables s t = positionFrom variables text vars (part s t text) 0
+    (λ _. variableFrom left area text place key (i + 1))
 
 -- The word for a variable in a pattern.
 unfoldable pub variableWord : ℕ → ℕ
@@ -61,10 +57,10 @@ variableAt none s t sort w vars heap = introduced s t sort w vars heap
 variableAt (some v) s t sort w vars heap = metAgain v sort w vars heap
 
 -- "In a term, `?` alone is 11; `?v` takes its place's sort, and at another sort is 14."
-unfoldable pub schematic : List ℕ → ℕ → ℕ → ℕ → Walk → List ℕ → List ℕ → Did Areas Walk
-schematic text s t sort w vars heap = do
+unfoldable pub variablePattern : List ℕ → ℕ → ℕ → ℕ → Walk → List ℕ → List ℕ → Did Areas Walk
+variablePattern text s t sort w vars heap = do
   _ ← need (not (eqb (t - s) 1)) 11 leaving (vars, heap)
-  variableAt (position text vars (w .variables) s t) s t sort w vars heap
+  variableAt (variableFrom (w .variables) vars text 0 (part s t text) 0) s t sort w vars heap
 
 -- A symbol with these buckets: unknown is 12, then output sort and length (of the list, its head included) 15.
 unfoldable pub applied : List ℕ → ℕ → ℕ → ℕ → ℕ → ℕ → Walk → List ℕ → Did (List ℕ) (ℕ × Walk)
@@ -85,7 +81,7 @@ constant text s t sort w heap = do
 unfoldable pub leaf : List ℕ → ℕ → ℕ → ℕ → Walk → List ℕ → List ℕ → Did Areas Walk
 leaf text s t sort w vars heap =
     pick (question text s)
-    (λ _. schematic text s t sort w vars heap)
+    (λ _. variablePattern text s t sort w vars heap)
     (λ _. beside vars (constant text s t sort w heap))
 
 -- "A list: empty 8, head not an atom 7, length one 16, unknown 12. Then, atom or list, output sort and length, 15, before the arguments."

@@ -1,10 +1,11 @@
 // Atoms and heads of lists in a rule's patterns: variables, constants, and symbols with their output and their number of inputs.
 ghost use mathlib.Core.Path.{_≡_};
+ghost use Rattle.words.specs.Parts.{part};
 ghost use Rattle.names.specs.Chains.{answered};
 ghost use Rattle.outcomes.specs.Outcomes.{ok};
 ghost use Rattle.outcomes.specs.Leaving.{_leaving_};
 ghost use Rattle.items.specs.Items.{numbered, walked};
-ghost use Rattle.leaves.specs.Leaves.{position, introduced, metAgain, schematic, applied, constant, leaf, compoundHead};
+ghost use Rattle.leaves.specs.Leaves.{variableFrom, introduced, metAgain, variablePattern, applied, constant, leaf, compoundHead};
 use items::Named;
 use items::Numbered;
 use items::Walk;
@@ -12,16 +13,25 @@ use items::Walked;
 use items::places;
 use names::Found;
 
-// The variable of the rule that has this name, in order of their first places, as the Rust looks for it.
-pub fn find_variable(text: &[u8], vars: &[u32], variables: u32, s: usize, t: usize) -> Found
-    ensures { λ r. ⌜ answered r ≡ position (now (text .entry)) (now (vars .entry)) variables s t ⌝ }
+// The number of the variable that has the name from `start` to `end` in `from`, of `count` whose words stand from `place` on; in order of
+// their first places, as the Rust looks for it.
+pub fn find_variable(
+    area: &[u32],
+    place: u32,
+    count: u32,
+    text: &[u8],
+    from: &[u8],
+    start: usize,
+    end: usize,
+) -> Found
+    ensures { λ r. ⌜ answered r ≡ variableFrom count (now (area .entry)) (now (text .entry)) place (part start end (now (from .entry))) 0 ⌝ }
 {
     let mut i: u32 = 0;
-    while i < variables {
-        let v = 3 * i as usize;
-        let start = words::at(vars, v);
-        let end = words::at(vars, v + 1);
-        if words::same_bytes(text, start as usize, end as usize, text, s, t) {
+    while i < count {
+        let v = place as usize + 3 * i as usize;
+        let s = words::at(area, v);
+        let t = words::at(area, v + 1);
+        if words::same_bytes(text, s as usize, t as usize, from, start, end) {
             return Found::At(i);
         }
         i += 1;
@@ -59,7 +69,7 @@ pub fn meet_again(vars: &[u32], heap: &mut [u32], v: u32, sort: u32, w: Walk) ->
 }
 
 // `?v` at a place of a sort.
-pub fn schematic(
+pub fn variable_pattern(
     text: &[u8],
     vars: &mut [u32],
     heap: &mut [u32],
@@ -68,12 +78,13 @@ pub fn schematic(
     sort: u32,
     w: Walk,
 ) -> Walked
-    ensures { λ r. ⌜ (walked r leaving (now (vars .exit), now (heap .exit))) ≡ schematic (now (text .entry)) s t sort w (now (vars .entry)) (now (heap .entry)) ⌝ }
+    ensures { λ r. ⌜ (walked r leaving (now (vars .exit), now (heap .exit)))
+        ≡ variablePattern (now (text .entry)) s t sort w (now (vars .entry)) (now (heap .entry)) ⌝ }
 {
     if items::is_bare(s, t) {
         return Walked::Refused(11);
     }
-    let found = find_variable(text, vars, w.variables, s, t);
+    let found = find_variable(vars, 0, w.variables, text, text, s, t);
     match found {
         Found::At(v) => meet_again(vars, heap, v, sort, w),
         Found::Nothing => Walked::To(introduce(vars, heap, s, t, sort, w)),
@@ -132,7 +143,7 @@ pub fn leaf(
     ensures { λ r. ⌜ (walked r leaving (now (vars .exit), now (heap .exit))) ≡ leaf (now (text .entry)) s t sort w (now (vars .entry)) (now (heap .entry)) ⌝ }
 {
     if items::is_question(text, s) {
-        return schematic(text, vars, heap, s, t, sort, w);
+        return variable_pattern(text, vars, heap, s, t, sort, w);
     }
     constant(text, heap, s, t, sort, w)
 }

@@ -1,7 +1,7 @@
 -- What a variable's binding is, and one binding more. Assumes nothing.
 use mathlib.Core.Path.{_≡_, refl, sym, _∙_}
 use mathlib.Core.List.{List, [], _∷_, _++_}
-use mathlib.Core.Option.{Option, none, some}
+use mathlib.Core.Option.{Option, none}
 use Prim.Native.Nat.{ℕ, zero, suc, _+_, _≤_, _<_}
 use native.Mathlib.Omega.{arith}
 use lib.ListN.{length, getD, set, length-set}
@@ -9,25 +9,21 @@ use lib.Seq.{getD-set-same, getD-set-other}
 use Rattle.horn.specs.Names.{Name, named}
 use Rattle.horn.specs.Rulebook.{Variable, Theory}
 use Rattle.horn.specs.StoredTerms.{Term}
-use Rattle.horn.specs.Matching.{Bind, bind, lookup, Step}
-use Rattle.horn.proofs.Equality.{case, chosen, chose-true, chose-false, named-decides, apart}
-use Rattle.horn.proofs.Inversion.{none-some}
+use Rattle.horn.specs.Matching.{Bind, bind, lookup}
+use Rattle.horn.proofs.Equality.{case, chose-true, chose-false, named-decides, apart}
 use Rattle.names.proofs.Holds.{by-number}
+use Rattle.horn.proofs.SoundnessMatching.{lookup-new}
 use Rattle.horn.proofs.SoundnessWords.{Apart}
+use Rattle.items.specs.Places as layout
 use Rattle.theory_laws.specs.Representation.{Entries, Nth}
 use Rattle.theory_laws.proofs.Frames.{Keeps}
 use Rattle.theory_laws.proofs.Ready.{nth-below}
 use Rattle.theory_reading.proofs.Naming.{nth-one, nth-name}
 use Rattle.theory_reading.proofs.Stored.{Longer, Means, means-longer}
 use Rattle.matching.specs.Matching.{bindingOf, bindingAt, unbound}
-use Rattle.matching_laws.proofs.Relations.{Bound, not-bound, bound-to, Binds, StepsAt}
+use Rattle.matching_laws.proofs.Relations.{Bound, not-bound, bound-to, Binds}
 
--- A new binding is found by its name, and no other name is touched.
-pub lookup-new : (binds : List Bind) (n : Name) (u : Term) → lookup n binds ≡ none → lookup n (binds ++ (bind n u ∷ [])) ≡ some u
-unfolding lookup
-lookup-new [] n u e = chose-true _ _ (named-decides .same n)
-lookup-new (bind m v ∷ binds) n u e = chosen (named n m) e (λ p q. none-some (sym q)) (λ p q. chose-false _ _ p ∙ lookup-new binds n u q)
-
+-- A new binding touches no other name.
 pub lookup-other : (binds : List Bind) (n : Name) (u : Term) (name : Name) → (name ≡ n → ⊥) → lookup name (binds ++ (bind n u ∷ [])) ≡ lookup name binds
 unfolding lookup
 lookup-other [] n u name d = chose-false _ _ (apart named-decides name n d)
@@ -46,12 +42,10 @@ module _ {es : Entries} {th : Theory} where
       → Binds es th us vs now binds
   binds-longer g b = record { each = λ v name n. bound-longer g (b .each v name n) }
 
-  pub steps-longer : {ts us : List Term} {table : List ℕ} {steps : List Step} → Longer ts us → StepsAt es th ts table steps → StepsAt es th us table steps
-  steps-longer g s = record { few = s .few; each = λ i x e. means-longer g (s .each i x e) }
-
   module _ {ts : List Term} {vs : List Variable} (d : Apart vs) {now : List ℕ} {binds : List Bind} (b : Binds es th ts vs now binds) where
     -- Variable v, not bound before, bound to term k.
-    pub binds-more : (v k : ℕ) (name : Name) (t : Term) → Nth vs v name → lookup name binds ≡ none → 12288 + length vs ≤ length now → Means es th ts k t
+    pub binds-more : (v k : ℕ) (name : Name) (t : Term) → Nth vs v name → lookup name binds ≡ none → layout.bindings + length vs ≤ length now
+        → Means es th ts k t
         → Binds es th ts vs (set now (bindingAt v) (k + 1)) (binds ++ (bind name t ∷ []))
     unfolding bindingOf
     binds-more v k name t n free long l = record { each = each }
@@ -62,15 +56,17 @@ module _ {es : Entries} {th : Theory} where
             by-number w v
             (λ q.
             let x : other ≡ name = nth-name m (rw (← q) at n) in
-            let y : bindingOf (set now (bindingAt v) (k + 1)) w ≡ k + 1 = rw q (getD-set-same now (bindingAt v) (k + 1) 0 (let s = nth-below vs n in omega arith)) in
+            let y : bindingOf (set now (bindingAt v) (k + 1)) w ≡ k + 1 =
+            rw q (getD-set-same now (bindingAt v) (k + 1) 0 (let s = nth-below vs n in omega arith)) in
             rw (x, lookup-new binds name t free) (bound-to k y l))
             (λ q.
             let x = lookup-other binds name t other (λ p. q (nth-one d (rw p at m) n)) in
-            let y : bindingOf (set now (bindingAt v) (k + 1)) w ≡ bindingOf now w = getD-set-other now (bindingAt v) (bindingAt w) (k + 1) 0 (λ p. q (omega arith)) in
+            let y : bindingOf (set now (bindingAt v) (k + 1)) w ≡ bindingOf now w =
+            getD-set-other now (bindingAt v) (bindingAt w) (k + 1) 0 (λ p. q (omega arith)) in
             rw (x, y) (b .each w other m))
 
 -- Nothing is bound once the words are taken back.
-unbound-other : (n : ℕ) (now : List ℕ) (i : ℕ) → (i < 12288) → getD (unbound n now) i 0 ≡ getD now i 0
+unbound-other : (n : ℕ) (now : List ℕ) (i : ℕ) → (i < layout.bindings) → getD (unbound n now) i 0 ≡ getD now i 0
 unfolding unbound
 unbound-other zero now i l = refl
 unbound-other (suc n) now i l = unbound-other n (set now (bindingAt n) 0) i l ∙ getD-set-other now (bindingAt n) i 0 0 (λ p. omega arith)
@@ -83,7 +79,9 @@ zero-set (x ∷ s) (suc j) = zero-set s j
 zero-kept : (n : ℕ) (now : List ℕ) (i : ℕ) → getD now i 0 ≡ 0 → getD (unbound n now) i 0 ≡ 0
 unfolding unbound
 zero-kept zero now i e = e
-zero-kept (suc n) now i e = zero-kept n (set now (bindingAt n) 0) i (by-number i (bindingAt n) (λ q. rw q (zero-set now (bindingAt n))) (λ q. getD-set-other now (bindingAt n) i 0 0 q ∙ e))
+zero-kept (suc n) now i e =
+    zero-kept n (set now (bindingAt n) 0) i (by-number i (bindingAt n) (λ q. rw q (zero-set now (bindingAt n)))
+    (λ q. getD-set-other now (bindingAt n) i 0 0 q ∙ e))
 
 unbound-zero : (n : ℕ) (now : List ℕ) (v : ℕ) → v < n → getD (unbound n now) (bindingAt v) 0 ≡ 0
 unfolding unbound
@@ -97,7 +95,7 @@ pub binds-none : {es : Entries} {th : Theory} {ts : List Term} {vs : List Variab
 unfolding bindingOf lookup
 binds-none {vs} now = record { each = λ v name n. not-bound (unbound-zero (length vs) now v (nth-below vs n)) }
 
-pub keeps-unbound : {heap : List ℕ} (n : ℕ) (now : List ℕ) → Keeps 12288 heap now → Keeps 12288 heap (unbound n now)
+pub keeps-unbound : {heap : List ℕ} (n : ℕ) (now : List ℕ) → Keeps layout.bindings heap now → Keeps layout.bindings heap (unbound n now)
 unfolding unbound
 keeps-unbound n now k = record { same-length = unbound-length n now ∙ k .same-length; words = λ i l. unbound-other n now i l ∙ k .words i l }
   where

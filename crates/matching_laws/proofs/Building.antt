@@ -25,6 +25,7 @@ use Rattle.arena.proofs.Trees.{treeOf, lookups, Below, formed}
 use Rattle.outcomes.specs.Leaving as leaving
 use Rattle.outcomes.specs.Leaving.{Did, _leaving_}
 use Rattle.words.specs.Sums.{sum32}
+use Rattle.items.specs.Places as layout
 use Rattle.theory_laws.specs.Representation.{Entries, SymbolAt, Flat, flat-variable, flat-symbol, Flats, no-flats, one-flat, Holds}
 use Rattle.outcomes.specs.Simulation.{Simulates, refuse, leave, bind, paired}
 use Rattle.theory_laws.proofs.Frames.{Keeps, keeps-all, keeps-then, keeps-set}
@@ -42,7 +43,8 @@ use Rattle.matching_laws.proofs.Relations.{widthOf, Full, full-variable
 use Rattle.matching_laws.proofs.Bindings.{binds-longer}
 
 -- The number, the tree and the areas that building leaves: the store has grown, and the stack is kept below its top.
-pub record BuiltTo (es : Entries) (th : Theory) (limits : Setting) (places : ℕ) (ts : List Term) (stack : List ℕ) (p end : ℕ) (r : ℕ × ℕ) (areas : Areas) (q : Term × Store) : Type 0 where
+pub record BuiltTo (es : Entries) (th : Theory) (limits : Setting) (places : ℕ) (ts : List Term) (stack : List ℕ) (p end : ℕ) (r : ℕ × ℕ) (areas : Areas)
+    (q : Term × Store) : Type 0 where
   pub ends : r .1 ≡ end
   pub holds : Stored es th limits places (areas .0) (q .1)
   pub means : Means es th (q .1) (r .0) (q .0)
@@ -64,12 +66,14 @@ joined : (m : Result (Term × Store)) (g : Store → Result (Terms × Store)) (f
 unfolding results._>>=_
 joined (refused r) g f = refl
 joined (ok x) g f = one (g (x .1)) where
-  one : (n : Result (Terms × Store)) → results._>>=_ (results._>>=_ n λ y. ok (paired (x .0 ∷ₜ y .0) (y .1))) (λ z. f (z .0) (z .1)) ≡ results._>>=_ n λ y. f (x .0 ∷ₜ y .0) (y .1)
+  one : (n : Result (Terms × Store)) → results._>>=_ (results._>>=_ n λ y. ok (paired (x .0 ∷ₜ y .0) (y .1))) (λ z. f (z .0) (z .1))
+      ≡ results._>>=_ n λ y. f (x .0 ∷ₜ y .0) (y .1)
   one (refused r) = refl
   one (ok y) = refl
 
 -- The definition, level by level.
-build-variable : (limits : Setting) (binds : List Bind) (name : Name) (ts : Store) → build limits binds (var name) ts ≡ results._>>=_ (found (lookup name binds) unbound) λ a. ok (a, ts)
+build-variable : (limits : Setting) (binds : List Bind) (name : Name) (ts : Store)
+    → build limits binds (var name) ts ≡ results._>>=_ (found (lookup name binds) unbound) λ a. ok (a, ts)
 unfolding build lift
 build-variable limits binds name ts = refl
 
@@ -83,20 +87,24 @@ unfolding build checker._>>=_ give results._>>=_
 builds-none limits binds f ts = refl
 
 builds-next : (limits : Setting) (binds : List Bind) (p : Pattern) (ps : Patterns) (f : Terms → Reading Term) (ts : Store)
-    → checker._>>=_ (builds limits binds (p ∷ₚ ps)) f ts ≡ results._>>=_ (build limits binds p ts) λ x. checker._>>=_ (builds limits binds ps) (λ us. f (x .0 ∷ₜ us)) (x .1)
+    → checker._>>=_ (builds limits binds (p ∷ₚ ps)) f ts
+    ≡ results._>>=_ (build limits binds p ts) λ x. checker._>>=_ (builds limits binds ps) (λ us. f (x .0 ∷ₜ us)) (x .1)
 unfolding build checker._>>=_ give
 builds-next limits binds p ps f ts = joined (build limits binds p ts) (builds limits binds ps) f
 
 -- What follows the arguments: their numbers stand on the stack from q on, and the node is made of them.
-abbrev pub After : (es : Entries) (th : Theory) (limits : Setting) (places : ℕ) (Q : ℕ × ℕ → Areas → Term × Store → Type 0) (count from end q : ℕ) (stack : List ℕ) (ts : List Term) (f : Terms → Reading Term) → Type 0
+abbrev pub After : (es : Entries) (th : Theory) (limits : Setting) (places : ℕ) (Q : ℕ × ℕ → Areas → Term × Store → Type 0) (count from end q : ℕ)
+    (stack : List ℕ) (ts : List Term) (f : Terms → Reading Term) → Type 0
 After es th limits places Q count from end q stack ts f =
     (ms stack′ store′ : List ℕ) (ts′ : List Term) → Longer ts ts′ → Stored es th limits places store′ ts′ → Below (length ts′) ms → length ms ≡ count
     → q + length ms ≤ length stack
     → wordsAt stack′ q (length ms) ≡ ms
     → Keeps q stack stack′
-    → Simulates Q (before stack′ (nodeMade (limits .nodes) (limits .nodeWords) places from (q + length ms) end stack′ store′)) (f (lookups (symbolAt es th) ts′ ms) ts′)
+    → Simulates Q (before stack′ (nodeMade (limits .nodes) (limits .nodeWords) places from (q + length ms) end stack′ store′))
+    (f (lookups (symbolAt es th) ts′ ms) ts′)
 
-flat-below : {heap : List ℕ} {es : Entries} {bound low high : ℕ} {vs : List Variable} {o o′ : ℕ} {p : Pattern} → Flat heap es bound low high vs o p o′ → o < high
+flat-below : {heap : List ℕ} {es : Entries} {bound low high : ℕ} {vs : List Variable} {o o′ : ℕ} {p : Pattern} → Flat heap es bound low high vs o p o′
+    → o < high
 flat-below (flat-variable l u e n q) = u
 flat-below (flat-symbol l u a r) = u
 
@@ -104,7 +112,8 @@ module _ {es : Entries} {th : Theory} {limits : Setting} {places : ℕ} where
   -- "Unbound variable 26".
   variable-built : (now : List ℕ) (v o q : ℕ) {stack store : List ℕ} {ts : List Term} → o + 1 < 4294967296 → Stored es th limits places store ts
       → {x : Option Term} → Bound es th ts (bindingOf now v) x
-      → Simulates (BuiltTo es th limits places ts stack q (o + 1)) (boundTerm now v o leaving (store, stack)) (results._>>=_ (found x unbound) λ a. ok (paired a ts))
+      → Simulates (BuiltTo es th limits places ts stack q (o + 1)) (boundTerm now v o leaving (store, stack))
+      (results._>>=_ (found x unbound) λ a. ok (paired a ts))
   unfolding boundTerm found results._>>=_ number
   variable-built now v o q u st (not-bound e) = rw (eq-eqb (bindingOf now v) 0 e) (refuse refl)
   variable-built now v o q {ts} u st (bound-to {t} k e m) =
@@ -113,21 +122,25 @@ module _ {es : Entries} {th : Theory} {limits : Setting} {places : ℕ} where
       let less : k + 1 - 1 ≡ k = omega arith in
       rw (z, s, e, less) (leave record { ends = refl; holds = st; means = m; grown = longer-none; keeps = keeps-all })
 
-module _ {text heap : List ℕ} {es : Entries} {top : ℕ} {th : Theory} (h : Holds text heap es top th) (small : top ≤ 12288)
+module _ {text heap : List ℕ} {es : Entries} {top : ℕ} {th : Theory} (h : Holds text heap es top th) (small : top ≤ layout.bindings)
     (limits : Setting) {places : ℕ} (l : Limits (limits .nodes) (limits .nodeWords) places) where
   -- The node, where its words stand on the stack.
-  pub node-made : {c : Symbol} {count word from end : ℕ} {stack₀ : List ℕ} {ts : List Term} → SymbolAt heap es top word c → count ≡ length (inputs c) → from < length stack₀
-      → After es th limits places (BuiltTo es th limits places ts stack₀ from end) count from end (from + 1) (set stack₀ from word) ts (λ us. checker.stored limits (node c us))
+  pub node-made : {c : Symbol} {count word from end : ℕ} {stack₀ : List ℕ} {ts : List Term} → SymbolAt heap es top word c → count ≡ length (inputs c)
+      → from < length stack₀
+      → After es th limits places (BuiltTo es th limits places ts stack₀ from end) count from end (from + 1) (set stack₀ from word) ts
+      (λ us. checker.stored limits (node c us))
   unfolding nodeMade wordsAt trees.build
   node-made {c} {count} {word} {from} {end} {stack₀} {ts} a wide room ms stack store ts′ longer st below e fits words k =
       let q = length-set stack₀ from word in
       let here : getD stack from 0 ≡ word = k .words from (omega arith) ∙ getD-set-same stack₀ from word 0 room in
       let n : from + 1 + length ms ≡ from + suc (length ms) = omega arith in
       let long = k .same-length in
-      let key : part from (from + 1 + length ms) stack ≡ word ∷ ms = wordsAt-part stack from (from + 1 + length ms) (suc (length ms)) n (omega arith) ∙ ap₂ _∷_ here words in
+      let key : part from (from + 1 + length ms) stack ≡ word ∷ ms =
+      wordsAt-part stack from (from + 1 + length ms) (suc (length ms)) n (omega arith) ∙ ap₂ _∷_ here words in
       let s : symbolAt es th word ≡ c = symbol-is h a in
       let w : width (lookups (symbolAt es th) ts′ ms) ≡ length (inputs c) = lookups-width (symbolAt es th) ts′ ms ∙ e ∙ wide in
-      let b : trees.build (symbolAt es th) ts′ (word ∷ ms) ≡ node c (lookups (symbolAt es th) ts′ ms) = ap (λ (x : Symbol). node x (lookups (symbolAt es th) ts′ ms)) s in
+      let b : trees.build (symbolAt es th) ts′ (word ∷ ms) ≡ node c (lookups (symbolAt es th) ts′ ms) =
+      ap (λ (x : Symbol). node x (lookups (symbolAt es th) ts′ ms)) s in
       rw key
       (behind stack (stored-law st h l end (word ∷ ms) (formed (used-at h a) below) b (sized w))
       (λ r area t y.
@@ -140,7 +153,7 @@ module _ {text heap : List ℕ} {es : Entries} {top : ℕ} {th : Theory} (h : Ho
         keeps = keeps-then (omega arith) (keeps-set from stack₀ from word (omega arith)) k;
       }))
 
-  module _ {vs : List Variable} {now : List ℕ} (keep : Keeps 12288 heap now) {binds : List Bind} {low high : ℕ} (under : high ≤ 12288) where
+  module _ {vs : List Variable} {now : List ℕ} (keep : Keeps layout.bindings heap now) {binds : List Bind} {low high : ℕ} (under : high ≤ layout.bindings) where
     mutual
       unfolding termBuilt argumentsBuilt widthOf lookups wordsAt arityOf
 
@@ -149,7 +162,8 @@ module _ {text heap : List ℕ} {es : Entries} {top : ℕ} {th : Theory} (h : Ho
           → {stack store : List ℕ} {ts : List Term} → q + high ≤ length stack + o → length stack < 4294967296
           → Stored es th limits places store ts
           → Binds es th ts vs now binds
-          → Simulates (BuiltTo es th limits places ts stack q o′) (termBuilt (limits .nodes) (limits .nodeWords) places now left o q stack store) (build limits binds p ts)
+          → Simulates (BuiltTo es th limits places ts stack q o′) (termBuilt (limits .nodes) (limits .nodeWords) places now left o q stack store)
+          (build limits binds p ts)
       pattern-built (flat-variable l u e n x) full-variable zero q le fits short st bs = absurd (omega arith)
       pattern-built {o} (flat-variable {v} {name} y u e n x) full-variable (suc left) q le {ts = ts} fits short st bs =
           let w : getD now o 0 ≡ 16384 + v = keep .words o (omega arith) ∙ e in
@@ -174,12 +188,15 @@ module _ {text heap : List ℕ} {es : Entries} {top : ℕ} {th : Theory} (h : Ho
           → Binds es th ts vs now binds
           → {ts₀ : List Term} {stack₀ : List ℕ} {q₀ : ℕ} (f : Terms → Reading Term)
           → After es th limits places (BuiltTo es th limits places ts₀ stack₀ q₀ o′) (widthOf ps) from o′ q stack ts f
-          → Simulates (BuiltTo es th limits places ts₀ stack₀ q₀ o′) (argumentsBuilt (limits .nodes) (limits .nodeWords) places (termBuilt (limits .nodes) (limits .nodeWords) places now left) (widthOf ps) from o q stack store)
+          → Simulates (BuiltTo es th limits places ts₀ stack₀ q₀ o′)
+          (argumentsBuilt (limits .nodes) (limits .nodeWords) places (termBuilt (limits .nodes) (limits .nodeWords) places now left)
+          (widthOf ps) from o q stack store)
           (checker._>>=_ (builds limits binds ps) f ts)
       patterns-built no-flats full-none left from q le {stack} {store} {ts} fits in-stack short st bs f after =
           let z : q + 0 ≡ q = omega arith in
           rw (builds-none limits binds f ts, ← z) (after [] stack store ts longer-none st trees.none refl (omega arith) refl keeps-all)
-      patterns-built {o} {o′} (one-flat {o₁ = o₁} {p = p} {ps = ps} one more) (full-next x xs) left from q le {stack} {store} {ts} fits in-stack short st bs f after =
+      patterns-built {o} {o′} (one-flat {o₁ = o₁} {p = p} {ps = ps} one more) (full-next x xs) left from q le {stack} {store}
+          {ts} fits in-stack short st bs f after =
           let up = flat-rises one in
           let low = flat-below one in
           let z : sum32 q 1 ≡ q + 1 = sum-small q 1 (omega arith) in
@@ -199,5 +216,6 @@ module _ {text heap : List ℕ} {es : Entries} {top : ℕ} {th : Theory} (h : Ho
           let up = longer-length longer in
           let i = y .means .below in
           rw (n, ← t)
-          (after (a .0 ∷ ms) stack′ store′ ts′ (longer-then (y .grown) longer) st′ (trees.both {m = a .0} (omega arith) below) (ap suc e) (omega arith) (ap₂ _∷_ here words)
+          (after (a .0 ∷ ms) stack′ store′ ts′ (longer-then (y .grown) longer) st′ (trees.both {m = a .0} (omega arith) below) (ap suc e) (omega arith)
+          (ap₂ _∷_ here words)
           (keeps-then (omega arith) (y .keeps) (keeps-then (omega arith) (keeps-set q (s .1) q (a .0) (omega arith)) kept)))))))

@@ -18,6 +18,7 @@ use Rattle.horn.specs.Matching.{Bind, Step, match, matchPremises, build}
 use Rattle.horn.specs.Certificate.{given, conclude}
 use Rattle.arena.proofs.Limits.{Limits}
 use Rattle.arena.proofs.Trees.{treeOf}
+use Rattle.items.specs.Places as layout
 use Rattle.theory_laws.specs.Representation.{Entries, FlatList, no-premises, one-premise, RuleWords, RuleAt, rule-at, Holds}
 use Rattle.outcomes.specs.Simulation.{Simulates, leave, bind, aside, bind-aside, giving}
 use Rattle.theory_laws.proofs.Frames.{Keeps}
@@ -35,11 +36,12 @@ use Rattle.matching_laws.proofs.Building.{behind, pattern-built}
 use Rattle.matching_laws.proofs.Formed.{RuleReady}
 
 -- The number of the judgment, and the areas that are left.
-pub record ConcludedTo (es : Entries) (th : Theory) (heap : List ℕ) (limits : Setting) (places : ℕ) (ts : List Term) (k : ℕ) (areas : Areas × List ℕ) (q : Term × Store) : Type 0 where
+pub record ConcludedTo (es : Entries) (th : Theory) (heap : List ℕ) (limits : Setting) (places : ℕ) (ts : List Term) (k : ℕ) (areas : Areas × List ℕ)
+    (q : Term × Store) : Type 0 where
   pub holds : Stored es th limits places (areas .0 .0) (q .1)
   pub means : Means es th (q .1) k (q .0)
   pub grown : Longer ts (q .1)
-  pub keeps : Keeps 12288 heap (areas .1)
+  pub keeps : Keeps layout.bindings heap (areas .1)
   pub long : length (areas .0 .1) ≡ 16384
 
 -- Each pattern has a word.
@@ -69,12 +71,12 @@ unfolding conclude premisesOf conclusionOf
 stated-defined limits th steps name vs ps c refs binds j ts =
     lift-then (found (match c j binds) badConclusion) (λ more. checker._>>=_ (lift (matchPremises steps ps refs more)) (λ _. give j)) ts
 
-module _ {text heap : List ℕ} {es : Entries} {top : ℕ} {th : Theory} (h : Holds text heap es top th) (small : top ≤ 12288)
+module _ {text heap : List ℕ} {es : Entries} {top : ℕ} {th : Theory} (h : Holds text heap es top th) (small : top ≤ layout.bindings)
     (limits : Setting) (narrow : limits .nodes < 4294967295) {places : ℕ} (l : Limits (limits .nodes) (limits .nodeWords) places)
     {store : List ℕ} {ts : List Term} (st : Stored es th limits places store ts)
     {table stack : List ℕ} (long : length stack ≡ 16384) {steps : List Step} (sa : StepsAt es th ts table steps)
     {refs : List ℕ} (at-refs : ReferencesAt stack 0 refs)
-    {now : List ℕ} (keep : Keeps 12288 heap now) {binds : List Bind} where
+    {now : List ℕ} (keep : Keeps layout.bindings heap now) {binds : List Bind} where
   rule-concluded : {e : ℕ} {name : Name} {vs : List Variable} {ps : List Pattern} {c : Pattern} → RuleWords text heap es top e name vs ps c
       → RuleReady (rule name vs ps c)
       → length refs ≡ length ps
@@ -97,7 +99,8 @@ module _ {text heap : List ℕ} {es : Entries} {top : ℕ} {th : Theory} (h : Ho
       (λ o now′ more y.
       rw (y .ends)
       (giving (λ (r : ℕ × ℕ). r .0)
-      (behind now′ (pattern-built h small limits l (y .keeps) small (w .at-conclusion) (ready .conclusion) 16384 (length ps) (omega arith) (omega arith) (omega arith) st (y .bound))
+      (behind now′ (pattern-built h small limits l (y .keeps) small (w .at-conclusion) (ready .conclusion) 16384 (length ps) (omega arith) (omega arith)
+      (omega arith) st (y .bound))
       (λ r areas q b. record { holds = b .holds; means = b .means; grown = b .grown; keeps = y .keeps; long = b .keeps .same-length ∙ long }))
       (λ r areas q b. b))))
   rule-concluded {e} {name} {vs} {ps} {c} w ready count bs {word} (bound-to {t = j} k z b) =

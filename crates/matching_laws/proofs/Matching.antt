@@ -19,6 +19,7 @@ use Rattle.arena.specs.Store.{argumentOf}
 use Rattle.arena.proofs.Trees as trees
 use Rattle.arena.proofs.Trees.{treeOf, lookups, Below}
 use Rattle.words.specs.Sums.{sum32}
+use Rattle.items.specs.Places as layout
 use Rattle.theory_laws.specs.Representation.{Entries, Nth, Flat, flat-variable, flat-symbol, Flats, no-flats, one-flat, Holds}
 use Rattle.theory_laws.proofs.Frames.{Keeps, keeps-then, keeps-set}
 use Rattle.words.proofs.Sums.{sum-small}
@@ -37,15 +38,16 @@ use Rattle.matching_laws.proofs.Bindings.{binds-more}
 -- Both differ; or both match, the pattern ends where it does, and the bindings are alike. Below the bindings no word has changed since the
 -- rulebook was read.
 pub data Matching (es : Entries) (th : Theory) (heap : List ℕ) (ts : List Term) (vs : List Variable) (end : ℕ) : Tried ℕ → Option (List Bind) → Type 0 where
-  both-differ : {now : List ℕ} → Keeps 12288 heap now → Matching es th heap ts vs end (none keeping now) none
-  both-match : {now : List ℕ} {binds : List Bind} → Keeps 12288 heap now → Binds es th ts vs now binds
+  both-differ : {now : List ℕ} → Keeps layout.bindings heap now → Matching es th heap ts vs end (none keeping now) none
+  both-match : {now : List ℕ} {binds : List Bind} → Keeps layout.bindings heap now → Binds es th ts vs now binds
       → Matching es th heap ts vs end (some end keeping now) (some binds)
 
 -- One after the other.
 pub match-next : {es : Entries} {th : Theory} {heap : List ℕ} {ts : List Term} {vs : List Variable} {middle end : ℕ} {x : Tried ℕ} {y : Option (List Bind)}
     (f : ℕ × List ℕ → Tried ℕ) (g : List Bind → Option (List Bind))
     → Matching es th heap ts vs middle x y
-    → ((now : List ℕ) (more : List Bind) → Keeps 12288 heap now → Binds es th ts vs now more → Matching es th heap ts vs end (f (middle, now)) (g more))
+    → ((now : List ℕ) (more : List Bind) → Keeps layout.bindings heap now → Binds es th ts vs now more
+    → Matching es th heap ts vs end (f (middle, now)) (g more))
     → Matching es th heap ts vs end (models._>>=_ x f) (elim y [ none ↦ none | some more ↦ g more ])
 match-next f g (both-differ k) next = both-differ k
 match-next f g (both-match k b) next = next _ _ k b
@@ -72,10 +74,10 @@ matches-next : (p : Pattern) (ps : Patterns) (t : Term) (us : Terms) (binds : Li
 unfolding match
 matches-next p ps t us binds = refl
 
-module _ {text heap : List ℕ} {es : Entries} {top : ℕ} {th : Theory} (h : Holds text heap es top th) (small : top ≤ 12288)
+module _ {text heap : List ℕ} {es : Entries} {top : ℕ} {th : Theory} (h : Holds text heap es top th) (small : top ≤ layout.bindings)
     {limits : Setting} (narrow : limits .nodes < 4294967295) {places : ℕ} {store : List ℕ} {ts : List Term} (st : Stored es th limits places store ts)
-    {vs : List Variable} (d : Apart vs) (room : 12288 + length vs ≤ 16384) where
-  module _ {now : List ℕ} {binds : List Bind} (k : Keeps 12288 heap now) (b : Binds es th ts vs now binds) where
+    {vs : List Variable} (d : Apart vs) (room : layout.bindings + length vs ≤ 16384) where
+  module _ {now : List ℕ} {binds : List Bind} (k : Keeps layout.bindings heap now) (b : Binds es th ts vs now binds) where
     -- "A variable binds first and must be equal later."
     variable-matches : (v t o : ℕ) (name : Name) → Nth vs v name → t < length ts → o + 1 < 4294967296
         → {x : Option Term} → x ≡ lookup name binds → Bound es th ts (bindingOf now v) x
@@ -88,7 +90,7 @@ module _ {text heap : List ℕ} {es : Entries} {top : ℕ} {th : Theory} (h : Ho
         let long = k .same-length ∙ h .long in
         rw (eq-eqb _ _ e, s, p)
         (both-match
-        (keeps-then (omega arith) k (keeps-set 12288 now (bindingAt v) (t + 1) (omega arith)))
+        (keeps-then (omega arith) k (keeps-set layout.bindings now (bindingAt v) (t + 1) (omega arith)))
         (binds-more d b v t name (treeOf (symbolAt es th) ts t) n (sym q) (omega arith) (record { below = l; tree = refl })))
     variable-matches v t o name n l u q (bound-to {t = y} m e a) =
         let few = few-terms st in
@@ -106,12 +108,12 @@ module _ {text heap : List ℕ} {es : Entries} {top : ℕ} {th : Theory} (h : Ho
         rw (z, s, i, j, matchVar) (both-differ k))
 
   -- "Matching goes one level of the pattern at a time": where `left` reaches the end of the patterns' words, it suffices.
-  module _ {low high : ℕ} (under : high ≤ 12288) where
+  module _ {low high : ℕ} (under : high ≤ layout.bindings) where
     mutual
       unfolding matched argumentsMatched lookups widthOf arityOf
 
       pub pattern-matches : {o o′ : ℕ} {p : Pattern} → Flat heap es top low high vs o p o′ → Full p → (left t : ℕ) → high ≤ o + left → t < length ts
-          → {now : List ℕ} {binds : List Bind} → Keeps 12288 heap now → Binds es th ts vs now binds
+          → {now : List ℕ} {binds : List Bind} → Keeps layout.bindings heap now → Binds es th ts vs now binds
           → Matching es th heap ts vs o′ (matched (limits .nodes) places store left o t now) (match p (treeOf (symbolAt es th) ts t) binds)
       pattern-matches (flat-variable l u e n q) full-variable zero t le b k bs = absurd (omega arith)
       pattern-matches {o} (flat-variable {v} {name} l u e n q) full-variable (suc left) t le b {now} {binds} k bs =
@@ -132,14 +134,15 @@ module _ {text heap : List ℕ} {es : Entries} {top : ℕ} {th : Theory} (h : Ho
           (λ e.
           let s : c ≡ symbolAt es th (n .head) = sameSymbol-decides .equal c (symbolAt es th (n .head)) e in
           let count : length (n .arguments) ≡ widthOf ps = n .count ∙ ap (λ (x : Symbol). length (inputs x)) (sym s) ∙ sym wide in
-          rw (same ∙ e, y, z, match-same c (symbolAt es th (n .head)) ps (lookups (symbolAt es th) ts (n .arguments)) binds e) (patterns-match r f left t 0 (n .arguments) count (omega arith) (λ i x. let q : 0 + i ≡ i = omega arith in rw q (n .read i x)) (n .below) k bs))
+          rw (same ∙ e, y, z, match-same c (symbolAt es th (n .head)) ps (lookups (symbolAt es th) ts (n .arguments)) binds e)
+          (patterns-match r f left t 0 (n .arguments) count (omega arith) (λ i x. let q : 0 + i ≡ i = omega arith in rw q (n .read i x)) (n .below) k bs))
           (λ e. rw (same ∙ e, match-other c (symbolAt es th (n .head)) ps (lookups (symbolAt es th) ts (n .arguments)) binds e) (both-differ k)))
 
       pub patterns-match : {o o′ : ℕ} {ps : Patterns} → Flats heap es top low high vs o ps o′ → Fulls ps → (left t j : ℕ) (ms : List ℕ) → length ms ≡ widthOf ps
           → high ≤ o + left
           → ((i : ℕ) → i < length ms → argumentOf store (limits .nodes) places t (j + i) ≡ getD ms i 0)
           → Below (length ts) ms
-          → {now : List ℕ} {binds : List Bind} → Keeps 12288 heap now → Binds es th ts vs now binds
+          → {now : List ℕ} {binds : List Bind} → Keeps layout.bindings heap now → Binds es th ts vs now binds
           → Matching es th heap ts vs o′ (argumentsMatched (limits .nodes) places store (matched (limits .nodes) places store left) (widthOf ps) t j o now)
           (matches ps (lookups (symbolAt es th) ts ms) binds)
       patterns-match no-flats full-none left t j [] e le read below {binds = binds} k bs = rw (matches-none binds) (both-match k bs)

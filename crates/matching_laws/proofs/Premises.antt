@@ -16,6 +16,7 @@ use Rattle.horn.specs.Matching.{Bind, Step, matchPremises}
 use Rattle.outcomes.specs.Outcomes as outcomes
 use Rattle.outcomes.specs.Leaving as leaving
 use Rattle.outcomes.specs.Leaving.{Did, _leaving_}
+use Rattle.items.specs.Places as layout
 use Rattle.theory_laws.specs.Representation.{Entries, FlatList, no-premises, one-premise, Holds}
 use Rattle.outcomes.specs.Simulation.{Simulates, refuse, leave}
 use Rattle.theory_laws.proofs.Frames.{Keeps}
@@ -27,17 +28,19 @@ use Rattle.matching_laws.proofs.Relations.{Full, Binds, StepsAt, Satura
 use Rattle.matching_laws.proofs.Matching.{Matching, both-differ, both-match, pattern-matches}
 
 -- Where the patterns end, with the bindings that are left.
-pub record MatchedTo (es : Entries) (th : Theory) (heap : List ℕ) (ts : List Term) (vs : List Variable) (end o : ℕ) (now : List ℕ) (binds : List Bind) : Type 0 where
+pub record MatchedTo (es : Entries) (th : Theory) (heap : List ℕ) (ts : List Term) (vs : List Variable) (end o : ℕ) (now : List ℕ)
+    (binds : List Bind) : Type 0 where
   pub ends : o ≡ end
-  pub keeps : Keeps 12288 heap now
+  pub keeps : Keeps layout.bindings heap now
   pub bound : Binds es th ts vs now binds
 
 -- A mismatch refused by its caller's number, and what follows a match.
-pub found-match : {A B : Type 0} {Q : A → List ℕ → B → Type 0} {es : Entries} {th : Theory} {heap : List ℕ} {ts : List Term} {vs : List Variable} {middle : ℕ} {x : Tried ℕ} {y : Option (List Bind)}
+pub found-match : {A B : Type 0} {Q : A → List ℕ → B → Type 0} {es : Entries} {th : Theory} {heap : List ℕ} {ts : List Term} {vs : List Variable} {middle : ℕ}
+    {x : Tried ℕ} {y : Option (List Bind)}
     (n : ℕ) (r : Refusal) (f : ℕ × List ℕ → Did (List ℕ) A) (f′ : List Bind → Result B)
     → n ≡ number r
     → Matching es th heap ts vs middle x y
-    → ((now : List ℕ) (more : List Bind) → Keeps 12288 heap now → Binds es th ts vs now more → Simulates Q (f (middle, now)) (f′ more))
+    → ((now : List ℕ) (more : List Bind) → Keeps layout.bindings heap now → Binds es th ts vs now more → Simulates Q (f (middle, now)) (f′ more))
     → Simulates Q (leaving._>>=_ (orRefused x n) f) (found y r >>= f′)
 unfolding found _>>=_
 found-match n r f f′ e (both-differ k) next = refuse e
@@ -76,16 +79,16 @@ saturated-above : {word n b : ℕ} → Saturates word n → b ≤ n → b < 4294
 saturated-above (as-it-is e l) i j = omega arith
 saturated-above (at-most e l) i j = omega arith
 
-module _ {text heap : List ℕ} {es : Entries} {top : ℕ} {th : Theory} (h : Holds text heap es top th) (small : top ≤ 12288)
+module _ {text heap : List ℕ} {es : Entries} {top : ℕ} {th : Theory} (h : Holds text heap es top th) (small : top ≤ layout.bindings)
     {limits : Setting} (narrow : limits .nodes < 4294967295) {places : ℕ} {store : List ℕ} {ts : List Term} (st : Stored es th limits places store ts)
-    {vs : List Variable} (d : Apart vs) (room : 12288 + length vs ≤ 16384)
-    {low high : ℕ} (under : high ≤ 12288)
+    {vs : List Variable} (d : Apart vs) (room : layout.bindings + length vs ≤ 16384)
+    {low high : ℕ} (under : high ≤ layout.bindings)
     {table stack : List ℕ} {steps : List Step} (sa : StepsAt es th ts table steps) where
   -- "For each premise in order, no earlier step 24, mismatch 25."
   pub premises-match : {o o′ k : ℕ} {ps : List Pattern} {ns : List ℕ} → FlatList heap es top low high vs o ps o′ → ((p : Pattern) → List·Memᴰ p ps → Full p)
       → length ns ≡ length ps
       → ReferencesAt stack k ns
-      → {now : List ℕ} {binds : List Bind} → Keeps 12288 heap now → Binds es th ts vs now binds
+      → {now : List ℕ} {binds : List Bind} → Keeps layout.bindings heap now → Binds es th ts vs now binds
       → Simulates (MatchedTo es th heap ts vs o′) (premisesMatched (limits .nodes) places store table stack (length steps) (length ps) k o now)
       (matchPremises steps ps ns binds)
   unfolding premisesMatched matchPremises number

@@ -1,6 +1,6 @@
 -- Where the laws start: 01's limits, the rules of the rulebook that was read, and the steps that the table holds. Assumes nothing.
 use mathlib.Core.Path.{_≡_}
-use mathlib.Core.List.{List, [], List·Memᴰ}
+use mathlib.Core.List.{List}
 use Prim.Native.Nat.{ℕ, _<_}
 use native.Mathlib.Omega.{arith}
 use lib.Dec.{lit<}
@@ -9,11 +9,9 @@ use Rattle.horn.specs.Refusals.{ok}
 use Rattle.horn.specs.Setting.{document01}
 use Rattle.horn.specs.Names.{Name}
 use Rattle.horn.specs.Rulebook.{Rule, Theory, isRule, ruleNamed}
-use Rattle.horn.specs.Rulebook as rulebook
 use Rattle.horn.proofs.Equality.{first-some}
-use Rattle.horn.proofs.Inversion.{was-found, none-some}
+use Rattle.horn.proofs.Inversion.{was-found}
 use Rattle.horn.proofs.SoundnessWords.{WellFormed}
-use Rattle.horn.proofs.SoundnessRulebook.{theory-formed}
 use Rattle.horn.specs.StoredTerms.{Term}
 use Rattle.horn.specs.Matching.{Step, judgmentOf}
 use Rattle.theory_laws.specs.Representation.{Entries}
@@ -27,17 +25,10 @@ pub narrow-01 : document01 .nodes < 4294967295
 unfolding document01
 narrow-01 = lit< tt
 
--- Every rule of an accepted rulebook.
-pub rule-of-theory : (text : List ℕ) {th : Theory} → rulebook.theory text ≡ ok th → (r : Rule) → List·Memᴰ r (th .rules) → RuleReady r
-rule-of-theory text e r m = rule-ready (theory-formed text e .formed r m)
-
 -- The rule that the definition finds by a name.
 pub named-ready : {th : Theory} → WellFormed th → (key : Name) {r : Rule} → ruleNamed th key ≡ ok r → RuleReady r
 unfolding ruleNamed
 named-ready {th} w key {r} e = was-found _ _ e λ p. rule-ready (w .formed r (first-some (isRule key) (th .rules) p .0))
-
-pub no-steps : (es : Entries) (th : Theory) (table : List ℕ) → StepsAt es th [] table []
-no-steps es th table = record { few = lit< tt; each = λ i s e. none-some e }
 
 -- The steps of the table, whatever else is recorded of them.
 pub steps-at : {es : Entries} {th : Theory} {ts : List Term} {table : List ℕ} {steps : List Step} {Recorded : ℕ → ℕ → ℕ → Step → Type 0}

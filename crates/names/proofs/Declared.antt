@@ -3,13 +3,12 @@ use mathlib.Core.Path.{_≡_, refl, ap, sym, _∙_}
 use mathlib.Core.Bool.{Bool, true, false, true≢false}
 use mathlib.Core.List.{List, [], _∷_, _++_, List·Memᴰ, List·Memᴰ·head, List·Memᴰ·tail}
 use mathlib.Core.Option.{Option, none, some}
-use Prim.Native.Nat.{ℕ, _+_, _≤_}
-use Rattle.horn.specs.Names.{Name, named, first, someOf}
-use Rattle.horn.proofs.Equality.{case, named-decides, apart, some-of-member, first-some}
-use Rattle.horn.proofs.Inversion.{none-some, some-equal}
+use Prim.Native.Nat.{ℕ}
+use Rattle.horn.specs.Names.{Name, first, someOf}
+use Rattle.horn.proofs.Equality.{case, named-decides, apart}
+use Rattle.horn.proofs.Inversion.{none-some}
 use Rattle.names.specs.Chains.{found}
-use Rattle.names.specs.Tables.{Entry, entry, lookup, top, Table, Stands, none-yet, other-kind, declared, Agree, both-none, both-some, present}
-use Rattle.names.proofs.Kept.{member-bounds}
+use Rattle.names.specs.Tables.{Entry, entry, lookup, Table, Stands, none-yet, other-kind, declared, Agree, both-none, both-some, present}
 use Rattle.names.proofs.Holds.{by-name, lookup-here, lookup-on, find-law}
 
 -- Names that are pairwise different: none of an older entry is met again.
@@ -55,12 +54,6 @@ module _ {area : List ℕ} {buckets count base : ℕ} {text : List ℕ} {entries
   -- An address is found exactly where an entry has the name, and then it is that entry.
   pub found-some : {e : ℕ} → found area buckets count text key ≡ some e → List·Memᴰ (entry e key) entries
   found-some h = lookup-some key entries (sym (find-law key t) ∙ h)
-
-  pub found-bounds : {e : ℕ} → found area buckets count text key ≡ some e → (base ≤ e) × (e + 3 ≤ top base entries)
-  found-bounds h = member-bounds (t .chain) (found-some h)
-
-  pub found-none : found area buckets count text key ≡ none → (e : ℕ) → List·Memᴰ (entry e key) entries → ⊥
-  found-none h = lookup-none key entries (sym (find-law key t) ∙ h)
 
   pub found-member : (e : ℕ) → Distinct entries → List·Memᴰ (entry e key) entries → found area buckets count text key ≡ some e
   found-member e s m = find-law key t ∙ lookup-member key e s m
@@ -112,7 +105,11 @@ module _ {A : Type 0} (test : Name → A → Bool) (Means : ℕ → A → Type 0
   lookup-agrees key (declared {entries} {things} {a} {e} {name} q n m f s) =
       by-name key name
       (λ t.
-      rw (q, lookup-here e name entries key t, first-last (test key) a things (first-nothing (test key) things (rw t f)) (n key ∙ rw t (named-decides .same name)))
+      rw (
+        q,
+        lookup-here e name entries key t,
+        first-last (test key) a things (first-nothing (test key) things (rw t f)) (n key ∙ rw t (named-decides .same name)),
+      )
       (both-some m))
       (λ t.
       rw (q, lookup-on e name entries key t, first-before (test key) a things (n key ∙ apart named-decides key name t))

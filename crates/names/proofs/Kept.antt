@@ -225,15 +225,6 @@ add-law {area} {buckets} {count} {base} {text} {entries} e start end t h fits s 
 -- A table and an addition to another one in the same area.
 module _ {area : List ℕ} {buckets count base : ℕ} {text : List ℕ} {entries : List Entry}
     (buckets′ count′ e : ℕ) (text′ : List ℕ) (start end : ℕ) where
-  pub kept-added : Table area buckets count base text entries
-      → 0 < count′
-      → ((i : ℕ) → Owns buckets count entries i → buckets′ ≤ i → i < buckets′ + count′ → ⊥)
-      → ((i : ℕ) → Owns buckets count entries i → e ≤ i → i < e + 3 → ⊥)
-      → Table (added area buckets′ count′ e text′ start end) buckets count base text entries
-  kept-added t p n h =
-      kept (added area buckets′ count′ e text′ start end) t (length-added area buckets′ count′ e text′ start end)
-      (λ i o. added-other area buckets′ count′ e text′ start end p i (n i o) (h i o))
-
   -- All buckets apart and before the entries, and the new entry above those of this table.
   pub kept-added-above : Table area buckets count base text entries
       → 0 < count′

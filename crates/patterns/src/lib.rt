@@ -92,7 +92,8 @@ fn take(
     tally: &mut [u32; 3],
     due: Due,
 ) -> Taken
-    ensures { λ r. ⌜ (takenPart r (now (place .exit)) (now (tally .exit)) leaving (now (vars .exit), now (heap .exit))) ≡ partDue due (now (text .entry)) (now (counts .entry)) (lentWalk (now (place .entry)) (now (tally .entry))) (now (vars .entry)) (now (heap .entry)) ⌝ }
+    ensures { λ r. ⌜ (takenPart r (now (place .exit)) (now (tally .exit)) leaving (now (vars .exit), now (heap .exit)))
+        ≡ partDue due (now (text .entry)) (now (counts .entry)) (lentWalk (now (place .entry)) (now (tally .entry))) (now (vars .entry)) (now (heap .entry)) ⌝ }
 {
     let w = lent_walk(place, tally);
     match due {
@@ -138,7 +139,9 @@ fn lent_pattern(
     sort: u32,
     left: u32,
 ) -> Done
-    ensures { λ r. ⌜ (done r (now (place .exit)) (now (tally .exit)) leaving (now (vars .exit), now (heap .exit))) ≡ pattern left (now (text .entry)) (now (counts .entry)) sort (lentWalk (now (place .entry)) (now (tally .entry))) (now (vars .entry)) (now (heap .entry)) ⌝ }
+    ensures { λ r. ⌜ (done r (now (place .exit)) (now (tally .exit)) leaving (now (vars .exit), now (heap .exit)))
+        ≡ pattern left (now (text .entry)) (now (counts .entry)) sort (lentWalk (now (place .entry)) (now (tally .entry))) (now (vars .entry))
+        (now (heap .entry)) ⌝ }
 {
     if left == 0 {
         return Done::Refused(4);
@@ -162,7 +165,9 @@ fn lent_arguments(
     c: u32,
     left: u32,
 ) -> Done
-    ensures { λ r. ⌜ (done r (now (place .exit)) (now (tally .exit)) leaving (now (vars .exit), now (heap .exit))) ≡ arguments left (now (text .entry)) (now (counts .entry)) c (lentWalk (now (place .entry)) (now (tally .entry))) (now (vars .entry)) (now (heap .entry)) ⌝ }
+    ensures { λ r. ⌜ (done r (now (place .exit)) (now (tally .exit)) leaving (now (vars .exit), now (heap .exit)))
+        ≡ arguments left (now (text .entry)) (now (counts .entry)) c (lentWalk (now (place .entry)) (now (tally .entry))) (now (vars .entry))
+        (now (heap .entry)) ⌝ }
 {
     let inputs = words::at(heap, c as usize + places::ARITY);
     let mut k: u32 = 0;
@@ -188,7 +193,8 @@ pub fn arguments(
     left: u32,
     w: Walk,
 ) -> Walked
-    ensures { λ r. ⌜ (walked r leaving (now (vars .exit), now (heap .exit))) ≡ arguments left (now (text .entry)) (now (counts .entry)) c w (now (vars .entry)) (now (heap .entry)) ⌝ }
+    ensures { λ r. ⌜ (walked r leaving (now (vars .exit), now (heap .exit)))
+        ≡ arguments left (now (text .entry)) (now (counts .entry)) c w (now (vars .entry)) (now (heap .entry)) ⌝ }
 {
     let mut place: [usize; 5] = [0; 5];
     let mut tally: [u32; 3] = [0; 3];
@@ -202,7 +208,8 @@ pub fn arguments(
 
 // A judgment: "a list (else 7), not empty (8), its head an atom (7) and a predicate (12), its length right (15), then its terms".
 pub fn judgment(text: &[u8], counts: &[u32], vars: &mut [u32], heap: &mut [u32], w: Walk) -> Walked
-    ensures { λ r. ⌜ (walked r leaving (now (vars .exit), now (heap .exit))) ≡ judgment (now (text .entry)) (now (counts .entry)) w (now (vars .entry)) (now (heap .entry)) ⌝ }
+    ensures { λ r. ⌜ (walked r leaving (now (vars .exit), now (heap .exit)))
+        ≡ judgment (now (text .entry)) (now (counts .entry)) w (now (vars .entry)) (now (heap .entry)) ⌝ }
 {
     let l = items::next_list(text, counts, w);
     let Numbered::Got(members, q) = l else {
@@ -228,7 +235,8 @@ pub fn judgments(
     n: u32,
     w: Walk,
 ) -> Walked
-    ensures { λ r. ⌜ (walked r leaving (now (vars .exit), now (heap .exit))) ≡ judgments n (now (text .entry)) (now (counts .entry)) w (now (vars .entry)) (now (heap .entry)) ⌝ }
+    ensures { λ r. ⌜ (walked r leaving (now (vars .exit), now (heap .exit)))
+        ≡ judgments n (now (text .entry)) (now (counts .entry)) w (now (vars .entry)) (now (heap .entry)) ⌝ }
 {
     let mut v = w;
     let mut left = n;

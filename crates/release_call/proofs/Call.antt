@@ -38,7 +38,10 @@ module _ (rulebook goals certificate a b c d : List ℕ) where
   unfolding releaseLeft
   is-called q a′ b′ c′ d′ e h = (
     rw e h,
-    rw (← e) (sound document01 (length a) (length b) (length c) (length d) rulebook goals certificate, complete-01 (length a) (length b) (length c) (length d) rulebook goals certificate),
+    rw (← e) (
+      sound document01 (length a) (length b) (length c) (length d) rulebook goals certificate,
+      complete-01 (length a) (length b) (length c) (length d) rulebook goals certificate,
+    ),
   )
 
   abbrev Refused : ℕ → Report → Type 0
@@ -56,7 +59,8 @@ module _ (rulebook goals certificate a b c d : List ℕ) where
     unfolding releaseCall releaseJudged document01 need _>>=_ releaseAnswer number
     rulebook-long r h is =
         rw is
-        (is-called (report 2 0 0 0 0) a b c d (rw (areas-long (length a) (length b) (length c) (length d), long, lt-leb (length rulebook) 8192 h)) (untouched-long _ a b c d))
+        (is-called (report 2 0 0 0 0) a b c d (rw (areas-long (length a) (length b) (length c) (length d), long, lt-leb (length rulebook) 8192 h))
+        (untouched-long _ a b c d))
 
     module _ (short-rulebook : length rulebook ≤ 8192) where
       pub goals-long : (r : Report) → 8192 < length goals → Refused 2 r → Ensured (told r) rulebook goals certificate a b c d a b c d

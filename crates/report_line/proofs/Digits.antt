@@ -54,12 +54,16 @@ counted-next (suc k) (suc (suc j)) n h i =
     case (eqb (n % 10) 9)
     (λ e. let d = eqb-true (n % 10) 9 e in
     by-size n
-    (λ s. ap next (one-digit k n s) ∙ next-nine n [] (omega (arith, d, s)) ∙ sym (more-digits (suc j) (suc n) (omega (arith, d, s)) ∙ rw (tens n d, ends n d) (ap (λ l. 0 ∷ l) (rw (small-tens n s) (one-digit j 1 (omega arith))))))
-    (λ s. ap next (more-digits k n s) ∙ next-nine (n % 10) _ d ∙ ap (λ l. 0 ∷ l) (counted-next k (suc j) (n / 10) (omega (arith, h, s)) (omega (arith, i, s))) ∙ sym (more-digits (suc j) (suc n) (omega (arith, s)) ∙ rw (tens n d, ends n d) refl)))
+    (λ s. ap next (one-digit k n s) ∙ next-nine n [] (omega (arith, d, s))
+    ∙ sym (more-digits (suc j) (suc n) (omega (arith, d, s)) ∙ rw (tens n d, ends n d) (ap (λ l. 0 ∷ l) (rw (small-tens n s) (one-digit j 1 (omega arith))))))
+    (λ s. ap next (more-digits k n s) ∙ next-nine (n % 10) _ d ∙ ap (λ l. 0 ∷ l) (counted-next k (suc j) (n / 10) (omega (arith, h, s)) (omega (arith, i, s)))
+    ∙ sym (more-digits (suc j) (suc n) (omega (arith, s)) ∙ rw (tens n d, ends n d) refl)))
     (λ e. let d = eqb-false (n % 10) 9 e in
     by-size n
     (λ s. ap next (one-digit k n s) ∙ next-other n [] (λ q. d (omega (arith, q))) ∙ sym (one-digit (suc j) (suc n) (below n s d)))
-    (λ s. ap next (more-digits k n s) ∙ next-other (n % 10) _ d ∙ ap (λ l. suc (n % 10) ∷ l) (enough k (suc j) (n / 10) (omega (arith, h, s)) (omega (arith, i, s))) ∙ sym (more-digits (suc j) (suc n) (omega (arith, s)) ∙ rw (same-tens n d, same-ends n d) refl)))
+    (λ s. ap next (more-digits k n s) ∙ next-other (n % 10) _ d
+    ∙ ap (λ l. suc (n % 10) ∷ l) (enough k (suc j) (n / 10) (omega (arith, h, s)) (omega (arith, i, s)))
+    ∙ sym (more-digits (suc j) (suc n) (omega (arith, s)) ∙ rw (same-tens n d, same-ends n d) refl)))
   where
     tens : (n : ℕ) → n % 10 ≡ 9 → suc n / 10 ≡ suc (n / 10)
     tens n d = omega (arith, d)

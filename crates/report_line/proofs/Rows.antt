@@ -40,7 +40,8 @@ long-behind : (xs ys : List ℕ) {a b : ℕ} → a ≡ length xs → b ≡ lengt
 long-behind xs ys e f = ap₂ (λ m n. m + n) e f ∙ sym (length-append xs ys)
 
 -- The five numbers of a report, behind each other: as many bytes as their sum, and these.
-module _ (n s g t b : ℕ) {i j k l : ℕ} (long₁ : i ≡ length (field n 0x09)) (long₂ : j ≡ length (field s 0x09)) (long₃ : k ≡ length (field g 0x09)) (long₄ : l ≡ length (field t 0x09)) where
+module _ (n s g t b : ℕ) {i j k l : ℕ} (long₁ : i ≡ length (field n 0x09)) (long₂ : j ≡ length (field s 0x09)) (long₃ : k ≡ length (field g 0x09))
+    (long₄ : l ≡ length (field t 0x09)) where
   two : i + j ≡ length (field n 0x09 ++ field s 0x09)
   two = long-behind (field n 0x09) (field s 0x09) long₁ long₂
 

@@ -1,11 +1,11 @@
 -- How the second walk reads the counts back: one word for each opening, in order.
-use Prim.Native.Nat.{ℕ, zero, suc, _+_, _<_}
+use Prim.Native.Nat.{ℕ, suc, _+_, _<_}
 use mathlib.Core.Path.{_≡_, ap, _∙_}
 use mathlib.Core.List.{List, [], _∷_}
 use native.Mathlib.Omega.{arith}
 use lib.ListN.{length, take, getD}
-use Rattle.horn.specs.NestedLists.{leaf, list, Sexps, []ₛ, _∷ₛ_}
-use Rattle.sexp.specs.Flattening.{size, countsOne, countsAll, counts}
+use Rattle.horn.specs.NestedLists.{Sexps}
+use Rattle.sexp.specs.Flattening.{countsAll, counts}
 use Rattle.sexp.proofs.Held.{count-at}
 
 -- These counts stand in the words from place k on.
@@ -26,20 +26,3 @@ pub ahead-start : (area : List ℕ) (xs : Sexps) → take (length (counts xs)) a
 unfolding counts
 ahead-start area xs e =
     ahead-by area 0 (countsAll xs []) (λ j h. ap (λ (n : ℕ). getD area n 0) (let z : 0 + j ≡ j = omega arith in z) ∙ count-at (countsAll xs []) area j e h)
-
-module _ (area : List ℕ) (k : ℕ) (xs : Sexps) (cs : List ℕ) where
-  -- At an opening the next word is the number of members of its list; behind it are the counts of what stands in it.
-  pub ahead-list : (ys : Sexps) → Ahead area k (countsAll (list ys ∷ₛ xs) cs)
-      → (getD area k 0 ≡ size ys) × Ahead area (k + 1) (countsAll ys (countsAll xs cs))
-  unfolding Ahead countsAll
-  ahead-list ys a = a
-
-  -- An atom has none.
-  pub ahead-leaf : (bytes : List ℕ) → Ahead area k (countsAll (leaf bytes ∷ₛ xs) cs) → Ahead area k (countsAll xs cs)
-  unfolding countsAll
-  ahead-leaf bytes a = a
-
--- Nor has a closing.
-pub ahead-closing : (area : List ℕ) (k : ℕ) (cs : List ℕ) → Ahead area k (countsAll []ₛ cs) → Ahead area k cs
-unfolding countsAll
-ahead-closing area k cs a = a

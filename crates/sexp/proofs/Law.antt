@@ -13,19 +13,19 @@ use Rattle.horn.proofs.Counts.{streamLength, few-tokens}
 use Rattle.lex.specs.Answers as lexed
 use Rattle.lex.proofs.Standing.{start-stands}
 use Rattle.sexp.specs.Flattening.{flattened, counts}
-use Rattle.sexp.specs.Walk.{whole, refused, place, Left, walked}
+use Rattle.sexp.specs.Walk.{whole, refused, place, AnswerAndArea, walked}
 use Rattle.sexp.proofs.Counting.{counting-sexps}
 use Rattle.sexp.proofs.Held.{start-held}
 use Rattle.sexp.proofs.Simulation.{Agrees, agrees-refused, agrees-whole, simulates}
 use Rattle.sexp.proofs.Whole.{whole-tokens}
 
 -- What a walk leaves where the definition reads so.
-pub data Meets : Left → Result Sexps → Type 0 where
-  meets-refused : {l : Left} (r : Refusal) → l .answer ≡ refused (number r) → Meets l (refusals.refused r)
-  meets-whole : {l : Left} (xs : Sexps) → l .answer ≡ whole (length (counts xs)) → take (length (counts xs)) (l .area) ≡ counts xs
+pub data Meets : AnswerAndArea → Result Sexps → Type 0 where
+  meets-refused : {l : AnswerAndArea} (r : Refusal) → l .answer ≡ refused (number r) → Meets l (refusals.refused r)
+  meets-whole : {l : AnswerAndArea} (xs : Sexps) → l .answer ≡ whole (length (counts xs)) → take (length (counts xs)) (l .area) ≡ counts xs
       → Meets l (ok xs)
 
-meets-of : {l : Left} (m : Result Sexps) → Agrees l (m >>= λ xs. ok (counts xs)) → Meets l m
+meets-of : {l : AnswerAndArea} (m : Result Sexps) → Agrees l (m >>= λ xs. ok (counts xs)) → Meets l m
 unfolding _>>=_
 meets-of (ok xs) (agrees-whole cs e f) = meets-whole xs e f
 meets-of (refusals.refused r) (agrees-refused s e) = meets-refused r e

@@ -13,7 +13,7 @@ use Rattle.lex.specs.declared.Reader.{Reader}
 use Rattle.sexp.specs.declared.Place.{Place}
 use Rattle.sexp.specs.declared.Step.{Step}
 use Rattle.sexp.specs.declared.Step.the-variants.{On, Refused}
-use Rattle.sexp.specs.Walk.{place, counted, memberAdded, listOpened, stepped, areaStepped, Left, goesOn, turn, walk, walked}
+use Rattle.sexp.specs.Walk.{place, counted, memberAdded, listOpened, stepped, areaStepped, AnswerAndArea, goesOn, turn, walk, walked}
 
 abbrev Same : List ℕ → List ℕ → Type 0
 Same area left = length left ≡ length area
@@ -33,13 +33,13 @@ stepped-length Closing p area = refl
 stepped-length (Atom s e) p area = either (Same area) (ltb 256 (p .depth)) refl (added-length (p .depth) area)
 stepped-length Opening p area = either (Same area) (ltb 256 (p .depth)) refl (opened-length (p .openings) (p .depth) area)
 
-went : (on : Reader → Place → List ℕ → Left) → ((r : Reader) (p : Place) (area : List ℕ) → Same area ((on r p area) .area))
+went : (on : Reader → Place → List ℕ → AnswerAndArea) → ((r : Reader) (p : Place) (area : List ℕ) → Same area ((on r p area) .area))
     → (area : List ℕ) (r : Reader) (after : List ℕ) → Same area after → (s : Step) → Same area ((goesOn on r after s) .area)
 unfolding goesOn
 went on h area r after e (Refused n) = e
 went on h area r after e (On p) = h r p after ∙ e
 
-turned : (on : Reader → Place → List ℕ → Left) → ((r : Reader) (p : Place) (area : List ℕ) → Same area ((on r p area) .area))
+turned : (on : Reader → Place → List ℕ → AnswerAndArea) → ((r : Reader) (p : Place) (area : List ℕ) → Same area ((on r p area) .area))
     → (p : Place) (area : List ℕ) (a : lexed.Answer) → Same area ((turn on p area a) .area)
 unfolding turn
 turned on h p area (lexed.refused n) = refl

@@ -93,7 +93,9 @@ read-is (atom bytes ▹ ts) zero = rw (read-is ts zero) (atom-top (leaf bytes) (
 read-is (atom bytes ▹ ts) (suc d) =
     rw (read-is ts (suc d)) (atom-within (leaf bytes) (askedAt (suc d)) (members (suc d) (innermost (around ts))) (outcome d (outer (around ts))))
 read-is (opening ▹ ts) zero = rw (read-is ts (suc zero)) (opening-top (members 1 (innermost (around ts))) (sexps (innermost (outer (around ts)))))
-read-is (opening ▹ ts) (suc d) = rw (read-is ts (suc (suc d))) (opening-within (askedAt (suc d)) (members (suc (suc d)) (innermost (around ts))) (members (suc d) (innermost (outer (around ts)))) (outcome d (outer (outer (around ts)))))
+read-is (opening ▹ ts) (suc d) =
+    rw (read-is ts (suc (suc d))) (opening-within (askedAt (suc d)) (members (suc (suc d)) (innermost (around ts)))
+    (members (suc d) (innermost (outer (around ts)))) (outcome d (outer (outer (around ts)))))
 
 -- The tokens that were read are the levels written out.
 unfoldable pub written : {d : ℕ} → Levels d → Stream Token

@@ -20,19 +20,19 @@ use Rattle.lex.proofs.Standing.{Stands}
 use Rattle.lex.proofs.Readers.{Takes, take-end, take-bad, take-opening, take-closing, take-atom, takes}
 use Rattle.sexp.specs.declared.Place.{Place}
 use Rattle.sexp.specs.declared.Step.the-variants.{On, Refused}
-use Rattle.sexp.specs.Walk.{whole, refused, Left, left, stepped, areaStepped, endedAt, goesOn, turn, walk}
+use Rattle.sexp.specs.Walk.{whole, refused, AnswerAndArea, answering, stepped, areaStepped, endedAt, goesOn, turn, walk}
 use Rattle.sexp.proofs.Counting.{counting, memberOf}
 use Rattle.sexp.proofs.Held.{Held, member-held, opened-held, closed-held}
 use Rattle.sexp.proofs.Paths.{end-top, end-deep, end-open, closing-top, closing-on, opening-deep, opening-on, atom-deep, atom-on}
 use Rattle.sexp.proofs.Paths.{area-closing, area-opening, area-atom}
 
 -- The walk's answer and words, and the counting's result.
-pub data Agrees : Left → Result (List ℕ) → Type 0 where
-  agrees-refused : {l : Left} (r : Refusal) → l .answer ≡ refused (number r) → Agrees l (refusals.refused r)
-  agrees-whole : {l : Left} (cs : List ℕ) → l .answer ≡ whole (length cs) → take (length cs) (l .area) ≡ cs → Agrees l (ok cs)
+pub data Agrees : AnswerAndArea → Result (List ℕ) → Type 0 where
+  agrees-refused : {l : AnswerAndArea} (r : Refusal) → l .answer ≡ refused (number r) → Agrees l (refusals.refused r)
+  agrees-whole : {l : AnswerAndArea} (cs : List ℕ) → l .answer ≡ whole (length cs) → take (length cs) (l .area) ≡ cs → Agrees l (ok cs)
 
-agrees-by : {l l′ : Left} {m m′ : Result (List ℕ)} → l ≡ l′ → m ≡ m′ → Agrees l′ m′ → Agrees l m
-agrees-by {l} {l′} {m} {m′} e f a = subst (λ (x : Left). Agrees x m) (sym e) (subst (λ (x : Result (List ℕ)). Agrees l′ x) (sym f) a)
+agrees-by : {l l′ : AnswerAndArea} {m m′ : Result (List ℕ)} → l ≡ l′ → m ≡ m′ → Agrees l′ m′ → Agrees l m
+agrees-by {l} {l′} {m} {m′} e f a = subst (λ (x : AnswerAndArea). Agrees x m) (sym e) (subst (λ (x : Result (List ℕ)). Agrees l′ x) (sym f) a)
 
 -- Asking for an item.
 asked : {A : Type 0} (d : ℕ) (f : Unit {0} → Result A) → d ≤ 256 → (askedAt d >>= f) ≡ f tt
@@ -48,7 +48,7 @@ shallow-or-deep {ℓ} : {C : Type ℓ} (d : ℕ) → (d ≤ 256 → C) → (256 
 shallow-or-deep d x y = case (leb d 256) (λ e. x (leb-true d 256 e)) (λ e. y (leb-false d 256 e))
 
 -- The end of the text.
-ended-agrees : (p : Place) (area is cs : List ℕ) → Held is cs 0 p area → Agrees (left (endedAt p) area) (counting is cs end)
+ended-agrees : (p : Place) (area is cs : List ℕ) → Held is cs 0 p area → Agrees (answering (endedAt p) area) (counting is cs end)
 unfolding counting absent number
 ended-agrees p area [] cs h = agrees-whole cs (end-top p (h .depth) ∙ ap whole (h .openings)) (h .kept)
 ended-agrees p area (i ∷ is) cs h =
@@ -59,7 +59,7 @@ ended-agrees p area (i ∷ is) cs h =
     (λ k. agrees-by refl (too-deep (suc (length is)) _ k) (agrees-refused nesting (end-deep p z (omega (arith, d, k)))))
 
 -- One token, where the walk goes on as the counting does.
-module _ (on : Reader → Place → List ℕ → Left) (ts : Stream Token) (r : Reader)
+module _ (on : Reader → Place → List ℕ → AnswerAndArea) (ts : Stream Token) (r : Reader)
     (ih : (p : Place) (area is cs : List ℕ) → Held is cs (streamLength ts) p area → Agrees (on r p area) (counting is cs ts)) where
   goes : (p p′ : Place) (area area′ : List ℕ) (got : read.Token) → areaStepped got p area ≡ area′ → stepped got p ≡ On p′
       → goesOn on r (areaStepped got p area) (stepped got p) ≡ on r p′ area′
@@ -69,7 +69,7 @@ module _ (on : Reader → Place → List ℕ → Left) (ts : Stream Token) (r : 
   stops : (p : Place) (area : List ℕ) (got : read.Token) (n : ℕ) → stepped got p ≡ Refused n
       → (goesOn on r (areaStepped got p area) (stepped got p)) .answer ≡ refused n
   unfolding goesOn
-  stops p area got n f = ap (λ (l : Left). l .answer) (ap (goesOn on r (areaStepped got p area)) f)
+  stops p area got n f = ap (λ (l : AnswerAndArea). l .answer) (ap (goesOn on r (areaStepped got p area)) f)
 
   closing-agrees : (p : Place) (area is cs : List ℕ) → Held is cs (suc (streamLength ts)) p area
       → Agrees (goesOn on r (areaStepped Closing p area) (stepped Closing p)) (counting is cs (closing ▹ ts))
@@ -103,7 +103,7 @@ module _ (on : Reader → Place → List ℕ → Left) (ts : Stream Token) (r : 
       (λ k. agrees-by refl (too-deep (length is) _ k) (agrees-refused nesting (stops p area Opening 4 (opening-deep p (omega (arith, d, k))))))
 
 -- One turn, by what the reader answers. The walk goes on as the counting does wherever fewer tokens come.
-module _ (text : List ℕ) (on : Reader → Place → List ℕ → Left) (few : ℕ)
+module _ (text : List ℕ) (on : Reader → Place → List ℕ → AnswerAndArea) (few : ℕ)
     (ih : (ts : Stream Token) (r : Reader) → Stands text r ts → streamLength ts < few
     → (p : Place) (area is cs : List ℕ) → Held is cs (streamLength ts) p area → Agrees (on r p area) (counting is cs ts)) where
   turn-agrees : (ts : Stream Token) (a : lexed.Answer) → Takes text ts a → streamLength ts ≤ few

@@ -12,10 +12,10 @@ use Rattle.lex.specs.declared.Read.the-variants.{Got, End, Bad}
 use Rattle.sexp.specs.declared.Place.{Place}
 use Rattle.sexp.specs.declared.Step.{Step}
 use Rattle.sexp.specs.declared.Step.the-variants.{On, Refused}
-use Rattle.sexp.specs.Walk.{Walked, refused, Left, left, stepped, areaStepped, endedAt, goesOn, turn, walk}
+use Rattle.sexp.specs.Walk.{Walked, refused, AnswerAndArea, answering, stepped, areaStepped, endedAt, goesOn, turn, walk}
 
 module _ (fuel : ℕ) (text : List ℕ) (r : Reader) (p : Place) (area : List ℕ) where
-  pub walk-out : fuel ≤ 0 → walk fuel text r p area ≡ left (refused 2) area
+  pub walk-out : fuel ≤ 0 → walk fuel text r p area ≡ answering (refused 2) area
   unfolding walk number
   walk-out h = ap (λ (f : ℕ). walk f text r p area) (let z : fuel ≡ 0 = omega arith in z)
 
@@ -27,11 +27,11 @@ module _ (fuel : ℕ) (text : List ℕ) (r : Reader) (p : Place) (area : List �
       ∙ ap (turn (walk (fuel - 1) text) p area) (sym e)
 
   module _ (h : 0 < fuel) (read : Read) (e : lexed.answer read ≡ lexed.taken text r) where
-    pub walk-bad : read ≡ Bad → walk fuel text r p area ≡ left (refused 3) area
+    pub walk-bad : read ≡ Bad → walk fuel text r p area ≡ answering (refused 3) area
     unfolding turn lexed.answer number
     walk-bad b = on h (lexed.answer Bad) (sym (ap lexed.answer b) ∙ e)
 
-    pub walk-end : read ≡ End → walk fuel text r p area ≡ left (endedAt p) area
+    pub walk-end : read ≡ End → walk fuel text r p area ≡ answering (endedAt p) area
     unfolding turn lexed.answer
     walk-end b = on h (lexed.answer End) (sym (ap lexed.answer b) ∙ e)
 
@@ -41,7 +41,7 @@ module _ (fuel : ℕ) (text : List ℕ) (r : Reader) (p : Place) (area : List �
       steps = on h (lexed.answer (Got t r′)) (sym (ap lexed.answer b) ∙ e)
 
       module _ (step : Step) (s : step ≡ stepped t p) where
-        pub walk-refused : (n : ℕ) → step ≡ Refused n → walk fuel text r p area ≡ left (refused n) (areaStepped t p area)
+        pub walk-refused : (n : ℕ) → step ≡ Refused n → walk fuel text r p area ≡ answering (refused n) (areaStepped t p area)
         unfolding goesOn
         walk-refused n q = steps ∙ ap (goesOn (walk (fuel - 1) text) r′ (areaStepped t p area)) (sym s ∙ q)
 
@@ -50,5 +50,5 @@ module _ (fuel : ℕ) (text : List ℕ) (r : Reader) (p : Place) (area : List �
         walk-on p′ q = steps ∙ ap (goesOn (walk (fuel - 1) text) r′ (areaStepped t p area)) (sym s ∙ q)
 
 -- The two parts of what is left.
-pub parts : {l : Left} {w : Walked} {a : List ℕ} → l ≡ left w a → (w ≡ l .answer) × (a ≡ l .area)
-parts e = (sym (ap (λ (m : Left). m .answer) e), sym (ap (λ (m : Left). m .area) e))
+pub parts : {l : AnswerAndArea} {w : Walked} {a : List ℕ} → l ≡ answering w a → (w ≡ l .answer) × (a ≡ l .area)
+parts e = (sym (ap (λ (m : AnswerAndArea). m .answer) e), sym (ap (λ (m : AnswerAndArea). m .area) e))

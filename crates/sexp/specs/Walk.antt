@@ -67,27 +67,27 @@ endedAt p =
     ]
 
 -- The answer and the words afterwards.
-pub record Left : Type 0 where
+pub record AnswerAndArea : Type 0 where
   pub answer : Walked
   pub area : List ℕ
 
-abbrev pub left : Walked → List ℕ → Left
-left w a = record { answer = w; area = a }
+abbrev pub answering : Walked → List ℕ → AnswerAndArea
+answering w a = record { answer = w; area = a }
 
 -- One turn: what the reader answered, what the token did, and the walk that goes on.
-unfoldable pub goesOn : (Reader → Place → List ℕ → Left) → Reader → List ℕ → Step → Left
-goesOn on r area (Refused n) = left (refused n) area
+unfoldable pub goesOn : (Reader → Place → List ℕ → AnswerAndArea) → Reader → List ℕ → Step → AnswerAndArea
+goesOn on r area (Refused n) = answering (refused n) area
 goesOn on r area (On p) = on r p area
 
-unfoldable pub turn : (Reader → Place → List ℕ → Left) → Place → List ℕ → lexed.Answer → Left
-turn on p area (lexed.refused n) = left (refused n) area
-turn on p area lexed.ended = left (endedAt p) area
+unfoldable pub turn : (Reader → Place → List ℕ → AnswerAndArea) → Place → List ℕ → lexed.Answer → AnswerAndArea
+turn on p area (lexed.refused n) = answering (refused n) area
+turn on p area lexed.ended = answering (endedAt p) area
 turn on p area (lexed.token t r) = goesOn on r (areaStepped t p area) (stepped t p)
 
 -- The walk from a reader and a place. `fuel` is one more than the tokens that a text may have.
-unfoldable pub walk : ℕ → List ℕ → Reader → Place → List ℕ → Left
-walk zero text r p area = left (refused (number textLong)) area
+unfoldable pub walk : ℕ → List ℕ → Reader → Place → List ℕ → AnswerAndArea
+walk zero text r p area = answering (refused (number textLong)) area
 walk (suc fuel) text r p area = turn (walk fuel text) p area (lexed.taken text r)
 
-unfoldable pub walked : List ℕ → List ℕ → Left
+unfoldable pub walked : List ℕ → List ℕ → AnswerAndArea
 walked text area = walk 8_193 text lexed.start (place 0 0) area

@@ -33,21 +33,23 @@ use Rattle.outcomes.specs.Outcomes as outcomes
 use Rattle.outcomes.specs.Outcomes.{Outcome}
 use Rattle.outcomes.specs.Leaving as leaving
 use Rattle.outcomes.specs.Leaving.{Did, _leaving_}
+use Rattle.items.specs.Places as places
 use Rattle.items.specs.Items.{question}
 use Rattle.outcomes.specs.Simulation.{Answers, both-refuse, both-ok, Simulates, refuse, leave, bind as bind-all, test, tests, giving}
 use Rattle.theory_laws.specs.Representation.{Entries, Nth, SortAt, RuleAt, Holds}
 use Rattle.theory_laws.proofs.Lookups.{part-question}
 use Rattle.theory_laws.proofs.Frames.{Keeps, keeps-then, keeps-set, rule-kept, grown-none}
 use Rattle.theory_reading.specs.Reading.{sortOfVariable}
-use Rattle.theory_reading.specs.Storing.{Areas, before}
+use Rattle.theory_reading.specs.Storing.{Areas}
 use Rattle.theory_reading.proofs.Held.{VariableIs, variable-is, variable-found, bindings-fit, holds-now}
 use Rattle.theory_reading.proofs.Terms.{number-sort}
 use Rattle.theory_reading.proofs.Stored.{Longer, longer-then, Stored, Means, few-terms}
 use Rattle.tables.specs.Representation.{Defs}
 use Rattle.asking.specs.Asking.{Ahead}
-use Rattle.asking_laws.proofs.Places.{Left, At, at-less, at-within}
+use Rattle.asking_laws.proofs.Places.{RestComes, At, at-less, at-within}
 use Rattle.asking_laws.proofs.Asking.{WordMet, word-met, word-law, GroupMet, closing-law, Looked, look-closed, look-bad, look-ended, look-item, look-law}
 use Rattle.nodes.specs.Nodes.{sortOf}
+use Rattle.terms_laws.proofs.Following.{bind-before}
 use Rattle.terms_laws.proofs.Reading.{asked-yes, Ready}
 use Rattle.terms_laws.proofs.Judgments.{lifted, AskedRead, ask-term-law, headed-law}
 use Rattle.matching.specs.Matching.{bindingOf, bindingAt}
@@ -63,7 +65,7 @@ pub record Gathered (es : Entries) (th : Theory) (heap : List ℕ) (vs : List Va
   pub stored : Stored es th document01 4096 store ts
   pub grown : Longer ts₀ ts
   pub kept : Keeps top held stack
-  pub keep : Keeps 12288 heap live
+  pub keep : Keeps places.bindings heap live
   pub bindings : Binds es th ts vs live binds
   pub conclusion : Bound es th ts word stated
 
@@ -91,16 +93,6 @@ through : {S A B C : Type 0} {R : A → S → C → Type 0} {m : Did S A} (m′ 
 unfolding refusals._>>=_
 through (refusals.ok b) ts g s = s
 through (refusals.refused x) ts g s = s
-
--- One after the other, where the first is not lent an area that stands behind its own.
-bind-behind : {P S A B C D : Type 0} {Q : A → P → B → Type 0} {R : C → P × S → D → Type 0} {m : Did P A} {m′ : Result B} (s : S)
-    (f : A × (P × S) → Did (P × S) C) (f′ : B → Result D)
-    → Simulates Q m m′
-    → ((a : A) (p : P) (b : B) → Q a p b → Simulates R (f (a, (p, s))) (f′ b))
-    → Simulates R (leaving._>>=_ (before s m) f) (refusals._>>=_ m′ f′)
-unfolding refusals._>>=_
-bind-behind s f f′ (refuse e) k = refuse e
-bind-behind s f f′ (leave q) k = k _ _ _ q
 
 -- Whether a word holds a term.
 word-test : {es : Entries} {th : Theory} {ts : List Term} {w : ℕ} {o : Option Term} → Bound es th ts w o → eqb w 0 ≡ not (isStated o)
@@ -137,7 +129,8 @@ module _ {rules heap : List ℕ} {es : Entries} {bound : ℕ} {th : Theory} (h :
   abbrev Read : (Reader → Type 0) → ℕ × Reader → Worked → Given × List Term → Type 0
   Read P x areas y = ItemRead es th heap (variablesOf rule) ts₀ top held P x areas y
 
-  module _ (word : ℕ) (store stack live : List ℕ) (ts : List Term) (binds : List Bind) (stated : Option Term) (g : So word store stack live ts binds stated) where
+  module _ (word : ℕ) (store stack live : List ℕ) (ts : List Term) (binds : List Bind) (stated : Option Term)
+      (g : So word store stack live ts binds stated) where
     ready : {K : Stream Token → Type 0} (place spent : ℕ) (r : Reader) → 2 * place ≤ spent → At text K spent r
         → Ready es th text ts₀ K place spent ts r store stack
     ready place spent r l a = record { reader = a; room = l; stored = g .stored; grown = g .grown; long = g .kept .same-length ∙ long }
@@ -162,7 +155,7 @@ module _ {rules heap : List ℕ} {es : Entries} {bound : ℕ} {th : Theory} (h :
           stored = st;
           grown = longer-then (g .grown) more;
           kept = keeps-then (omega arith) (g .kept) keeps;
-          keep = keeps-then (omega arith) (g .keep) (keeps-set 12288 live (bindingAt v) (k + 1) (omega arith));
+          keep = keeps-then (omega arith) (g .keep) (keeps-set places.bindings live (bindingAt v) (k + 1) (omega arith));
           bindings = binds-more distinct (binds-longer more (g .bindings)) v k name t n free (omega arith) m;
           conclusion = bound-longer more (g .conclusion);
         }
@@ -179,7 +172,7 @@ module _ {rules heap : List ℕ} {es : Entries} {bound : ℕ} {th : Theory} (h :
 
     -- "`(?v T)`: unknown v 12, T, closing 10, bound already or wrong sort 21."
     pub binding-law : (s t spent : ℕ) {name : Name} (K : Stream Token → Type 0) (is : Items) (r : Reader) → part s t text ≡ name → 2 * top ≤ spent
-        → At text (Left is K) spent r
+        → At text (RestComes is K) spent r
         → Simulates (λ q areas y. Read (At text K (spent + 2)) (word, q) areas y) (walk.binding text rules table e top s t r store stack live)
         (certificates.bindingItem document01 th defs rule name is (given binds stated) ts)
     unfolding walk.binding certificates.bindingItem definition._>>=_ definition.lift definition.give AskedRead number
@@ -188,11 +181,13 @@ module _ {rules heap : List ℕ} {es : Entries} {bound : ℕ} {th : Theory} (h :
         (lifted ts _ _ (sought (variable-found (holds-now h high (g .keep)) name rule-now))
         (λ v x m.
         let (nth, so) = variable-sort m in
-        bind-behind live _ _
-        (ask-term-law text table (holds-now h high (g .keep)) defs ts₀ abbreviations short is 255 2 top spent K ts r store stack refl (ready top spent r room there))
+        bind-before live _ _
+        (ask-term-law text table (holds-now h high (g .keep)) defs ts₀ abbreviations short is 255 2 top spent K ts r store stack refl
+        (ready top spent r room there))
         (λ y left u k.
         lifted (u .1) _ _ (closing-law text K (spent + 2) (u .0 .1) (k .reader))
-        (λ q _ a. through _ (u .1) _ (judged v (y .0) (rulebook.sortOf x) (u .0 .0) left (u .1) q nth so (k .stored) (k .means) (k .grown) (k .keeps) a))))) where
+        (λ q _ a. through _ (u .1) _ (judged v (y .0) (rulebook.sortOf x) (u .0 .0) left (u .1) q nth so (k .stored) (k .means) (k .grown)
+        (k .keeps) a))))) where
           judged : (v k : ℕ) (sort : Name) (u : Term) (after : Areas) (us : List Term) (q : Reader) → Nth (variablesOf rule) v name
               → SortAt es (sortOfVariable live e v) sort
               → Stored es th document01 4096 (after .0) us → Means es th us k u → Longer ts us → Keeps top stack (after .1) → At text K (spent + 2) q
@@ -200,7 +195,8 @@ module _ {rules heap : List ℕ} {es : Entries} {bound : ℕ} {th : Theory} (h :
               (leaving._>>=_ (outcomes.need (eqb (bindingOf live v) 0) 21 leaving (after, live))
               (λ _. leaving._>>=_ (outcomes.need (eqb (sortOf live (after .0) k) (sortOfVariable live e v)) 21 leaving (after, live))
               (λ _. outcomes.ok q leaving (after, set live (bindingAt v) (sum32 k 1)))))
-              (refusals._>>=_ (refusals.need (not (isBound name binds) && hasSort sort u) badBinding) (λ _. refusals.ok (given (binds ++ (bind name u ∷ [])) stated, us)))
+              (refusals._>>=_ (refusals.need (not (isBound name binds) && hasSort sort u) badBinding)
+              (λ _. refusals.ok (given (binds ++ (bind name u ∷ [])) stated, us)))
           judged v k sort u after us q nth so st m more keeps a =
               tests (eqb (bindingOf live v) 0) (eqb (sortOf live (after .0) k) (sortOfVariable live e v)) 21 badBinding _ _
               (both-tests v k name sort u after us nth so st m) refl
@@ -227,12 +223,12 @@ module _ {rules heap : List ℕ} {es : Entries} {bound : ℕ} {th : Theory} (h :
 
     -- "Otherwise a judgment; a second, once read, is 22."
     pub stated-law : (s t spent : ℕ) {name : Name} (K : Stream Token → Type 0) (is : Items) (r : Reader) → part s t text ≡ name → 2 * top ≤ spent
-        → At text (Left is K) (spent + 2) r
+        → At text (RestComes is K) (spent + 2) r
         → Simulates (Read (At text K (spent + 2))) (walk.stated text rules table top word s t r store stack live)
         (certificates.conclusionItem document01 th defs name is (given binds stated) ts)
     unfolding walk.stated certificates.conclusionItem definition._>>=_ definition.lift definition.give number
     stated-law s t spent {name} K is r n room there =
-        bind-behind live _ _
+        bind-before live _ _
         (headed-law text table (holds-now h high (g .keep)) defs ts₀ abbreviations short 255 2 top spent s t K is ts r store stack refl n room
         (ready (top + 1) (spent + 2) r (omega arith) there))
         (λ y left u k.
@@ -242,15 +238,15 @@ module _ {rules heap : List ℕ} {es : Entries} {bound : ℕ} {th : Theory} (h :
 
     -- "An item is a list with an atom head; after 4, 5 and 6, an answer that is no atom there is refused 7."
     pub item-law : (spent : ℕ) (K : Stream Token → Type 0) (item : Item) (rest : Items) (r : Reader) → 2 * top ≤ spent
-        → At text (Left (item then rest) K) spent r
-        → Simulates (Read (At text (Left rest K) (spent + 2))) (walk.item text rules table e top word r store stack live)
+        → At text (RestComes (item then rest) K) spent r
+        → Simulates (Read (At text (RestComes rest K) (spent + 2))) (walk.item text rules table e top word r store stack live)
         (certificates.stepItem document01 th defs rule item (given binds stated) ts)
     unfolding walk.item walk.headedItem certificates.stepItem definition._>>=_ definition.lift
     item-law spent K item rest r room there =
         lifted ts _ _ (list-member text K spent item rest there)
-        (λ q inner a. lifted ts _ _ (word-law text (Left rest K) spent inner 255 2 refl a) (λ x y m. headed x y m)) where
-          headed : (x : ℕ × ℕ × Reader) (y : Name × Items) → WordMet text (Left rest K) spent x y
-              → Simulates (Read (At text (Left rest K) (spent + 2))) (walk.headedItem text rules table e top word (x .0) (x .1) (x .2) store stack live)
+        (λ q inner a. lifted ts _ _ (word-law text (RestComes rest K) spent inner 255 2 refl a) (λ x y m. headed x y m)) where
+          headed : (x : ℕ × ℕ × Reader) (y : Name × Items) → WordMet text (RestComes rest K) spent x y
+              → Simulates (Read (At text (RestComes rest K) (spent + 2))) (walk.headedItem text rules table e top word (x .0) (x .1) (x .2) store stack live)
               ((elim (questioned (y .0)) as (λ b. definition.Reading Given) [
                 | true ↦ certificates.bindingItem document01 th defs rule (y .0) (y .1) (given binds stated)
                 | false ↦ certificates.conclusionItem document01 th defs (y .0) (y .1) (given binds stated)
@@ -258,8 +254,9 @@ module _ {rules heap : List ℕ} {es : Entries} {bound : ℕ} {th : Theory} (h :
           headed x y (word-met {s} {t} {r = q} {name} {rest = is} n l u a) =
               let z : question text s ≡ questioned name = sym (part-question s t text l u) ∙ ap questioned n in
               case (questioned name)
-              (λ yes. rw (z, yes) (giving (λ q. (word, q)) (binding-law s t (spent + 2) (Left rest K) is q n (omega arith) a) (λ v w b k. read-less (λ p x. at-less (spent + 2) (omega arith) x) k)))
-              (λ no. rw (z, no) (stated-law s t spent (Left rest K) is q n room a))
+              (λ yes. rw (z, yes) (giving (λ q. (word, q)) (binding-law s t (spent + 2) (RestComes rest K) is q n (omega arith) a)
+              (λ v w b k. read-less (λ p x. at-less (spent + 2) (omega arith) x) k)))
+              (λ no. rw (z, no) (stated-law s t spent (RestComes rest K) is q n room a))
 
   module _ (K : Stream Token → Type 0) where
     -- Two bytes at least were read for each turn of the loop.
@@ -267,14 +264,15 @@ module _ {rules heap : List ℕ} {es : Entries} {bound : ℕ} {th : Theory} (h :
     Law fuel is =
         (word spent : ℕ) (r : Reader) (store stack live : List ℕ) (ts : List Term) (binds : List Bind)
         (stated : Option Term) → 2 * top ≤ spent → length text + 2 ≤ fuel + spent
-        → So word store stack live ts binds stated → At text (Left is K) spent r
+        → So word store stack live ts binds stated → At text (RestComes is K) spent r
         → Simulates (Read (At text K 0)) (walk.itemsFrom fuel text rules table e top word r store stack live)
         (certificates.stepItems document01 th defs rule is (given binds stated) ts)
 
     -- One turn, by the look ahead.
-    module _ (fuel : ℕ) (on : (is : Items) → Law fuel is) (word spent : ℕ) (store stack live : List ℕ) (ts : List Term) (binds : List Bind) (stated : Option Term)
+    module _ (fuel : ℕ) (on : (is : Items) → Law fuel is) (word spent : ℕ) (store stack live : List ℕ) (ts : List Term) (binds : List Bind)
+        (stated : Option Term)
         (room : 2 * top ≤ spent) (f : length text + 2 ≤ suc fuel + spent) (g : So word store stack live ts binds stated) where
-      next : (rest : Items) (x : ℕ × Reader) (areas : Worked) (y : Given × List Term) → Read (At text (Left rest K) (spent + 2)) x areas y
+      next : (rest : Items) (x : ℕ × Reader) (areas : Worked) (y : Given × List Term) → Read (At text (RestComes rest K) (spent + 2)) x areas y
           → Simulates (Read (At text K 0)) (walk.itemsFrom fuel text rules table e top (x .0) (x .1) (areas .0 .0) (areas .0 .1) (areas .1))
           (certificates.stepItems document01 th defs rule rest (y .0) (y .1))
       next rest x areas y (item-read {word = w} {q} {store = a} {stack = b} {live = c} {ts = us} {binds = bs} {stated = o} there k) =
@@ -282,7 +280,8 @@ module _ {rules heap : List ℕ} {es : Entries} {bound : ℕ} {th : Theory} (h :
 
       turn : (is : Items) {o : Outcome Ahead} → Looked text K spent is o
           → Simulates (Read (At text K 0))
-          (leaving._>>=_ (o leaving ((store, stack), live)) (λ p. walk.oneItem (walk.itemsFrom fuel text rules table e top) text rules table e top word (p .0) store stack live))
+          (leaving._>>=_ (o leaving ((store, stack), live)) (λ p. walk.oneItem (walk.itemsFrom fuel text rules table e top) text rules table e top word
+          (p .0) store stack live))
           (certificates.stepItems document01 th defs rule is (given binds stated) ts)
       unfolding walk.item certificates.stepItems definition._>>=_ definition.lift definition.give absent refusals._>>=_ number
       turn closed (look-closed there) = leave (item-read (at-less 0 (omega arith) there) g)

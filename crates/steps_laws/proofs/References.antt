@@ -18,7 +18,7 @@ use Rattle.words.proofs.Sums.{sum-small}
 use Rattle.numerals.specs.Numbers.{saturated}
 use Rattle.outcomes.specs.Simulation.{Answers, both-refuse, Simulates, refuse, leave, pure, after}
 use Rattle.asking.specs.Asking.{Ahead}
-use Rattle.asking_laws.proofs.Places.{Left, At, at-less, at-within}
+use Rattle.asking_laws.proofs.Places.{RestComes, At, at-less, at-within}
 use Rattle.asking_laws.proofs.Asking.{Looked, look-closed, look-bad, look-ended, look-item, look-law}
 use Rattle.terms_laws.proofs.Reading.{asked-yes}
 use Rattle.matching_laws.proofs.Relations.{ReferencesAt}
@@ -37,16 +37,17 @@ module _ (text : List ℕ) (short : length text ≤ 32768) (K : Stream Token →
   -- Two bytes at least were read for each word on the stack and for each turn of the loop.
   abbrev Law : ℕ → Items → Type 0
   Law fuel is = (n spent : ℕ) (ns : List ℕ) (r : Reader) (stack : List ℕ) → n ≡ length ns → 2 * n ≤ spent → length text + 2 ≤ fuel + spent
-      → length stack ≡ 16384 → ReferencesAt stack 0 ns → At text (Left is K) spent r
+      → length stack ≡ 16384 → ReferencesAt stack 0 ns → At text (RestComes is K) spent r
       → Simulates (ReferencesRead text K spent ns) (walk.referencesFrom fuel text n r stack) (certificates.references is)
 
   -- One turn of the loop, by the look ahead.
-  module _ (fuel : ℕ) (on : (is : Items) → Law fuel is) (n spent : ℕ) (ns : List ℕ) (stack : List ℕ) (e : n ≡ length ns) (l : 2 * n ≤ spent) (f : length text + 2 ≤ suc fuel + spent)
+  module _ (fuel : ℕ) (on : (is : Items) → Law fuel is) (n spent : ℕ) (ns : List ℕ) (stack : List ℕ) (e : n ≡ length ns) (l : 2 * n ≤ spent)
+      (f : length text + 2 ≤ suc fuel + spent)
       (long : length stack ≡ 16384) (refs : ReferencesAt stack 0 ns) where
     abbrev goOn : (ℕ × Reader) × List ℕ → Did (List ℕ) (ℕ × Reader)
     goOn p = walk.referencesFrom fuel text (sum32 n 1) (p .0 .1) (set (p .1) n (saturated (p .0 .0)))
 
-    one-more : (rest : Items) (i : ℕ) (q : Reader) → At text (Left rest K) (spent + 2) q
+    one-more : (rest : Items) (i : ℕ) (q : Reader) → At text (RestComes rest K) (spent + 2) q
         → Simulates (ReferencesRead text K spent ns) (goOn ((i, q), stack)) (refusals._>>=_ (certificates.references rest) (λ ms. refusals.ok (i ∷ ms)))
     one-more rest i q there =
         let b = at-within there in

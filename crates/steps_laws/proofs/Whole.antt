@@ -30,6 +30,7 @@ use Rattle.outcomes.specs.Outcomes.{Outcome}
 use Rattle.outcomes.specs.Leaving as leaving
 use Rattle.outcomes.specs.Leaving.{Did, _leaving_, beside}
 use Rattle.outcomes.specs.Simulation.{Answers, both-refuse, both-ok, Simulates, refuse, leave, bind, test, giving}
+use Rattle.items.specs.Places as places
 use Rattle.theory_laws.specs.Representation.{Entries, RuleAt, Holds}
 use Rattle.theory_laws.proofs.Frames.{Keeps, keeps-all, rule-kept, grown-none}
 use Rattle.theory_reading.specs.Reading.{ruleFound, premiseCount}
@@ -39,7 +40,7 @@ use Rattle.theory_reading.proofs.Stored.{Longer, longer-none, longer-then, Stor
 use Rattle.tables.specs.declared.Tally.{Tally}
 use Rattle.tables.specs.Representation.{Tables}
 use Rattle.tables.proofs.Laws.{means-more}
-use Rattle.asking_laws.proofs.Places.{Left, At}
+use Rattle.asking_laws.proofs.Places.{RestComes, At}
 use Rattle.asking_laws.proofs.Asking.{WordMet, word-met, word-law, GroupMet, group-met, group-law}
 use Rattle.matching.specs.Matching.{unbound, stepConcluded}
 use Rattle.matching_laws.proofs.Relations.{ReferencesAt, no-references, not-bound}
@@ -58,7 +59,8 @@ use Rattle.steps_laws.proofs.References.{ReferencesRead, references-fro
 use Rattle.steps_laws.proofs.Items.{ItemRead, item-read, items-from}
 
 -- A step was read: its judgment's number, its rule's address, the place of its references, and the reader behind its closing; the definition has one step more.
-pub record StepRead (rules heap : List ℕ) (es : Entries) (bound : ℕ) (th : Theory) (certificate : List ℕ) (ts : List Term) (now : Progress) (K : Stream Token → Type 0)
+pub record StepRead (rules heap : List ℕ) (es : Entries) (bound : ℕ) (th : Theory) (certificate : List ℕ) (ts : List Term) (now : Progress)
+    (K : Stream Token → Type 0)
     (x : ℕ × ℕ × ℕ × Reader) (areas : Worked) (y : Progress × List Term) : Type 0 where
   pub judgment : Term
   pub rule : Rule
@@ -70,17 +72,17 @@ pub record StepRead (rules heap : List ℕ) (es : Entries) (bound : ℕ) (th : T
   pub stored : Stored es th document01 4096 (areas .0 .0) (y .1)
   pub grown : Longer ts (y .1)
   pub long : length (areas .0 .1) ≡ 16384
-  pub keeps : Keeps 12288 heap (areas .1)
+  pub keeps : Keeps places.bindings heap (areas .1)
 
 -- What was asked for, by its parts.
 module _ {text : List ℕ} {K : Stream Token → Type 0} {n : ℕ} where
   word-is : {x : ℕ × ℕ × Reader} {y : Name × Items} → WordMet text K n x y → part (x .0) (x .1) text ≡ y .0
   word-is (word-met p l u a) = p
 
-  word-at : {x : ℕ × ℕ × Reader} {y : Name × Items} → WordMet text K n x y → At text (Left (y .1) K) (n + 2) (x .2)
+  word-at : {x : ℕ × ℕ × Reader} {y : Name × Items} → WordMet text K n x y → At text (RestComes (y .1) K) (n + 2) (x .2)
   word-at (word-met p l u a) = a
 
-  group-at : {q : Reader} {y : Items × Items} → GroupMet text K n q y → At text (Left (y .0) (Left (y .1) K)) n q
+  group-at : {q : Reader} {y : Items × Items} → GroupMet text K n q y → At text (RestComes (y .0) (RestComes (y .1) K)) n q
   group-at (group-met a) = a
 
 -- What is read and tested without the other areas, and what follows.
@@ -110,10 +112,11 @@ module _ {rules heap : List ℕ} {es : Entries} {bound : ℕ} {th : Theory} (h :
   -- "List of references, each 18; their count 20".
   counted-law : {live : List ℕ} → Holds rules live es bound th → {e : ℕ} {c : Rule} → RuleAt rules live es bound e c
       → (L : Stream Token → Type 0) (is : Items) (spent : ℕ) (r : Reader) (stack : List ℕ)
-      → length stack ≡ 16384 → 1 ≤ spent → At certificate (Left is L) spent r
+      → length stack ≡ 16384 → 1 ≤ spent → At certificate (RestComes is L) spent r
       → Simulates (λ x left y. ReferencesRead certificate L spent [] x left y × (length y ≡ length (premisesOf c)))
       (referring.countedReferences certificate live e r stack)
-      (refusals._>>=_ (certificates.references is) (λ refs. refusals._>>=_ (refusals.need (eqb (length refs) (length (premisesOf c))) referenceCount) (λ _. refusals.ok refs)))
+      (refusals._>>=_ (certificates.references is) (λ refs. refusals._>>=_ (refusals.need (eqb (length refs) (length (premisesOf c))) referenceCount)
+      (λ _. refusals.ok refs)))
   unfolding referring.countedReferences referring.references number
   counted-law {live} hn {e} {c} a L is spent r stack long some there =
       bind _ _ (references-from certificate short L (length certificate + 1) is 0 spent [] r stack refl (omega arith) (omega arith) long no-references there)
@@ -125,17 +128,20 @@ module _ {rules heap : List ℕ} {es : Entries} {bound : ℕ} {th : Theory} (h :
   Read x areas y = StepRead rules heap es bound th certificate ts now K x areas y
 
   -- "Items; matching": the rule and the references are known.
-  module _ {e : ℕ} {rule : Rule} (by-rule : RuleAt rules heap es bound e rule) (ready : RuleReady rule) {refs held : List ℕ} (at-refs : ReferencesAt held 0 refs)
+  module _ {e : ℕ} {rule : Rule} (by-rule : RuleAt rules heap es bound e rule) (ready : RuleReady rule) {refs held : List ℕ}
+      (at-refs : ReferencesAt held 0 refs)
       (count : length refs ≡ length (premisesOf rule)) (long : length held ≡ 16384) (n place : ℕ) (all-held : length refs ≤ n)
       (small : place < 4294967296) where
     concluded : (x : ℕ × Reader) (areas : Worked) (y : Given × List Term) → ItemRead es th heap (variablesOf rule) ts n held (At certificate K 0) x areas y
         → Simulates (λ (p : ℕ × Reader) after z. Read (p .0, e, place, p .1) after z)
-        (leaving._>>=_ (stepConcluded 2048 8192 4096 table (tally .steps) e (x .0) (areas .0 .1) (areas .0 .0) (areas .1)) (λ p. outcomes.ok (p .0, x .1) leaving (p .1)))
+        (leaving._>>=_ (stepConcluded 2048 8192 4096 table (tally .steps) e (x .0) (areas .0 .1) (areas .0 .0) (areas .1))
+        (λ p. outcomes.ok (p .0, x .1) leaving (p .1)))
         (refusals._>>=_ {A = Term × List Term} (certificates.conclude document01 th (now .steps) rule refs (y .0) (y .1))
         (λ p. refusals.ok (record { defs = now .defs; openGoals = now .openGoals; steps = now .steps ++ (step (p .0) rule ∷ []) }, p .1)))
     concluded x areas y (item-read {q} {ts = us} there g) =
         bind _ _
-        (step-judged h high (means-more t (Means es th us) Recorded (λ v u m. means-longer (g .grown) m) (λ j r p s m. m)) (λ j r p s m. means-longer (g .grown) (judged j r p s m))
+        (step-judged h high (means-more t (Means es th us) Recorded (λ v u m. means-longer (g .grown) m) (λ j r p s m. m))
+        (λ j r p s m. means-longer (g .grown) (judged j r p s m))
         (g .stored) (g .kept .same-length ∙ long) by-rule ready (references-kept (g .kept) (omega arith) at-refs) count (g .keep) (g .bindings) (g .conclusion))
         (λ j after z k.
         leave record {
@@ -153,8 +159,8 @@ module _ {rules heap : List ℕ} {es : Entries} {bound : ℕ} {th : Theory} (h :
         })
 
     judged-law : (is : Items) (spent : ℕ) (r : Reader) (store live : List ℕ) → 2 * n ≤ spent → 1 ≤ spent → Stored es th document01 4096 store ts
-        → Keeps 12288 heap live
-        → RuleAt rules live es bound e rule → At certificate (Left is K) spent r
+        → Keeps places.bindings heap live
+        → RuleAt rules live es bound e rule → At certificate (RestComes is K) spent r
         → Simulates (λ (p : ℕ × Reader) after z. Read (p .0, e, place, p .1) after z)
         (walk.itemsJudged certificate rules table (tally .steps) e n r store held live)
         (refusals._>>=_ {A = Given × List Term} (certificates.stepItems document01 th (now .defs) rule is (given [] none) ts)
@@ -164,7 +170,8 @@ module _ {rules heap : List ℕ} {es : Entries} {bound : ℕ} {th : Theory} (h :
     judged-law is spent r store live room some st keep live-rule there =
         rw (variable-count-is (holds-now h high keep) live-rule)
         (bind _ _
-        (items-from h high certificate short table (now .defs) ts (t .def-part) by-rule (ready .distinct) n held long K (length certificate + 1) is 0 spent r store held
+        (items-from h high certificate short table (now .defs) ts (t .def-part) by-rule (ready .distinct) n held long K
+        (length certificate + 1) is 0 spent r store held
         (unbound (length (variablesOf rule)) live) ts [] none room (omega arith)
         record {
           stored = st;
@@ -178,8 +185,9 @@ module _ {rules heap : List ℕ} {es : Entries} {bound : ℕ} {th : Theory} (h :
         concluded)
 
   -- "`(step I R (I...) item...)`", behind its head.
-  module _ (is : Items) (r : Reader) {store live : List ℕ} (stack : List ℕ) (stored : Stored es th document01 4096 store ts) (long : length stack ≡ 16384) (keep : Keeps 12288 heap live)
-      (at-items : At certificate (Left is K) 0 r) where
+  module _ (is : Items) (r : Reader) {store live : List ℕ} (stack : List ℕ) (stored : Stored es th document01 4096 store ts) (long : length stack ≡ 16384)
+      (keep : Keeps places.bindings heap live)
+      (at-items : At certificate (RestComes is K) 0 r) where
     -- The rule's words are where they were.
     rule-back : {e : ℕ} {c : Rule} → RuleAt rules live es bound e c → RuleAt rules heap es bound e c
     rule-back a = rule-kept grown-none (λ i p q. sym (keep .words i (omega arith))) (omega arith) a
@@ -208,11 +216,12 @@ module _ {rules heap : List ℕ} {es : Entries} {bound : ℕ} {th : Theory} (h :
         (λ q g l.
         let p = never-past certificate q (group-at l .coming) (group-at l .stands) in
         counted store live (certificates.references (g .0)) _ referenceCount ts _ _
-        (counted-law (holds-now h high keep) (k .0) (Left (g .1) K) (g .0) 4 q stack long (omega arith) (group-at l))
+        (counted-law (holds-now h high keep) (k .0) (RestComes (g .1) K) (g .0) 4 q stack long (omega arith) (group-at l))
         (λ x left refs z.
         let z₀ = z .0 in
         let u = z₀ .count in
         giving (λ p. (p .0, e, q .at, p .1))
-        (judged-law (rule-back (k .0)) (k .1) (z₀ .refs) (z .1) (z₀ .long) (x .0) (q .at) (omega arith) (omega arith) (g .1) (4 + 2 * length refs) (x .1) store live (omega arith) (omega arith) stored keep
+        (judged-law (rule-back (k .0)) (k .1) (z₀ .refs) (z .1) (z₀ .long) (x .0) (q .at) (omega arith) (omega arith) (g .1) (4 + 2 * length refs)
+        (x .1) store live (omega arith) (omega arith) stored keep
         (k .0) (z₀ .reader))
         (λ _ _ _ m. m)))))))

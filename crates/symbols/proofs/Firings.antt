@@ -15,5 +15,6 @@ text = 0x7A ∷ 0x28 ∷ 0x29 ∷ 0x71 ∷ 0x29 ∷ []
 -- where `z` is declared already and no sort is: 12 by the output, not 13 by the name.
 pub duplicate-last : answeredWith
     (symbols.constructorDeclared text (0 ∷ []) atStart (added (replicate 1032 0) places.constructors places.buckets 1024 text 0 1)) ≡ 12
-unfolding openTokens openNames openItems atStart symbols.reserved symbols.sortFrom symbols.sortNamed symbols.entered symbols.described symbols.inputs symbols.signature symbols.symbolEntered symbols.constructorDeclared
+unfolding openTokens openNames openItems atStart symbols.reserved symbols.sortFrom symbols.sortNamed symbols.entered symbols.described symbols.inputs
+    symbols.signature symbols.symbolEntered symbols.constructorDeclared
 duplicate-last = refl

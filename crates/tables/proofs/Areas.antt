@@ -48,7 +48,4 @@ pub set-same : (table : List ℕ) (p v low high : ℕ) → (low ≤ p → p < hi
 set-same table p v low high n =
     record { words = λ i l r. getD-set-other table p i v 0 (λ q. n (omega arith) (omega arith)) }
 
-pub same-then : {one two three : List ℕ} {low high : ℕ} → Same one two low high → Same two three low high → Same one three low high
-same-then a b = record { words = λ i l r. b .words i l r ∙ a .words i l r }
-
 -- A list with one element more.

@@ -10,24 +10,23 @@ use lib.ListN.{length, set, getElem?, length-set}
 use Rattle.words.specs.Parts.{part, cleared}
 use Rattle.horn.specs.Names.{Name, first, isZero, someOf}
 use Rattle.horn.specs.StoredTerms.{Term}
-use Rattle.horn.specs.Checker.{Def, def, isDef, meaning, Goal, goal, isGoal}
+use Rattle.horn.specs.Checker.{Def, def, isDef, Goal, goal, isGoal}
 use Rattle.horn.specs.Matching.{Step}
 use Rattle.horn.specs.Certificate.{without}
 use Rattle.horn.proofs.Inversion.{none-some}
-use Rattle.names.specs.Tables.{top, none-yet, Agree, present}
+use Rattle.names.specs.Tables.{top, none-yet, present}
 use Rattle.names.proofs.Kept.{empty-table}
 use Rattle.words.proofs.Writing.{length-cleared, getD-cleared}
-use Rattle.names.proofs.Declared.{stands-kept}
 use Rattle.words.specs.Sums.{sum32}
 use Rattle.tables.specs.Words.{goalBuckets, noneYet, entered, goalFound, goalOpen, goalAdded, goalCounted, goalClosed, goalDone, defFound}
-use Rattle.tables.specs.Words.{defMeaning, defAdded, defCounted, stepAdded, stepCounted, stepWord}
+use Rattle.tables.specs.Words.{defAdded, defCounted, stepAdded, stepCounted, stepWord}
 use Rattle.tables.specs.declared.Tally.{Tally}
-use Rattle.tables.specs.Representation.{GoalsAt, no-goal, still-open, is-closed, DefAt, StepAt, Tables, OpenAt, OpenAgree, StepAgree}
+use Rattle.tables.specs.Representation.{GoalsAt, no-goal, still-open, is-closed, StepAt, Tables, OpenAt, OpenAgree, StepAgree}
 use Rattle.words.proofs.Sums.{sum-small}
 use Rattle.facts.proofs.Lists.{one-more}
 use Rattle.tables.proofs.Areas.{length-entered, entered-same, entered-above, entered-below, set-same}
 use Rattle.tables.proofs.Goals.{sits-bounds, goals-kept, goals-add, goal-known, open-agrees, goals-close}
-use Rattle.tables.proofs.Defs.{defs-kept, defs-add, defs-raised, def-known, meaning-agrees}
+use Rattle.tables.proofs.Defs.{defs-kept, defs-add, defs-raised, def-known, defs-mean}
 use Rattle.tables.proofs.Steps.{steps-kept, steps-add, step-agrees, step-added-length, step-added-below}
 
 empty-counts : (gs : List Goal) → isZero (length gs) ≡ eqb (length gs) 0
@@ -81,7 +80,7 @@ begin-holds goalsText certificate table buckets Means Recorded p f small =
 module _ {goalsText certificate table : List ℕ} {buckets : ℕ} {Means : ℕ → Term → Type 0} {Recorded : ℕ → ℕ → ℕ → Step → Type 0} {tally : Tally}
     {goals openGoals : List Goal} {defs : List Def} {steps : List Step}
     (h : Tables goalsText certificate table buckets Means Recorded tally goals openGoals defs steps) where
-  -- What is asked: a duplicate goal, a goal still open, a duplicate abbreviation, what one stands for, a step, whether a goal is left open.
+  -- What is asked: a duplicate goal, a goal still open, a duplicate abbreviation, a step, whether a goal is left open.
   pub known-goal : (key : Name) → present (goalFound goalsText key table) ≡ someOf (isGoal key) goals
   known-goal key = goal-known (h .goal-part) key
 
@@ -90,9 +89,6 @@ module _ {goalsText certificate table : List ℕ} {buckets : ℕ} {Means : ℕ �
 
   pub known-def : (key : Name) → present (defFound buckets certificate key table) ≡ someOf (isDef key) defs
   known-def key = def-known key (h .def-part)
-
-  pub meaning-of : (key : Name) → Agree (λ w d. Means w (meaning d)) (defMeaning buckets certificate key table) (first (isDef key) defs)
-  meaning-of key = meaning-agrees key (h .def-part)
 
   pub step-of : (n : ℕ) → StepAgree Recorded (stepWord n 0 tally table) (stepWord n 1 tally table) (stepWord n 2 tally table) (getElem? steps n)
   step-of n = step-agrees n tally (h .step-part) (h .steps-is)
@@ -214,14 +210,7 @@ module _ {goalsText certificate table : List ℕ} {buckets : ℕ} {Means : ℕ �
               stands = h .goal-part .stands;
               values = more (h .goal-part .values);
             };
-        def-part =
-            record {
-              entries = h .def-part .entries;
-              names = h .def-part .names;
-              below = h .def-part .below;
-              stands = stands-kept isDef (DefAt table Means low high) (DefAt table Means′ low high) (h .def-part .stands)
-                  (λ e name a m x. record { above = x .above; below = x .below; value = f _ _ (x .value) });
-            };
+        def-part = defs-mean Means′ f (h .def-part);
         step-part = record { inside = h .step-part .inside; words = λ n s k. g _ _ _ s (h .step-part .words n s k) };
         small = h .small;
         room = h .room;
@@ -230,12 +219,6 @@ module _ {goalsText certificate table : List ℕ} {buckets : ℕ} {Means : ℕ �
         left-is = h .left-is;
         steps-is = h .steps-is;
       } where
-        low : ℕ
-        low = goalBuckets + buckets + 4 * length goals
-
-        high : ℕ
-        high = low + 4 * length defs
-
         more : {b : ℕ} {gs os : List Goal} → GoalsAt table Means b gs os → GoalsAt table Means′ b gs os
         more no-goal = no-goal
         more (still-open {b} {w} v m n k) = still-open {w = w} v (f w _ m) n (more k)
@@ -276,7 +259,8 @@ add-goal {goalsText} {certificate} {table} {buckets} {tally} {goals} {openGoals}
           defs-raised (goalBuckets + buckets + 4 * length (goals ++ (g ∷ [])))
           (defs-kept (entered 0 goalBuckets e goalsText s t v table) (h .def-part) l
           (entered-same table 0 goalBuckets e goalsText s t v (omega arith) goalBuckets (goalBuckets + buckets) (omega arith) (omega arith))
-          (entered-same table 0 goalBuckets e goalsText s t v (omega arith) (goalBuckets + buckets + 4 * length goals) (goalBuckets + buckets + 4 * length goals + 0) (omega arith) (omega arith)))
+          (entered-same table 0 goalBuckets e goalsText s t v (omega arith) (goalBuckets + buckets + 4 * length goals) (goalBuckets + buckets + 4 * length goals + 0) (omega arith)
+          (omega arith)))
           (omega arith);
       step-part =
           steps-kept (entered 0 goalBuckets e goalsText s t v table) (h .step-part) l

@@ -86,8 +86,12 @@ module _ (table : List ℕ) (j r place : ℕ) (tally : Tally) where
   unfolding stepAdded stepAt
   step-newest h k =
       let a : ℕ = length table - 3 * (tally .steps + 1) in
-      let f : a + 3 ≤ length table = omega arith in
-      (three-first table a j r (place % 4294967296) f, three-second table a j r (place % 4294967296) f, three-third table a j r (place % 4294967296) f ∙ mod-eq-of-lt k)
+      let f : a + 3 ≤ length table = omega arith in (
+        three-first table a j r (place % 4294967296) f,
+        three-second table a j r (place % 4294967296) f,
+        three-third table a j r (place % 4294967296) f
+            ∙ mod-eq-of-lt k,
+      )
 
 module _ {table : List ℕ} {Recorded : ℕ → ℕ → ℕ → Step → Type 0} {steps : List Step} where
   -- Whatever keeps the words of the steps keeps them.
@@ -102,7 +106,13 @@ module _ {table : List ℕ} {Recorded : ℕ → ℕ → ℕ → Step → Type 0}
         inside = omega arith;
         words = λ n s h.
             let b = below-count steps n h in
-            rw (l, k .words (length table - 3 * (n + 1)) (omega arith) (omega arith), k .words (length table - 3 * (n + 1) + 1) (omega arith) (omega arith), k .words (length table - 3 * (n + 1) + 2) (omega arith) (omega arith))
+            rw (
+              l,
+              k .words (length table - 3 * (n + 1)) (omega arith) (omega arith),
+              k .words (length table - 3 * (n + 1) + 1) (omega arith)
+                  (omega arith),
+              k .words (length table - 3 * (n + 1) + 2) (omega arith) (omega arith),
+            )
             (st .words n s h);
       }
 
@@ -128,7 +138,8 @@ module _ {table : List ℕ} {Recorded : ℕ → ℕ → ℕ → Step → Type 0}
       let i = st .inside in
       let o = one-more steps s in
       let l = step-added-length table j r place tally in
-      let older = steps-kept (stepAdded j r place tally table) st l (step-added-above table j r place tally (length table - 3 * length steps) (length table) (omega arith) (omega arith)) in
+      let older = steps-kept (stepAdded j r place tally table) st l
+      (step-added-above table j r place tally (length table - 3 * length steps) (length table) (omega arith) (omega arith)) in
       let (x, y, z) = step-newest table j r place tally (omega arith) small in
       record {
         inside = omega arith;

@@ -44,22 +44,22 @@ pub data SymbolMet (heap : List ℕ) (es : Entries) (bound : ℕ) (P : Reader �
 module _ (text : List ℕ) (table : List ℕ) {rules heap : List ℕ} {es : Entries} {bound : ℕ} {th : Theory} (h : Holds rules heap es bound th)
     (defs : List Def) (ts₀ : List Term) {base : ℕ} (abbreviations : Defs text table 128 base (Means es th ts₀) defs) where
   module _ (P : Reader → Type 0) (s t : ℕ) (q : Reader) {name : Name} (n : part s t text ≡ name) (there : P q) where
+    met : {o : Outcome ℕ} {m : Result Symbol} → Answers (SymbolAt heap es bound) o m
+        → Answers (SymbolMet heap es bound P) (outcomes._>>=_ o (λ c. outcomes.ok (c, q))) m
+    met (both-refuse e) = both-refuse e
+    met (both-ok x) = both-ok (symbol-met x there)
+
     pub constructor-law : Answers (SymbolMet heap es bound P) (constructorDue text rules heap s t q) (constructor th name)
     unfolding constructorDue
-    constructor-law = rw n (by (constructor-due h name)) where
-      by : {o : Outcome ℕ} {m : Result Symbol} → Answers (SymbolAt heap es bound) o m → Answers (SymbolMet heap es bound P) (outcomes._>>=_ o (λ c. outcomes.ok (c, q))) m
-      by (both-refuse e) = both-refuse e
-      by (both-ok x) = both-ok (symbol-met x there)
+    constructor-law = rw n (met (constructor-due h name))
 
     pub predicate-law : Answers (SymbolMet heap es bound P) (predicateDue text rules heap s t q) (predicate th name)
     unfolding predicateDue
-    predicate-law = rw n (by (predicate-due h name)) where
-      by : {o : Outcome ℕ} {m : Result Symbol} → Answers (SymbolAt heap es bound) o m → Answers (SymbolMet heap es bound P) (outcomes._>>=_ o (λ c. outcomes.ok (c, q))) m
-      by (both-refuse e) = both-refuse e
-      by (both-ok x) = both-ok (symbol-met x there)
+    predicate-law = rw n (met (predicate-due h name))
 
     -- "An atom with a leading `?`, `?` alone too, is an earlier abbreviation (12). An atom or head is a constructor (12)."
-    pub atom-law : {store : List ℕ} {ts : List Term} (top : ℕ) (stack : List ℕ) → s < t → t ≤ length text → Stored es th document01 4096 store ts → Longer ts₀ ts
+    pub atom-law : {store : List ℕ} {ts : List Term} (top : ℕ) (stack : List ℕ) → s < t → t ≤ length text → Stored es th document01 4096 store ts
+        → Longer ts₀ ts
         → top + 1 ≤ length stack → length stack < 4294967296
         → Simulates (TermRead es th P top stack ts) (atomTerm text rules heap table top s t q store stack) (definition.atomTerm document01 th defs name ts)
     unfolding atomTerm definition.atomTerm definition._>>=_ definition.lift definition.give refusals._>>=_ refusals.found number lookups
@@ -72,7 +72,8 @@ module _ (text : List ℕ) (table : List ℕ) {rules heap : List ℕ} {es : Entr
         abbreviation : {o : Option ℕ} {m : Option Def} → Agree (λ w d. Means es th ts₀ w (meaning d)) o m
             → Simulates (TermRead es th P top stack ts)
             (leaving._>>=_ (outcomes.orElse o 12 leaving (store, stack)) (λ p. outcomes.ok (p .0, q) leaving (p .1)))
-            (refusals._>>=_ {A = Def × List Term} {B = Term × List Term} (refusals._>>=_ (refusals.found m unknown) (λ d. refusals.ok (d, ts))) (λ p. refusals.ok (meaning (p .0), p .1)))
+            (refusals._>>=_ {A = Def × List Term} {B = Term × List Term} (refusals._>>=_ (refusals.found m unknown) (λ d. refusals.ok (d, ts)))
+            (λ p. refusals.ok (meaning (p .0), p .1)))
         abbreviation both-none = refuse refl
         abbreviation (both-some {e = k} {a = d} x) =
             let z : TermRead es th P top stack ts (k, q) (store, stack) (meaning d, ts) =
@@ -82,7 +83,8 @@ module _ (text : List ℕ) (table : List ℕ) {rules heap : List ℕ} {es : Entr
         constant : {o : Outcome (ℕ × Reader)} {m : Result Symbol} → Answers (SymbolMet heap es bound P) o m
             → Simulates (TermRead es th P top stack ts)
             (leaving._>>=_ (o leaving (store, stack)) (λ p. make heap (p .0 .0) top 0 (p .0 .1) (p .1 .0) (p .1 .1)))
-            (refusals._>>=_ {A = Symbol × List Term} {B = Term × List Term} (refusals._>>=_ m (λ c. refusals.ok (c, ts))) (λ p. definition.make document01 (p .0) []ₜ (p .1)))
+            (refusals._>>=_ {A = Symbol × List Term} {B = Term × List Term} (refusals._>>=_ m (λ c. refusals.ok (c, ts)))
+            (λ p. definition.make document01 (p .0) []ₜ (p .1)))
         constant (both-refuse e) = refuse e
         constant (both-ok (symbol-met {q = p} x y)) =
             make-law h P top stack kept p y 0 {ms = []} x no-words trees.none refl (omega arith) small

@@ -23,7 +23,8 @@ tested true {b′ = false} n r e q = absurd (true≢false e)
 tested false {b′ = true} n r e q = absurd (true≢false (sym e))
 
 -- What comes first of something that leaves the areas as they are.
-pub first-of : {S A B C D E : Type 0} {Q : A → B → Type 0} {R : E → S → D → Type 0} {o : Outcome A} {m : Result B} (s : S) (ts : List Term) (f : C × S → Did S E)
+pub first-of : {S A B C D E : Type 0} {Q : A → B → Type 0} {R : E → S → D → Type 0} {o : Outcome A} {m : Result B} (s : S) (ts : List Term)
+    (f : C × S → Did S E)
     (k : A → Outcome C) (g : B × List Term → Result D)
     → Answers Q o m
     → ((a : A) (b : B) → Q a b → Simulates R (leaving._>>=_ (k a leaving s) f) (g (b, ts)))

@@ -28,7 +28,7 @@ use Rattle.words.proofs.Sums.{sum-small}
 use Rattle.theory_reading.proofs.Stored.{Means}
 use Rattle.tables.specs.Representation.{Defs}
 use Rattle.asking.specs.Asking.{Met, atomDue}
-use Rattle.asking_laws.proofs.Places.{Left, At, at-within}
+use Rattle.asking_laws.proofs.Places.{RestComes, At, at-within}
 use Rattle.asking_laws.proofs.Asking.{ItemMet, item-law, WordMet, word-met, word-law, GroupMet, group-met, group-law}
 use Rattle.terms.specs.Terms as walk
 use Rattle.theory_reading.specs.Storing.{Areas}
@@ -57,27 +57,29 @@ ask-no depth (item then rest) e = rw (asked-no depth e)
 
 asked-term : (th : Theory) (defs : List Def) (depth : ℕ) (ts : List Term) (item : Item) (rest : Items)
     → definition.askTerm document01 th defs depth (item then rest) ts
-    ≡ refusals._>>=_ (refusals._>>=_ (askedAt depth) (λ _. definition.term document01 th defs depth item ts)) (λ (p : Term × List Term). refusals.ok ((p .0, rest), p .1))
+    ≡ refusals._>>=_ (refusals._>>=_ (askedAt depth) (λ _. definition.term document01 th defs depth item ts))
+    (λ (p : Term × List Term). refusals.ok ((p .0, rest), p .1))
 unfolding definition.askTerm definition.ask definition._>>=_ definition.lift definition.give askedAt refusals.need refusals._>>=_
 asked-term th defs depth ts item rest = case (leb depth 256) (λ t. rw t) (λ t. rw t)
 
 -- What was asked for is followed by what is left of the list.
-unfoldable pub AskedRead : Entries → Theory → List ℕ → (Stream Token → Type 0) → ℕ → ℕ → List ℕ → List Term → ℕ × Reader → Areas → (Term × Items) × List Term → Type 0
-AskedRead es th text K top spent stack ts x left y = TermRead es th (At text (Left (y .0 .1) K) (spent + 2)) top stack ts x left (y .0 .0, y .1)
+unfoldable pub AskedRead : Entries → Theory → List ℕ → (Stream Token → Type 0) → ℕ → ℕ → List ℕ → List Term → ℕ × Reader → Areas → (Term × Items) × List Term
+    → Type 0
+AskedRead es th text K top spent stack ts x left y = TermRead es th (At text (RestComes (y .0 .1) K) (spent + 2)) top stack ts x left (y .0 .0, y .1)
 
 module _ (text : List ℕ) (table : List ℕ) {rules heap : List ℕ} {es : Entries} {bound : ℕ} {th : Theory} (h : Holds rules heap es bound th)
     (defs : List Def) (ts₀ : List Term) {base : ℕ} (abbreviations : Defs text table 128 base (Means es th ts₀) defs) (short : length text ≤ 32768) where
   -- "Judgment: list, head a predicate (12), arguments, 15, store." Its head was asked for.
   pub headed-law : (left depth top spent s t : ℕ) {name : Name} (K : Stream Token → Type 0) (rest : Items) (ts : List Term) (r : Reader) (store stack : List ℕ)
       → depth + left ≡ 257 → part s t text ≡ name → 2 * top ≤ spent
-      → Ready es th text ts₀ (Left rest K) (top + 1) (spent + 2) ts r store stack
+      → Ready es th text ts₀ (RestComes rest K) (top + 1) (spent + 2) ts r store stack
       → Simulates (TermRead es th (At text K (spent + 2)) top stack ts) (walk.headedJudgment left text rules heap table top s t r store stack)
       (definition.headedJudgment document01 th defs depth name rest ts)
   unfolding walk.headedJudgment walk.arguments definition.headedJudgment definition._>>=_ definition.lift
   headed-law left depth top spent s t K rest ts r store stack e n l ready =
-      lifted ts _ _ (predicate-law text table h defs ts₀ abbreviations (At text (Left rest K) (spent + 2)) s t r n (ready .reader))
+      lifted ts _ _ (predicate-law text table h defs ts₀ abbreviations (At text (RestComes rest K) (spent + 2)) s t r n (ready .reader))
       (λ x d m. by x d m) where
-        by : (x : ℕ × Reader) (d : Symbol) → SymbolMet heap es bound (At text (Left rest K) (spent + 2)) x d
+        by : (x : ℕ × Reader) (d : Symbol) → SymbolMet heap es bound (At text (RestComes rest K) (spent + 2)) x d
             → Simulates (TermRead es th (At text K (spent + 2)) top stack ts)
             (leaving._>>=_ (walk.argumentsFrom (walk.term left text rules heap table) (length text + 1) text (sum32 top 1) 0 (x .1) store stack)
             (λ p. make heap (x .0) top (p .0 .0) (p .0 .1) (p .1 .0) (p .1 .1)))
@@ -85,41 +87,49 @@ module _ (text : List ℕ) (table : List ℕ) {rules heap : List ℕ} {es : Entr
         by x d (symbol-met {a = c} {q} w there) =
             let z = at-within there in
             rw (sum-small top 1 (omega arith))
-            (bind _ _ (arguments-law text table h defs ts₀ abbreviations short rest left depth (top + 1) 0 (top + 1) (spent + 2) (length text + 1) K ts q store stack e
+            (bind _ _ (arguments-law text table h defs ts₀ abbreviations short rest left depth (top + 1) 0 (top + 1) (spent + 2)
+            (length text + 1) K ts q store stack e
             (omega arith) (omega arith)
             record { reader = there; room = ready .room; stored = ready .stored; grown = ready .grown; long = ready .long })
             (λ x′ s′ y p. made-of text table h defs ts₀ abbreviations short top spent c d K ts stack x′ s′ y l (ready .long) w p))
 
   -- A judgment that is asked for.
-  pub judgment-law : (is : Items) (left depth top spent : ℕ) (K : Stream Token → Type 0) (ts : List Term) (r : Reader) (store stack : List ℕ) → depth + left ≡ 257
-      → Ready es th text ts₀ (Left is K) top spent ts r store stack
-      → Simulates (AskedRead es th text K top spent stack ts) (walk.judgment left text rules heap table top r store stack) (definition.askJudgment document01 th defs depth is ts)
+  pub judgment-law : (is : Items) (left depth top spent : ℕ) (K : Stream Token → Type 0) (ts : List Term) (r : Reader) (store stack : List ℕ)
+      → depth + left ≡ 257
+      → Ready es th text ts₀ (RestComes is K) top spent ts r store stack
+      → Simulates (AskedRead es th text K top spent stack ts) (walk.judgment left text rules heap table top r store stack)
+      (definition.askJudgment document01 th defs depth is ts)
   unfolding walk.judgment definition.askJudgment definition._>>=_ definition.lift definition.give definition.askGroup refusals._>>=_ number AskedRead
   judgment-law is zero depth top spent K ts r store stack e ready = rw (ask-no depth is e) (refuse refl)
   judgment-law is (suc l) depth top spent K ts r store stack e ready =
       lifted ts _ _ (group-law text K spent is (suc l) depth e (ready .reader)) (λ q g m. opened q g m) where
-        headed : (rest : Items) (x : ℕ × ℕ × Reader) (y : Name × Items) → WordMet text (Left rest K) spent x y
+        headed : (rest : Items) (x : ℕ × ℕ × Reader) (y : Name × Items) → WordMet text (RestComes rest K) spent x y
             → Simulates (AskedRead es th text K top spent stack ts) (walk.headedJudgment l text rules heap table top (x .0) (x .1) (x .2) store stack)
-            (refusals._>>=_ {A = Term × List Term} (definition.headedJudgment document01 th defs (suc depth) (y .0) (y .1) ts) (λ p. refusals.ok ((p .0, rest), p .1)))
+            (refusals._>>=_ {A = Term × List Term} (definition.headedJudgment document01 th defs (suc depth) (y .0) (y .1) ts)
+            (λ p. refusals.ok ((p .0, rest), p .1)))
         headed rest x y (word-met {s} {t} {r = q} {rest = operands} n a b there) =
             let z = ready .room in
             after (λ (p : Term × List Term). ((p .0, rest), p .1))
-            (headed-law l (suc depth) top spent s t (Left rest K) operands ts q store stack (omega arith) n (ready .room)
+            (headed-law l (suc depth) top spent s t (RestComes rest K) operands ts q store stack (omega arith) n (ready .room)
             record { reader = there; room = omega arith; stored = ready .stored; grown = ready .grown; long = ready .long })
             (λ v w u m. m)
 
         opened : (q : Reader) (g : Items × Items) → GroupMet text K spent q g
             → Simulates (AskedRead es th text K top spent stack ts)
-            (leaving._>>=_ (atomDue text l q leaving (store, stack)) (λ p. walk.headedJudgment l text rules heap table top (p .0 .0) (p .0 .1) (p .0 .2) (p .1 .0) (p .1 .1)))
+            (leaving._>>=_ (atomDue text l q leaving (store, stack))
+            (λ p. walk.headedJudgment l text rules heap table top (p .0 .0) (p .0 .1) (p .0 .2) (p .1 .0) (p .1 .1)))
             (refusals._>>=_ {A = (Name × Items) × List Term} (refusals._>>=_ (definition.askWord (suc depth) (g .0)) (λ a. refusals.ok (a, ts)))
-            (λ u. refusals._>>=_ {A = Term × List Term} (definition.headedJudgment document01 th defs (suc depth) (u .0 .0) (u .0 .1) (u .1)) (λ p. refusals.ok ((p .0, g .1), p .1))))
+            (λ u. refusals._>>=_ {A = Term × List Term} (definition.headedJudgment document01 th defs (suc depth) (u .0 .0) (u .0 .1) (u .1))
+            (λ p. refusals.ok ((p .0, g .1), p .1))))
         opened q g (group-met {inner} {rest} there) =
-            lifted ts _ _ (word-law text (Left rest K) spent inner l (suc depth) (omega arith) there) (λ x y m. headed rest x y m)
+            lifted ts _ _ (word-law text (RestComes rest K) spent inner l (suc depth) (omega arith) there) (λ x y m. headed rest x y m)
 
   -- No item there.
-  none-there : (is : Items) (x : Refusal) (left depth top spent : ℕ) (K : Stream Token → Type 0) (ts : List Term) (r : Reader) (store stack : List ℕ) → depth + left ≡ 257
-      → definition.ask depth is ≡ absent depth x → Ready es th text ts₀ (Left is K) top spent ts r store stack
-      → Simulates (AskedRead es th text K top spent stack ts) (walk.term left text rules heap table top r store stack) (definition.askTerm document01 th defs depth is ts)
+  none-there : (is : Items) (x : Refusal) (left depth top spent : ℕ) (K : Stream Token → Type 0) (ts : List Term) (r : Reader) (store stack : List ℕ)
+      → depth + left ≡ 257
+      → definition.ask depth is ≡ absent depth x → Ready es th text ts₀ (RestComes is K) top spent ts r store stack
+      → Simulates (AskedRead es th text K top spent stack ts) (walk.term left text rules heap table top r store stack)
+      (definition.askTerm document01 th defs depth is ts)
   unfolding walk.term definition.askTerm definition._>>=_ definition.lift absent refusals._>>=_ number
   none-there is x zero depth top spent K ts r store stack e q ready = rw (q, asked-no depth e) (refuse refl)
   none-there is x (suc l) depth top spent K ts r store stack e q ready =
@@ -131,9 +141,11 @@ module _ (text : List ℕ) (table : List ℕ) {rules heap : List ℕ} {es : Entr
         by (both-refuse z) = refuse z
 
   -- A term that is asked for.
-  pub ask-term-law : (is : Items) (left depth top spent : ℕ) (K : Stream Token → Type 0) (ts : List Term) (r : Reader) (store stack : List ℕ) → depth + left ≡ 257
-      → Ready es th text ts₀ (Left is K) top spent ts r store stack
-      → Simulates (AskedRead es th text K top spent stack ts) (walk.term left text rules heap table top r store stack) (definition.askTerm document01 th defs depth is ts)
+  pub ask-term-law : (is : Items) (left depth top spent : ℕ) (K : Stream Token → Type 0) (ts : List Term) (r : Reader) (store stack : List ℕ)
+      → depth + left ≡ 257
+      → Ready es th text ts₀ (RestComes is K) top spent ts r store stack
+      → Simulates (AskedRead es th text K top spent stack ts) (walk.term left text rules heap table top r store stack)
+      (definition.askTerm document01 th defs depth is ts)
   unfolding definition.ask AskedRead
   ask-term-law closed left depth top spent K ts r store stack e ready = none-there closed strayClosing left depth top spent K ts r store stack e refl ready
   ask-term-law ended left depth top spent K ts r store stack e ready = none-there ended textEnds left depth top spent K ts r store stack e refl ready

@@ -34,7 +34,8 @@ use Rattle.terms_laws.proofs.Rows.{Row, row-part, row-first, row-at}
 
 -- A term was read on top of the stack: its number stands for the definition's tree in the store afterwards, and what the stack held below
 -- is held still. P says where the reader stands.
-pub record TermRead (es : Entries) (th : Theory) (P : Reader → Type 0) (top : ℕ) (stack : List ℕ) (ts : List Term) (x : ℕ × Reader) (left : Areas) (y : Term × List Term) : Type 0 where
+pub record TermRead (es : Entries) (th : Theory) (P : Reader → Type 0) (top : ℕ) (stack : List ℕ) (ts : List Term) (x : ℕ × Reader) (left : Areas)
+    (y : Term × List Term) : Type 0 where
   pub reader : P (x .1)
   pub stored : Stored es th document01 4096 (left .0) (y .1)
   pub means : Means es th (y .1) (x .0) (y .0)
@@ -42,7 +43,8 @@ pub record TermRead (es : Entries) (th : Theory) (P : Reader → Type 0) (top : 
   pub keeps : Keeps top stack (left .1)
 
 module _ {rules heap : List ℕ} {es : Entries} {bound : ℕ} {th : Theory} (h : Holds rules heap es bound th) where
-  module _ (P : Reader → Type 0) (top : ℕ) (stack : List ℕ) {store : List ℕ} {ts : List Term} (kept : Stored es th document01 4096 store ts) (r : Reader) (there : P r) where
+  module _ (P : Reader → Type 0) (top : ℕ) (stack : List ℕ) {store : List ℕ} {ts : List Term} (kept : Stored es th document01 4096 store ts) (r : Reader)
+      (there : P r) where
     interned-law : (x : Node) (after : List ℕ) (t : Term) → Formed (Used es) (length ts) x → build (symbolAt es th) ts x ≡ t → Sized t → Keeps top stack after
         → Simulates (TermRead es th P top stack ts) (interned x r store after) (definition.stored document01 t ts)
     unfolding interned document01
@@ -73,6 +75,7 @@ module _ {rules heap : List ℕ} {es : Entries} {bound : ℕ} {th : Theory} (h :
         case (definition.accepts (inputs d) (lookups (symbolAt es th) ts ms))
         (λ t.
         rw (z, t, key)
-        (interned-law (c ∷ ms) (set stack top c) (node d (lookups (symbolAt es th) ts ms)) (formed (used-at h x) b) (ap (λ (a : Symbol). node a (lookups (symbolAt es th) ts ms)) (symbol-is h x))
+        (interned-law (c ∷ ms) (set stack top c) (node d (lookups (symbolAt es th) ts ms)) (formed (used-at h x) b)
+        (ap (λ (a : Symbol). node a (lookups (symbolAt es th) ts ms)) (symbol-is h x))
         (accepted-sized d (lookups (symbolAt es th) ts ms) t) (keeps-set top stack top c (omega arith))))
         (λ t. rw (z, t) (refuse refl))

@@ -9,7 +9,7 @@ use lib.Dec.{eqb}
 use lib.ListN.{length, set, length-set}
 use lib.Seq.{getD-set-same}
 use Rattle.horn.specs.Refusals as refusals
-use Rattle.horn.specs.Refusals.{Refusal, Result, number, notUtf8, textEnds, bracketedConstant}
+use Rattle.horn.specs.Refusals.{Refusal, Result, number, notUtf8, nesting, textEnds, strayClosing, atomOrList, bracketedConstant}
 use Rattle.horn.specs.Setting.{document01}
 use Rattle.horn.specs.Names.{Name, isZero}
 use Rattle.horn.specs.Tokens.{Stream, Token}
@@ -35,8 +35,9 @@ use Rattle.theory_reading.proofs.Stored.{Longer, longer-none, longer-then, long
 use Rattle.tables.specs.Representation.{Defs}
 use Rattle.asking.specs.Asking as asked
 use Rattle.asking.specs.Asking.{Met, Ahead}
-use Rattle.asking_laws.proofs.Places.{Left, At, at-less, at-within}
-use Rattle.asking_laws.proofs.Asking.{ItemMet, atom-met, list-met, item-law, WordMet, word-met, word-law, Looked, look-closed, look-bad, look-ended, look-item, look-law}
+use Rattle.asking_laws.proofs.Places.{RestComes, At, at-less, at-within}
+use Rattle.asking_laws.proofs.Asking.{ItemMet, atom-met, list-met, item-law, WordMet, word-met, word-law, Looked, look-closed, look-bad, look-ended, look-item}
+use Rattle.asking_laws.proofs.Asking.{look-law}
 use Rattle.terms.specs.Terms as walk
 use Rattle.theory_reading.specs.Storing.{Areas}
 use Rattle.nodes.specs.Nodes.{make, constructorDue, headDue}
@@ -47,7 +48,8 @@ use Rattle.terms_laws.proofs.Making.{TermRead, make-law}
 use Rattle.terms_laws.proofs.Atoms.{SymbolMet, symbol-met, constructor-law, atom-law}
 
 -- The store and the stack before a term is read, which goes on top of the stack: two bytes at least were read for each word on it.
-pub record Ready (es : Entries) (th : Theory) (text : List ℕ) (ts₀ : List Term) (K : Stream Token → Type 0) (top spent : ℕ) (ts : List Term) (r : Reader) (store stack : List ℕ) : Type 0 where
+pub record Ready (es : Entries) (th : Theory) (text : List ℕ) (ts₀ : List Term) (K : Stream Token → Type 0) (top spent : ℕ) (ts : List Term) (r : Reader)
+    (store stack : List ℕ) : Type 0 where
   pub reader : At text K spent r
   pub room : 2 * top ≤ spent
   pub stored : Stored es th document01 4096 store ts
@@ -55,7 +57,8 @@ pub record Ready (es : Entries) (th : Theory) (text : List ℕ) (ts₀ : List Te
   pub long : length stack ≡ 16384
 
 -- Arguments were read: their numbers stand on the stack, from word `place` on.
-pub record ArgumentsRead (es : Entries) (th : Theory) (text : List ℕ) (K : Stream Token → Type 0) (place n spent : ℕ) (stack : List ℕ) (ts : List Term) (x : ℕ × Reader) (left : Areas) (y : Terms × List Term) : Type 0 where
+pub record ArgumentsRead (es : Entries) (th : Theory) (text : List ℕ) (K : Stream Token → Type 0) (place n spent : ℕ) (stack : List ℕ) (ts : List Term)
+    (x : ℕ × Reader) (left : Areas) (y : Terms × List Term) : Type 0 where
   pub ms : List ℕ
   pub count : x .0 ≡ n + length ms
   pub reader : At text K (spent + 2 * length ms) (x .1)
@@ -70,21 +73,21 @@ module _ (text : List ℕ) (table : List ℕ) {rules heap : List ℕ} {es : Entr
     (defs : List Def) (ts₀ : List Term) {base : ℕ} (abbreviations : Defs text table 128 base (Means es th ts₀) defs) (short : length text ≤ 32768) where
   abbrev pub TermLaw : Item → Type 1
   TermLaw item = (left depth top spent : ℕ) (K : Stream Token → Type 0) (rest : Items) (ts : List Term) (r : Reader) (store stack : List ℕ) → depth + left ≡ 257
-      → Ready es th text ts₀ (Left (item then rest) K) top spent ts r store stack
-      → Simulates (TermRead es th (At text (Left rest K) (spent + 2)) top stack ts) (walk.term left text rules heap table top r store stack)
+      → Ready es th text ts₀ (RestComes (item then rest) K) top spent ts r store stack
+      → Simulates (TermRead es th (At text (RestComes rest K) (spent + 2)) top stack ts) (walk.term left text rules heap table top r store stack)
       (refusals._>>=_ (askedAt depth) (λ _. definition.term document01 th defs depth item ts))
 
   abbrev pub CompoundLaw : Items → Type 1
   CompoundLaw is = (left depth top spent : ℕ) (K : Stream Token → Type 0) (ts : List Term) (r : Reader) (store stack : List ℕ) → depth + left ≡ 257
-      → Ready es th text ts₀ (Left is K) top spent ts r store stack
+      → Ready es th text ts₀ (RestComes is K) top spent ts r store stack
       → Simulates (TermRead es th (At text K (spent + 2)) top stack ts)
       (termOf (walk.term left text rules heap table) left text rules heap table top (asked.list r) store stack)
       (definition.compoundTerm document01 th defs depth is ts)
 
   abbrev pub ArgumentsLaw : Items → Type 1
-  ArgumentsLaw is = (left depth top n place spent fuel : ℕ) (K : Stream Token → Type 0) (ts : List Term) (r : Reader) (store stack : List ℕ) → depth + left ≡ 257
-      → place ≡ top + n → fuel + n ≡ length text + 1
-      → Ready es th text ts₀ (Left is K) place spent ts r store stack
+  ArgumentsLaw is =
+      (left depth top n place spent fuel : ℕ) (K : Stream Token → Type 0) (ts : List Term) (r : Reader) (store stack : List ℕ) → depth + left ≡ 257
+      → place ≡ top + n → fuel + n ≡ length text + 1 → Ready es th text ts₀ (RestComes is K) place spent ts r store stack
       → Simulates (ArgumentsRead es th text K place n spent stack ts) (argumentsFrom (walk.term left text rules heap table) fuel text top n r store stack)
       (definition.arguments document01 th defs depth is ts)
 
@@ -93,19 +96,19 @@ module _ (text : List ℕ) (table : List ℕ) {rules heap : List ℕ} {es : Entr
   fits top spent a l = let b = at-within a in omega arith
 
   -- A term of one item: the item is asked for, then it is an atom or a list.
-  term-step : (item : Item) (left depth top spent : ℕ) (K : Stream Token → Type 0) (rest : Items) (ts : List Term) (r : Reader) (store stack : List ℕ) → depth + left ≡ 257
-      → Ready es th text ts₀ (Left (item then rest) K) top spent ts r store stack
+  term-step : (item : Item) (left depth top spent : ℕ) (K : Stream Token → Type 0) (rest : Items) (ts : List Term) (r : Reader) (store stack : List ℕ)
+      → depth + left ≡ 257 → Ready es th text ts₀ (RestComes (item then rest) K) top spent ts r store stack
       → ((l : ℕ) (m : Met) → left ≡ suc l → ItemMet text K spent m (item, rest)
-      → Simulates (TermRead es th (At text (Left rest K) (spent + 2)) top stack ts)
+      → Simulates (TermRead es th (At text (RestComes rest K) (spent + 2)) top stack ts)
       (termOf (walk.term l text rules heap table) l text rules heap table top m store stack) (definition.term document01 th defs depth item ts))
-      → Simulates (TermRead es th (At text (Left rest K) (spent + 2)) top stack ts) (walk.term left text rules heap table top r store stack)
+      → Simulates (TermRead es th (At text (RestComes rest K) (spent + 2)) top stack ts) (walk.term left text rules heap table top r store stack)
       (refusals._>>=_ (askedAt depth) (λ _. definition.term document01 th defs depth item ts))
   unfolding walk.term refusals._>>=_ number definition.ask
   term-step item zero depth top spent K rest ts r store stack e ready k = rw (asked-no depth e) (refuse refl)
   term-step item (suc l) depth top spent K rest ts r store stack e ready k =
       rw (asked-yes l depth e) (by (rw (asked-yes l depth e) at (item-law text K spent (item then rest) (suc l) depth e (ready .reader)))) where
         by : {o : Outcome Met} → Answers (ItemMet text K spent) o (refusals.ok (item, rest))
-            → Simulates (TermRead es th (At text (Left rest K) (spent + 2)) top stack ts)
+            → Simulates (TermRead es th (At text (RestComes rest K) (spent + 2)) top stack ts)
             (leaving._>>=_ (o leaving (store, stack)) (λ p. termOf (walk.term l text rules heap table) l text rules heap table top (p .0) (p .1 .0) (p .1 .1)))
             (definition.term document01 th defs depth item ts)
         by (both-ok q) = k l _ refl q
@@ -115,12 +118,12 @@ module _ (text : List ℕ) (table : List ℕ) {rules heap : List ℕ} {es : Entr
   term-word name left depth top spent K rest ts r store stack e ready =
       term-step (word name) left depth top spent K rest ts r store stack e ready (λ l m f q. by l q) where
         by : (l : ℕ) {m : Met} → ItemMet text K spent m (word name, rest)
-            → Simulates (TermRead es th (At text (Left rest K) (spent + 2)) top stack ts)
+            → Simulates (TermRead es th (At text (RestComes rest K) (spent + 2)) top stack ts)
             (termOf (walk.term l text rules heap table) l text rules heap table top m store stack) (definition.atomTerm document01 th defs name ts)
         by l (atom-met {s} {t} {r = q} n a b there) =
             let z = fits top spent there (ready .room) in
             let y = ready .long in
-            atom-law text table h defs ts₀ abbreviations (At text (Left rest K) (spent + 2)) s t q n there top stack a b (ready .stored) (ready .grown)
+            atom-law text table h defs ts₀ abbreviations (At text (RestComes rest K) (spent + 2)) s t q n there top stack a b (ready .stored) (ready .grown)
             (omega arith) (omega arith)
 
   term-group : (inner : Items) → CompoundLaw inner → TermLaw (group inner)
@@ -128,10 +131,11 @@ module _ (text : List ℕ) (table : List ℕ) {rules heap : List ℕ} {es : Entr
   term-group inner law left depth top spent K rest ts r store stack e ready =
       term-step (group inner) left depth top spent K rest ts r store stack e ready (λ l m f q. by l f q) where
         by : (l : ℕ) {m : Met} → left ≡ suc l → ItemMet text K spent m (group inner, rest)
-            → Simulates (TermRead es th (At text (Left rest K) (spent + 2)) top stack ts)
-            (termOf (walk.term l text rules heap table) l text rules heap table top m store stack) (definition.compoundTerm document01 th defs (suc depth) inner ts)
+            → Simulates (TermRead es th (At text (RestComes rest K) (spent + 2)) top stack ts)
+            (termOf (walk.term l text rules heap table) l text rules heap table top m store stack)
+            (definition.compoundTerm document01 th defs (suc depth) inner ts)
         by l f (list-met {r = q} there) =
-            law l (suc depth) top spent (Left rest K) ts q store stack (omega arith)
+            law l (suc depth) top spent (RestComes rest K) ts q store stack (omega arith)
             record { reader = there; room = ready .room; stored = ready .stored; grown = ready .grown; long = ready .long }
 
   -- What follows the head of a term in brackets.
@@ -143,12 +147,13 @@ module _ (text : List ℕ) (table : List ℕ) {rules heap : List ℕ} {es : Entr
   abbrev definedOn : ℕ → Symbol → Items → List Term → Result (Term × List Term)
   definedOn depth d rest ts =
       refusals._>>=_ {A = Terms × List Term} (definition.arguments document01 th defs depth rest ts)
-      (λ p. refusals._>>=_ {A = Unit {0} × List Term} (refusals._>>=_ (refusals.need (not (isZero (width (p .0)))) bracketedConstant) (λ a. refusals.ok (a, p .1)))
-      (λ u. definition.make document01 d (p .0) (u .1)))
+      (λ p. refusals._>>=_ {A = Unit {0} × List Term} (refusals._>>=_ (refusals.need (not (isZero (width (p .0)))) bracketedConstant)
+      (λ a. refusals.ok (a, p .1))) (λ u. definition.make document01 d (p .0) (u .1)))
 
   -- "After the closing come 16 for a bracketed constructor without arguments, then 15 for arity and sorts, then the store."
-  pub made-of : (top spent c : ℕ) (d : Symbol) (K : Stream Token → Type 0) (ts : List Term) (stack : List ℕ) (x : ℕ × Reader) (left : Areas) (y : Terms × List Term)
-      → 2 * top ≤ spent → length stack ≡ 16384 → SymbolAt heap es bound c d → ArgumentsRead es th text K (top + 1) 0 (spent + 2) stack ts x left y
+  pub made-of : (top spent c : ℕ) (d : Symbol) (K : Stream Token → Type 0) (ts : List Term) (stack : List ℕ) (x : ℕ × Reader) (left : Areas)
+      (y : Terms × List Term) → 2 * top ≤ spent → length stack ≡ 16384 → SymbolAt heap es bound c d
+      → ArgumentsRead es th text K (top + 1) 0 (spent + 2) stack ts x left y
       → Simulates (TermRead es th (At text K (spent + 2)) top stack ts) (make heap c top (x .0) (x .1) (left .0) (left .1))
       (definition.make document01 d (y .0) (y .1))
   made-of top spent c d K ts stack x left y l long a q =
@@ -170,7 +175,7 @@ module _ (text : List ℕ) (table : List ℕ) {rules heap : List ℕ} {es : Entr
 
   compounded : (left depth top spent c : ℕ) (d : Symbol) (K : Stream Token → Type 0) (rest : Items) (ts : List Term) (r : Reader) (store stack : List ℕ)
       → ArgumentsLaw rest → depth + left ≡ 257 → 2 * top ≤ spent → SymbolAt heap es bound c d
-      → Ready es th text ts₀ (Left rest K) (top + 1) (spent + 2) ts r store stack
+      → Ready es th text ts₀ (RestComes rest K) (top + 1) (spent + 2) ts r store stack
       → Simulates (TermRead es th (At text K (spent + 2)) top stack ts) (walkOn left top c r store stack) (definedOn depth d rest ts)
   unfolding refusals._>>=_ refusals.need number lookups isZero width
   compounded left depth top spent c d K rest ts r store stack law e l a ready =
@@ -178,59 +183,65 @@ module _ (text : List ℕ) (table : List ℕ) {rules heap : List ℕ} {es : Entr
       rw (sum-small top 1 (omega arith))
       (bind _ _ (law left depth (top + 1) 0 (top + 1) (spent + 2) (length text + 1) K ts r store stack e (omega arith) (omega arith) ready)
       (λ x s y q. by x s y q (q .ms) (q .count) (q .terms))) where
-        by : (x : ℕ × Reader) (s : Areas) (y : Terms × List Term) (q : ArgumentsRead es th text K (top + 1) 0 (spent + 2) stack ts x s y) (ms : List ℕ) → x .0 ≡ 0 + length ms
-            → lookups (symbolAt es th) (y .1) ms ≡ y .0
+        by : (x : ℕ × Reader) (s : Areas) (y : Terms × List Term) (q : ArgumentsRead es th text K (top + 1) 0 (spent + 2) stack ts x s y) (ms : List ℕ)
+            → x .0 ≡ 0 + length ms → lookups (symbolAt es th) (y .1) ms ≡ y .0
             → Simulates (TermRead es th (At text K (spent + 2)) top stack ts)
             (leaving._>>=_ (outcomes.need (not (eqb (x .0) 0)) 16 leaving s) (λ _. make heap c top (x .0) (x .1) (s .0) (s .1)))
-            (refusals._>>=_ {A = Unit {0} × List Term} (refusals._>>=_ (refusals.need (not (isZero (width (y .0)))) bracketedConstant) (λ b. refusals.ok (b, y .1)))
-            (λ u. definition.make document01 d (y .0) (u .1)))
+            (refusals._>>=_ {A = Unit {0} × List Term} (refusals._>>=_ (refusals.need (not (isZero (width (y .0)))) bracketedConstant)
+            (λ b. refusals.ok (b, y .1))) (λ u. definition.make document01 d (y .0) (u .1)))
         by x s y q [] n t = rw (eq-eqb (x .0) 0 n, ← t) (refuse refl)
         by x s y q (m ∷ ms) n t =
             let nil : isZero (width (y .0)) ≡ false = rw (← t) in
             rw (ne-eqb (x .0) 0 (λ f. omega arith), nil) (made-of top spent c d K ts stack x s y l (ready .long) a q)
 
   -- No head there, or none that is an atom.
-  module _ (top spent left : ℕ) (K : Stream Token → Type 0) (ts : List Term) (store stack : List ℕ) (f : (ℕ × Reader) × Areas → Did Areas (ℕ × Reader)) where
-    no-head : {o : Outcome (ℕ × ℕ × Reader)} {x : Refusal} → Answers (WordMet text K spent) o (refusals.refused x)
-        → Simulates (TermRead es th (At text K (spent + 2)) top stack ts)
-        (leaving._>>=_ (outcomes._>>=_ o (λ p. constructorDue text rules heap (p .0) (p .1) (p .2)) leaving (store, stack)) f) (refusals.refused x)
-    no-head (both-refuse e) = refuse e
+  abbrev Refuses : ℕ → Items → Refusal → Type 0
+  Refuses depth is x =
+      (definition.askWord depth is ≡ refusals.refused x) × ((ts : List Term) → definition.compoundTerm document01 th defs depth is ts ≡ refusals.refused x)
+
+  headless : (is : Items) (x : Refusal) (left depth top spent : ℕ) (K : Stream Token → Type 0) (ts : List Term) (r : Reader) (store stack : List ℕ)
+      → Refuses depth is x → depth + left ≡ 257 → Ready es th text ts₀ (RestComes is K) top spent ts r store stack
+      → Simulates (TermRead es th (At text K (spent + 2)) top stack ts)
+      (termOf (walk.term left text rules heap table) left text rules heap table top (asked.list r) store stack)
+      (definition.compoundTerm document01 th defs depth is ts)
+  unfolding headDue
+  headless is x left depth top spent K ts r store stack (a, b) e ready =
+      rw (b ts) (by _ (rw a at (word-law text K spent is left depth e (ready .reader)))) where
+        by : {o : Outcome (ℕ × ℕ × Reader)} (f : (ℕ × Reader) × Areas → Did Areas (ℕ × Reader)) → Answers (WordMet text K spent) o (refusals.refused x)
+            → Simulates (TermRead es th (At text K (spent + 2)) top stack ts)
+            (leaving._>>=_ (outcomes._>>=_ o (λ p. constructorDue text rules heap (p .0) (p .1) (p .2)) leaving (store, stack)) f) (refusals.refused x)
+        by f (both-refuse q) = refuse q
+
+  no-head : (is : Items) (x : Refusal) → ((depth : ℕ) → askedAt depth ≡ refusals.refused nesting → Refuses depth is nesting)
+      → ((depth : ℕ) → askedAt depth ≡ refusals.ok tt → Refuses depth is x) → CompoundLaw is
+  no-head is x f g zero depth top spent K ts r store stack e ready =
+      headless is nesting zero depth top spent K ts r store stack (f depth (asked-no depth e)) e ready
+  no-head is x f g (suc l) depth top spent K ts r store stack e ready =
+      headless is x (suc l) depth top spent K ts r store stack (g depth (asked-yes l depth e)) e ready
 
   compound-closed : CompoundLaw closed
-  unfolding definition.compoundTerm definition._>>=_ definition.lift definition.askWord definition.ask absent refusals._>>=_ headDue
-  compound-closed zero depth top spent K ts r store stack e ready =
-      rw (asked-no depth e) (no-head top spent zero K ts store stack _ (rw (asked-no depth e) at (word-law text K spent closed zero depth e (ready .reader))))
-  compound-closed (suc l) depth top spent K ts r store stack e ready =
-      rw (asked-yes l depth e) (no-head top spent (suc l) K ts store stack _ (rw (asked-yes l depth e) at (word-law text K spent closed (suc l) depth e (ready .reader))))
+  unfolding definition.compoundTerm definition.lift definition.askWord definition.ask absent refusals._>>=_
+  compound-closed = no-head closed strayClosing (λ depth a. (rw a, λ ts. rw a)) (λ depth a. (rw a, λ ts. rw a))
 
   compound-ended : CompoundLaw ended
-  unfolding definition.compoundTerm definition._>>=_ definition.lift definition.askWord definition.ask absent refusals._>>=_ headDue
-  compound-ended zero depth top spent K ts r store stack e ready =
-      rw (asked-no depth e) (no-head top spent zero K ts store stack _ (rw (asked-no depth e) at (word-law text K spent ended zero depth e (ready .reader))))
-  compound-ended (suc l) depth top spent K ts r store stack e ready =
-      rw (asked-yes l depth e) (no-head top spent (suc l) K ts store stack _ (rw (asked-yes l depth e) at (word-law text K spent ended (suc l) depth e (ready .reader))))
+  unfolding definition.compoundTerm definition.lift definition.askWord definition.ask absent refusals._>>=_
+  compound-ended = no-head ended textEnds (λ depth a. (rw a, λ ts. rw a)) (λ depth a. (rw a, λ ts. rw a))
 
   compound-bad : CompoundLaw badLine
-  unfolding definition.compoundTerm definition._>>=_ definition.lift definition.askWord definition.ask absent refusals._>>=_ headDue
-  compound-bad zero depth top spent K ts r store stack e ready =
-      rw (asked-no depth e) (no-head top spent zero K ts store stack _ (rw (asked-no depth e) at (word-law text K spent badLine zero depth e (ready .reader))))
-  compound-bad (suc l) depth top spent K ts r store stack e ready =
-      rw (asked-yes l depth e) (no-head top spent (suc l) K ts store stack _ (rw (asked-yes l depth e) at (word-law text K spent badLine (suc l) depth e (ready .reader))))
+  unfolding definition.compoundTerm definition.lift definition.askWord definition.ask absent refusals._>>=_
+  compound-bad = no-head badLine notUtf8 (λ depth a. (rw a, λ ts. rw a)) (λ depth a. (rw a, λ ts. rw a))
 
   compound-group : (inner rest : Items) → CompoundLaw (group inner then rest)
-  unfolding definition.compoundTerm definition._>>=_ definition.lift definition.askWord definition.ask definition.wordDue absent refusals._>>=_ headDue
-  compound-group inner rest zero depth top spent K ts r store stack e ready =
-      rw (asked-no depth e) (no-head top spent zero K ts store stack _ (rw (asked-no depth e) at (word-law text K spent (group inner then rest) zero depth e (ready .reader))))
-  compound-group inner rest (suc l) depth top spent K ts r store stack e ready =
-      rw (asked-yes l depth e) (no-head top spent (suc l) K ts store stack _ (rw (asked-yes l depth e) at (word-law text K spent (group inner then rest) (suc l) depth e (ready .reader))))
+  unfolding definition.compoundTerm definition._>>=_ definition.lift definition.askWord definition.ask definition.wordDue refusals._>>=_
+  compound-group inner rest = no-head (group inner then rest) atomOrList (λ depth a. (rw a, λ ts. rw a)) (λ depth a. (rw a, λ ts. rw a))
 
   compound-word : (name : Name) (rest : Items) → ArgumentsLaw rest → CompoundLaw (word name then rest)
   unfolding definition.compoundTerm definition._>>=_ definition.lift definition.askWord definition.ask definition.wordDue refusals._>>=_ headDue
   compound-word name rest law zero depth top spent K ts r store stack e ready =
-      rw (asked-no depth e) (no-head top spent zero K ts store stack _ (rw (asked-no depth e) at (word-law text K spent (word name then rest) zero depth e (ready .reader))))
+      let a = asked-no depth e in headless (word name then rest) nesting zero depth top spent K ts r store stack (rw a, λ ts. rw a) e ready
   compound-word name rest law (suc l) depth top spent K ts r store stack e ready =
       rw (asked-yes l depth e) (by (rw (asked-yes l depth e) at (word-law text K spent (word name then rest) (suc l) depth e (ready .reader)))) where
-        found : {o : Outcome (ℕ × Reader)} {m : Result Symbol} → Answers (SymbolMet heap es bound (At text (Left rest K) (spent + 2))) o m
+        found : {o : Outcome (ℕ × Reader)} {m : Result Symbol} → Answers (SymbolMet heap es bound (At text (RestComes rest K) (spent + 2))) o m
             → Simulates (TermRead es th (At text K (spent + 2)) top stack ts)
             (leaving._>>=_ (o leaving (store, stack)) (λ p. walkOn (suc l) top (p .0 .0) (p .0 .1) (p .1 .0) (p .1 .1)))
             (refusals._>>=_ {A = Symbol × List Term} (refusals._>>=_ m (λ c. refusals.ok (c, ts))) (λ p. definedOn depth (p .0) rest (p .1)))
@@ -244,26 +255,27 @@ module _ (text : List ℕ) (table : List ℕ) {rules heap : List ℕ} {es : Entr
             → Simulates (TermRead es th (At text K (spent + 2)) top stack ts)
             (leaving._>>=_ (outcomes._>>=_ o (λ p. constructorDue text rules heap (p .0) (p .1) (p .2)) leaving (store, stack))
             (λ p. walkOn (suc l) top (p .0 .0) (p .0 .1) (p .1 .0) (p .1 .1)))
-            (refusals._>>=_ {A = Symbol × List Term} (refusals._>>=_ (constructor th name) (λ c. refusals.ok (c, ts))) (λ p. definedOn depth (p .0) rest (p .1)))
+            (refusals._>>=_ {A = Symbol × List Term} (refusals._>>=_ (constructor th name) (λ c. refusals.ok (c, ts)))
+            (λ p. definedOn depth (p .0) rest (p .1)))
         by (both-ok (word-met {s} {t} {r = q} n a b there)) =
-            found (constructor-law text table h defs ts₀ abbreviations (At text (Left rest K) (spent + 2)) s t q n there)
+            found (constructor-law text table h defs ts₀ abbreviations (At text (RestComes rest K) (spent + 2)) s t q n there)
 
   -- The number of arguments is within the fuel: each of them took two bytes at least.
-  some-fuel : {K : Stream Token → Type 0} (top n place spent fuel : ℕ) {r : Reader} → At text K spent r → 2 * place ≤ spent → place ≡ top + n → fuel + n ≡ length text + 1
-      → 1 ≤ fuel
-  some-fuel top n place spent fuel a l p f = let b = at-within a in omega arith
+  no-fuel : {C : Type 0} {K : Stream Token → Type 0} {spent : ℕ} (top n place : ℕ) {r : Reader} → At text K spent r → 2 * place ≤ spent → place ≡ top + n
+      → 0 + n ≡ length text + 1 → C
+  no-fuel top n place a l p f = let b = at-within a in absurd (omega arith)
 
   module _ (left top n fuel : ℕ) where
     -- One turn of the loop, by the look ahead.
     abbrev turn : Outcome Ahead → List ℕ → List ℕ → Did Areas (ℕ × Reader)
     turn o store stack =
         leaving._>>=_ (o leaving (store, stack))
-        (λ p. walk.oneMore (walk.term left text rules heap table) (argumentsFrom (walk.term left text rules heap table) fuel text top) top n (p .0) (p .1 .0) (p .1 .1))
+        (λ p. walk.oneMore (walk.term left text rules heap table) (argumentsFrom (walk.term left text rules heap table) fuel text top) top n (p .0)
+        (p .1 .0) (p .1 .1))
 
   arguments-closed : ArgumentsLaw closed
   unfolding argumentsFrom definition.arguments definition.give lookups
-  arguments-closed left depth top n place spent zero K ts r store stack e p f ready =
-      absurd (let b = some-fuel top n place spent zero (ready .reader) (ready .room) p f in omega arith)
+  arguments-closed left depth top n place spent zero K ts r store stack e p f ready = no-fuel top n place (ready .reader) (ready .room) p f
   arguments-closed left depth top n place spent (suc fuel) K ts r store stack e p f ready = by (look-law text K spent closed (ready .reader)) where
     nothing-read : (q : Reader) → At text K spent q → ArgumentsRead es th text K place n spent stack ts (n, q) (store, stack) ([]ₜ, ts)
     nothing-read q there =
@@ -285,8 +297,7 @@ module _ (text : List ℕ) (table : List ℕ) {rules heap : List ℕ} {es : Entr
 
   arguments-bad : ArgumentsLaw badLine
   unfolding argumentsFrom definition.arguments definition.lift refusals._>>=_ number
-  arguments-bad left depth top n place spent zero K ts r store stack e p f ready =
-      absurd (let b = some-fuel top n place spent zero (ready .reader) (ready .room) p f in omega arith)
+  arguments-bad left depth top n place spent zero K ts r store stack e p f ready = no-fuel top n place (ready .reader) (ready .room) p f
   arguments-bad left depth top n place spent (suc fuel) K ts r store stack e p f ready = by (look-law text K spent badLine (ready .reader)) where
     by : {o : Outcome Ahead} → Looked text K spent badLine o
         → Simulates (ArgumentsRead es th text K place n spent stack ts) (turn left top n fuel o store stack) (refusals.refused notUtf8)
@@ -294,33 +305,30 @@ module _ (text : List ℕ) (table : List ℕ) {rules heap : List ℕ} {es : Entr
 
   -- At the end of the text a term is asked for.
   term-ended : {B C : Type 0} {R : ℕ × Reader → Areas → B → Type 0} (left depth top spent : ℕ) (K : Stream Token → Type 0) (r : Reader) (store stack : List ℕ)
-      (f : (ℕ × Reader) × Areas → Did Areas (ℕ × Reader)) (g : C → Result B) → depth + left ≡ 257
-      → At text (Left ended K) spent r
+      (f : (ℕ × Reader) × Areas → Did Areas (ℕ × Reader)) (g : C → Result B) → depth + left ≡ 257 → At text (RestComes ended K) spent r
       → Simulates R (leaving._>>=_ (walk.term left text rules heap table top r store stack) f) (refusals._>>=_ (absent depth textEnds) g)
   unfolding walk.term refusals._>>=_ number definition.ask absent
   term-ended zero depth top spent K r store stack f g e there = rw (asked-no depth e) (refuse refl)
   term-ended {R = R} (suc l) depth top spent K r store stack f g e there =
       rw (asked-yes l depth e) (by (rw (asked-yes l depth e) at (item-law text K spent ended (suc l) depth e there))) where
         by : {o : Outcome Met} {x : Refusal} → Answers (ItemMet text K spent) o (refusals.refused x)
-            → Simulates R
-            (leaving._>>=_ (leaving._>>=_ (o leaving (store, stack)) (λ p. termOf (walk.term l text rules heap table) l text rules heap table top (p .0) (p .1 .0) (p .1 .1))) f)
-            (refusals.refused x)
+            → Simulates R (leaving._>>=_ (leaving._>>=_ (o leaving (store, stack))
+            (λ p. termOf (walk.term l text rules heap table) l text rules heap table top (p .0) (p .1 .0) (p .1 .1))) f) (refusals.refused x)
         by (both-refuse z) = refuse z
 
   arguments-ended : ArgumentsLaw ended
   unfolding argumentsFrom definition.arguments definition.lift
-  arguments-ended left depth top n place spent zero K ts r store stack e p f ready =
-      absurd (let b = some-fuel top n place spent zero (ready .reader) (ready .room) p f in omega arith)
+  arguments-ended left depth top n place spent zero K ts r store stack e p f ready = no-fuel top n place (ready .reader) (ready .room) p f
   arguments-ended left depth top n place spent (suc fuel) K ts r store stack e p f ready = by (look-law text K spent ended (ready .reader)) where
     by : {o : Outcome Ahead} → Looked text K spent ended o
-        → Simulates (ArgumentsRead es th text K place n spent stack ts) (turn left top n fuel o store stack) (refusals._>>=_ (absent depth textEnds) (λ a. refusals.ok (a, ts)))
+        → Simulates (ArgumentsRead es th text K place n spent stack ts) (turn left top n fuel o store stack)
+        (refusals._>>=_ (absent depth textEnds) (λ a. refusals.ok (a, ts)))
     by (look-ended {q} there) = term-ended left depth (sum32 top n) spent K q store stack _ _ e there
 
   -- One argument more.
   arguments-more : (item : Item) (rest : Items) → TermLaw item → ArgumentsLaw rest → ArgumentsLaw (item then rest)
   unfolding argumentsFrom definition.arguments definition._>>=_ definition.lift definition.give lookups
-  arguments-more item rest one law left depth top n place spent zero K ts r store stack e p f ready =
-      absurd (let b = some-fuel top n place spent zero (ready .reader) (ready .room) p f in omega arith)
+  arguments-more item rest one law left depth top n place spent zero K ts r store stack e p f ready = no-fuel top n place (ready .reader) (ready .room) p f
   arguments-more item rest one law left depth top n place spent (suc fuel) K ts r store stack e p f ready =
       rw (asked-then {A = Term × List Term} {B = Terms × List Term} depth ts (definition.term document01 th defs depth item ts)
       (λ y. refusals._>>=_ (definition.arguments document01 th defs depth rest (y .1)) (λ z. refusals.ok (y .0 ∷ₜ z .0, z .1))) _ refl)
@@ -334,7 +342,7 @@ module _ (text : List ℕ) (table : List ℕ) {rules heap : List ℕ} {es : Entr
         next : sum32 n 1 ≡ n + 1
         next = sum-small n 1 (let b = at-within (ready .reader) in let c = ready .room in omega arith)
 
-        on : (x : ℕ × Reader) (s : Areas) (y : Term × List Term) → TermRead es th (At text (Left rest K) (spent + 2)) place stack ts x s y
+        on : (x : ℕ × Reader) (s : Areas) (y : Term × List Term) → TermRead es th (At text (RestComes rest K) (spent + 2)) place stack ts x s y
             → Simulates (ArgumentsRead es th text K place n spent stack ts)
             (argumentsFrom (walk.term left text rules heap table) fuel text top (n + 1) (x .1) (s .0) (set (s .1) place (x .0)))
             (refusals._>>=_ (definition.arguments document01 th defs depth rest (y .1)) (λ z. refusals.ok (y .0 ∷ₜ z .0, z .1)))

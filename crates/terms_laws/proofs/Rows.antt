@@ -20,12 +20,6 @@ row-part {stack} {o} e (one-word {m} {ms} g r) q l =
     let y : suc o ≡ o + 1 = omega arith in
     rw (z, drop-cons stack o 0 (omega arith), y) (rw (g, ← row-part e r (omega arith) l))
 
--- The words from a place on are the same in two stacks.
-pub row-kept : {stack : List ℕ} {o : ℕ} {ms : List ℕ} (after : List ℕ) (top : ℕ) → Row stack o ms → o + length ms ≤ top
-    → ((i : ℕ) → i < top → getD after i 0 ≡ getD stack i 0) → Row after o ms
-row-kept after top no-words l k = no-words
-row-kept {o} after top (one-word g r) l k = one-word (k o (omega arith) ∙ g) (row-kept after top r (omega arith) k)
-
 pub row-set : {stack : List ℕ} {o : ℕ} {ms : List ℕ} (j v : ℕ) → j < o → Row stack o ms → Row (set stack j v) o ms
 row-set j v l no-words = no-words
 row-set {stack} {o} j v l (one-word g r) = one-word (getD-set-other stack j o v 0 (λ e. omega arith) ∙ g) (row-set j v (omega arith) r)

@@ -15,6 +15,7 @@ use Rattle.horn.proofs.Inversion.{not-ok}
 use Rattle.lex.specs.declared.Reader.{Reader}
 use Rattle.sexp.specs.Flattening.{flatOne, flat, size, countsOne, countsAll}
 use Rattle.outcomes.specs.Outcomes as outcomes
+use Rattle.items.specs.Places as places
 use Rattle.items.specs.Items.{readOn, openedOne, listDue, headDue}
 use Rattle.leaves.specs.Leaves.{Areas}
 use Rattle.items.specs.declared.Walk.{Walk}
@@ -53,7 +54,8 @@ size-longer (leaf bytes ∷ₛ xs) ts = let h = size-longer xs ts in omega arith
 size-longer (list ys ∷ₛ xs) ts = let h = size-longer xs ts in let k = longer-all ys (closing ▹ flat xs ts) in omega arith
 
 -- A declaration that was accepted is a list: an opening and a closing at least.
-list-longer : (th : Theory) (x : Sexp) (ts : Stream Token) {next : Theory} → definition.declaration th x ≡ ok next → 2 + streamLength ts ≤ streamLength (flatOne x ts)
+list-longer : (th : Theory) (x : Sexp) (ts : Stream Token) {next : Theory} → definition.declaration th x ≡ ok next
+    → 2 + streamLength ts ≤ streamLength (flatOne x ts)
 unfolding definition.declaration definition.listDue flat streamLength _>>=_
 list-longer th (leaf bytes) ts e = not-ok e
 list-longer th (list xs) ts e = let h = longer-all xs (closing ▹ ts) in omega arith
@@ -82,17 +84,20 @@ module _ (text member-counts : List ℕ) (Before : Reader → Stream Token → T
     by-form vars (is-sort {x} four) r long s₀ s₁ enough =
         let c = r .room in
         aside vars
-        (knowing (sort-law text member-counts Before reads short x record { walks = r .walks; holds = r .holds; above = r .above; base-low = r .base-low; room = omega arith }))
+        (knowing (sort-law text member-counts Before reads short x
+        record { walks = r .walks; holds = r .holds; above = r .above; base-low = r .base-low; room = omega arith }))
         (λ q heap′ th′ y. record { stood = y .0; long = long; tallied = sort-tally th x (y .1) })
     by-form vars (is-constructor {x} {y} {z} four) r long s₀ s₁ enough =
         let c = r .room in
         aside vars
-        (knowing (constructor-law text member-counts Before reads short x y z record { walks = r .walks; holds = r .holds; above = r .above; base-low = r .base-low; room = omega arith }))
+        (knowing (constructor-law text member-counts Before reads short x y z
+        record { walks = r .walks; holds = r .holds; above = r .above; base-low = r .base-low; room = omega arith }))
         (λ q heap′ th′ v. record { stood = v .0; long = long; tallied = constructor-tally th x y z (v .1) })
     by-form vars (is-predicate {x} {y} four) r long s₀ s₁ enough =
         let c = r .room in
         aside vars
-        (knowing (predicate-law text member-counts Before reads short x y record { walks = r .walks; holds = r .holds; above = r .above; base-low = r .base-low; room = omega arith }))
+        (knowing (predicate-law text member-counts Before reads short x y
+        record { walks = r .walks; holds = r .holds; above = r .above; base-low = r .base-low; room = omega arith }))
         (λ q heap′ th′ v. record { stood = v .0; long = long; tallied = predicate-tally th x y (v .1) })
     by-form vars (is-rule {x} {y} {z} four) r long (shallow-more s₁ (shallow-more s₂ s₃)) (shallow-more t₁ (shallow-more t₂ (shallow-more t₃ t₄))) enough =
         let c = r .room in
@@ -131,7 +136,8 @@ module _ (text member-counts : List ℕ) (Before : Reader → Stream Token → T
         → Shallow 259 x
         → streamLength (flatOne x ts) ≤ length text
         → Simulates (DeclarationRead th ts ks) (walk.declaration text member-counts w vars heap) (definition.declaration th x)
-    unfolding walk.declaration definition.declaration definition.listDue definition.headedDeclaration definition.atomDue headDue flatOne countsOne size number _>>=_
+    unfolding walk.declaration definition.declaration definition.listDue definition.headedDeclaration definition.atomDue headDue flatOne countsOne size number
+        _>>=_
     declaration-law (leaf bytes) vars r long s₀ s₁ enough =
         rw (atom-due text member-counts Before reads short th es 0 0 (atom-met text member-counts Before reads (r .walks))) (refuse refl)
     declaration-law (list []ₛ) vars r long s₀ s₁ enough =
@@ -174,7 +180,7 @@ module _ (text member-counts : List ℕ) (Before : Reader → Stream Token → T
     pub entries : Entries
     pub top : ℕ
     pub holds : Holds text (areas .1) entries top th
-    pub low : 1024 ≤ top
+    pub low : places.entries ≤ top
     pub high : top ≤ 11948
     pub long : length (areas .0) ≡ 16384
 
@@ -198,7 +204,8 @@ module _ (text member-counts : List ℕ) (Before : Reader → Stream Token → T
       let long-rest = longer x (flat xs end) in
       rw (m .met)
       (bind _ _
-      (knowing (declaration-law th es x vars record { walks = m .walks; holds = r .holds; above = r .above; base-low = r .base-low; room = r .room } long h₀ h₁ few))
+      (knowing (declaration-law th es x vars record { walks = m .walks; holds = r .holds; above = r .above; base-low = r .base-low; room = r .room } long h₀ h₁
+      few))
       (λ q areas th′ y.
       let t = y .0 .tallied in
       let u = one-total (tally th) (q .0) in

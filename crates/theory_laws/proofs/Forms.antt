@@ -10,7 +10,8 @@ use lib.ListN.{length}
 use Rattle.horn.specs.Refusals.{form, refused}
 use Rattle.horn.specs.Names.{Name, named, codes}
 use Rattle.horn.specs.NestedLists.{Sexp, Sexps, []ₛ, _∷ₛ_}
-use Rattle.horn.specs.Rulebook.{Theory, DeclarationWord, sortWord, ctorWord, predWord, ruleWord, otherDeclaration, declarationWord, declare, oneMember, twoMembers, threeMembers}
+use Rattle.horn.specs.Rulebook.{Theory, DeclarationWord, sortWord, ctorWord, predWord, ruleWord, otherDeclaration, declarationWord, declare, oneMember}
+use Rattle.horn.specs.Rulebook.{twoMembers, threeMembers}
 use Rattle.horn.proofs.Equality.{named-decides}
 use Rattle.sexp.specs.Flattening.{size}
 use Rattle.outcomes.specs.Outcomes.{pick}

@@ -13,6 +13,7 @@ use Rattle.names.specs.Tables.{Entry}
 use Rattle.names.proofs.Kept.{kept-within}
 use Rattle.names.proofs.Holds.{base-below}
 use Rattle.names.proofs.Declared.{stands-kept}
+use Rattle.items.specs.Places as places
 use Rattle.theory_laws.specs.Representation.{Entries, tableOf, SortAt, sort-at, OutputAt, sort-output, judgment-output}
 use Rattle.theory_laws.specs.Representation.{SortsAt, no-sorts, one-sort, SymbolAt, symbol-at, Nth}
 use Rattle.theory_laws.specs.Representation.{Flat, flat-variable, flat-symbol, Flats, no-flats, one-flat, FlatList, no-premises, one-premise}
@@ -30,7 +31,7 @@ grown-none = record { sorts = λ e m. m; constructors = λ e m. m; predicates = 
 
 -- The same words behind the buckets and below `top`.
 abbrev pub Kept : ℕ → List ℕ → List ℕ → Type 0
-Kept top heap heap′ = (i : ℕ) → 1024 ≤ i → i < top → getD heap′ i 0 ≡ getD heap i 0
+Kept top heap heap′ = (i : ℕ) → places.entries ≤ i → i < top → getD heap′ i 0 ≡ getD heap i 0
 
 module _ {es es′ : Entries} (g : Grown es es′) where
   pub sort-kept : {a : ℕ} {s : Name} → SortAt es a s → SortAt es′ a s

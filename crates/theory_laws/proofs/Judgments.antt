@@ -14,6 +14,7 @@ use Rattle.horn.specs.Rulebook.{judgment, Variable, Pattern, isPredicate, Theor
 use Rattle.lex.specs.declared.Reader.{Reader}
 use Rattle.sexp.specs.Flattening.{flatOne, flat, size, countsOne, countsAll}
 use Rattle.outcomes.specs.Outcomes as outcomes
+use Rattle.items.specs.Places as places
 use Rattle.items.specs.Items.{readOn, openedOne, listDue, headDue}
 use Rattle.patterns.specs.Patterns as walk
 use Rattle.leaves.specs.Leaves.{Areas}
@@ -22,25 +23,26 @@ use Rattle.outcomes.specs.Simulation.{Simulates, refuse, leave, bind, checked-a
 use Rattle.theory_laws.specs.Reading.{Reads, Shallow, shallow-list, Shallows, shallow-more}
 use Rattle.theory_laws.specs.Representation.{Entries, judgment-output, FlatList, no-premises, one-premise}
 use Rattle.theory_laws.proofs.Items.{AtomMet, atom-met, ListMet, list-met, closing-met}
-use Rattle.theory_laws.proofs.Frames.{keeps-all, keeps-then, grown-none, flat-kept}
-use Rattle.theory_laws.proofs.Ready.{Ready, Reached, PatternRead}
+use Rattle.theory_laws.proofs.Frames.{keeps-all}
+use Rattle.theory_laws.proofs.Ready.{Ready, Reached, PatternRead, reached-then, flat-then}
 use Rattle.theory_laws.proofs.Leaves.{applied-law, less-credit}
-use Rattle.theory_laws.proofs.Patterns.{size-count, after-atom, after-opening, after-closing, head-met, head-list, applied-arguments, ArgumentsLaw, arguments-law}
+use Rattle.theory_laws.proofs.Patterns.{size-count, after-atom, after-opening, after-closing, head-met, head-list, applied-arguments, ArgumentsLaw}
+use Rattle.theory_laws.proofs.Patterns.{arguments-law}
 
 module _ (text counted : List ℕ) (Before : Reader → Stream Token → Type 0) (reads : Reads text Before) (short : length text ≤ 8192)
     (th : Theory) (es : Entries) (base spare : ℕ) where
   abbrev pub Was : ℕ → Stream Token → List ℕ → List Variable → Walk → List ℕ → List ℕ → Type 0
   Was = Ready text counted Before th es base spare
 
-  abbrev pub Left : Stream Token → List ℕ → List Variable → ℕ → List ℕ → Walk → Areas → Pattern × List Variable → Type 0
-  Left = PatternRead text counted Before th es base spare
+  abbrev pub HasRead : Stream Token → List ℕ → List Variable → ℕ → List ℕ → Walk → Areas → Pattern × List Variable → Type 0
+  HasRead = PatternRead text counted Before th es base spare
 
   -- Inside a judgment's list.
   abbrev InsideLaw : Sexps → Type 0
   InsideLaw xs =
       (ts : Stream Token) (ks : List ℕ) (vs : List Variable) (w : Walk) (vars heap : List ℕ)
       → Was 0 (flatOne (list xs) ts) (countsOne (list xs) ks) vs w vars heap
-      → Simulates (Left ts ks vs (w .top) heap) (walk.judgment text counted w vars heap) (definition.judgmentMembers th xs vs)
+      → Simulates (HasRead ts ks vs (w .top) heap) (walk.judgment text counted w vars heap) (definition.judgmentMembers th xs vs)
 
   pub list-due : {k : ℕ} {ts : Stream Token} {ks : List ℕ} {w : Walk} (m : ListMet text counted Before reads k ts ks w)
       → listDue text counted w ≡ outcomes.ok (k, openedOne w (m .next))
@@ -67,7 +69,7 @@ module _ (text counted : List ℕ) (Before : Reader → Stream Token → Type 0)
   inside-atom name xs law ts ks vs w vars heap r =
       rw (list-due met, head-met text counted Before reads short th es base spare (size xs) head)
       (checked-aside vars (definition.predicate th name) (λ c. fits c judgment (count xs)) sortArity _ _
-      (applied-law text counted Before th es base spare 512 isPredicate name (head .s) (head .t) 0 (suc (size xs)) (count xs) judgment ready
+      (applied-law text counted Before th es base spare places.predicates isPredicate name (head .s) (head .t) 0 (suc (size xs)) (count xs) judgment ready
       (r .holds .predicates) (head .name) (ap suc (size-count xs)) (judgment-output refl))
       (applied-arguments text counted Before reads short th es base spare 257 xs judgment law refl refl ready)) where
         met : ListMet text counted Before reads (suc (size xs)) (atom name ▹ flat xs (closing ▹ ts)) (countsAll xs ks) w
@@ -79,7 +81,8 @@ module _ (text counted : List ℕ) (Before : Reader → Stream Token → Type 0)
         ready : Was 3 (flat xs (closing ▹ ts)) (countsAll xs ks) vs (readOn (openedOne w (met .next)) (head .next)) vars heap
         ready =
             less-credit text counted Before th es base spare
-            (after-atom text counted Before reads short th es base spare (after-opening text counted Before reads short th es base spare r met) head) 3 (omega arith)
+            (after-atom text counted Before reads short th es base spare (after-opening text counted Before reads short th es base spare r met) head) 3
+            (omega arith)
 
   inside-law : (xs : Sexps) → Shallows 257 xs → InsideLaw xs
   inside-law []ₛ s = inside-none
@@ -91,7 +94,7 @@ module _ (text counted : List ℕ) (Before : Reader → Stream Token → Type 0)
   JudgmentLaw x =
       (ts : Stream Token) (ks : List ℕ) (vs : List Variable) (w : Walk) (vars heap : List ℕ)
       → Was 0 (flatOne x ts) (countsOne x ks) vs w vars heap
-      → Simulates (Left ts ks vs (w .top) heap) (walk.judgment text counted w vars heap) (definition.judgmentPattern th x vs)
+      → Simulates (HasRead ts ks vs (w .top) heap) (walk.judgment text counted w vars heap) (definition.judgmentPattern th x vs)
 
   pub judgment-law : (x : Sexp) → Shallow 258 x → JudgmentLaw x
   unfolding walk.judgment definition.judgmentPattern definition.listDue flatOne countsOne number _>>=_
@@ -100,7 +103,8 @@ module _ (text counted : List ℕ) (Before : Reader → Stream Token → Type 0)
       let q : d ≡ 257 = omega arith in inside-law xs (rw q at s) ts ks vs w vars heap r
 
   -- "Premises left to right", then the closing.
-  pub record JudgmentsRead (n : ℕ) (ts : Stream Token) (ks : List ℕ) (vs : List Variable) (from : ℕ) (heap : List ℕ) (q : Walk) (areas : Areas) (r : List Pattern × List Variable) : Type 0 where
+  pub record JudgmentsRead (n : ℕ) (ts : Stream Token) (ks : List ℕ) (vs : List Variable) (from : ℕ) (heap : List ℕ) (q : Walk) (areas : Areas)
+      (r : List Pattern × List Variable) : Type 0 where
     pub reached : Reached text counted Before th es base spare ts ks vs from heap q areas (r .1)
     pub flats : FlatList (areas .1) es base (base + 7) (q .top) (r .1) from (r .0) (q .top)
     pub many : n ≡ length (r .0)
@@ -117,7 +121,8 @@ module _ (text counted : List ℕ) (Before : Reader → Stream Token → Type 0)
       let m = closing-met text counted Before reads (r .walks) in
       rw (m .met)
       (leave record {
-        reached = record { ready = after-closing text counted Before reads short th es base spare r m; keeps = keeps-all; rises = omega arith; more = λ v x n. n };
+        reached =
+            record { ready = after-closing text counted Before reads short th es base spare r m; keeps = keeps-all; rises = omega arith; more = λ v x n. n };
         flats = no-premises;
         many = refl;
       })
@@ -129,21 +134,13 @@ module _ (text counted : List ℕ) (Before : Reader → Stream Token → Type 0)
       (λ q areas p y.
       after (λ z. (p .0 ∷ z .0, z .1)) (law ts ks (p .1) q (areas .0) (areas .1) (y .reached .ready)) (λ q′ areas′ xs z. join y z)) where
         join : {q q′ : Walk} {areas areas′ : Areas} {p : Pattern × List Variable} {ps : List Pattern × List Variable}
-            → Left (flat xs (closing ▹ ts)) (countsAll xs ks) vs (w .top) heap q areas p
+            → HasRead (flat xs (closing ▹ ts)) (countsAll xs ks) vs (w .top) heap q areas p
             → JudgmentsRead (size xs) ts ks (p .1) (q .top) (areas .1) q′ areas′ ps
             → JudgmentsRead (suc (size xs)) ts ks vs (w .top) heap q′ areas′ (p .0 ∷ ps .0, ps .1)
-        join {q} {q′} y z =
-            let a = y .reached .rises in
-            let b = z .reached .rises in
-            let u = y .reached .ready .above in
+        join y z =
             record {
-              reached = record {
-                ready = z .reached .ready;
-                keeps = keeps-then a (y .reached .keeps) (z .reached .keeps);
-                rises = omega arith;
-                more = λ v e m. z .reached .more v e (y .reached .more v e m);
-              };
-              flats = one-premise (flat-kept grown-none (λ i g f. z .reached .keeps .words i (omega arith)) (omega arith) (λ i g f. z .reached .keeps .words i f) b (z .reached .more) (y .flat)) (z .flats);
+              reached = reached-then text counted Before th es base spare (y .reached) (z .reached);
+              flats = one-premise (flat-then text counted Before th es base spare (y .reached) (z .reached) (y .flat)) (z .flats);
               many = ap suc (z .many);
             }
 

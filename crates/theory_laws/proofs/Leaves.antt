@@ -20,22 +20,25 @@ use Rattle.horn.specs.Rulebook.{Output, sort, sameOutput, Symbol, Variable, var
 use Rattle.horn.proofs.Equality.{case, chose-true, chose-false}
 use Rattle.words.specs.Parts.{part}
 use Rattle.names.specs.Chains.{found}
-use Rattle.names.specs.Tables.{Entry}
+use Rattle.names.specs.Tables.{Entry, Agree, both-none, both-some}
 use Rattle.names.proofs.Declared.{find-agrees}
 use Rattle.names.proofs.Holds.{by-number}
 use Rattle.lex.specs.declared.Reader.{Reader}
 use Rattle.outcomes.specs.Leaving.{beside}
 use Rattle.words.specs.Sums.{sum32}
+use Rattle.items.specs.Places as places
 use Rattle.items.specs.Items.{withTop, pushed, question}
 use Rattle.leaves.specs.Leaves as walk
-use Rattle.leaves.specs.Leaves.{Areas, variableWord, withVariable, oneVariable, introduced, metAgain, variableAt, position, applied}
+use Rattle.leaves.specs.Leaves.{Areas, variableWord, withVariable, oneVariable, introduced, metAgain, variableAt, variableFrom, applied}
 use Rattle.items.specs.declared.Walk.{Walk}
 use Rattle.outcomes.specs.Simulation.{Simulates, leave, test, tests, look, checked, aside}
-use Rattle.theory_laws.specs.Representation.{Entries, SortAt, OutputAt, sort-output, SymbolAt, symbol-at, Nth, flat-variable, flat-symbol, no-flats, Declares, Holds}
+use Rattle.theory_laws.specs.Representation.{Entries, SortAt, OutputAt, sort-output, SymbolAt, symbol-at, Nth, flat-variable, flat-symbol, no-flats}
+use Rattle.theory_laws.specs.Representation.{Declares, Holds}
 use Rattle.words.proofs.Sums.{sum-small}
 use Rattle.theory_laws.proofs.Frames.{keeps-set, grown-none, symbol-kept, variables-kept}
-use Rattle.theory_laws.proofs.Ready.{Ready, PatternRead, push-ready, nth-more, nth-last, nth-below, variables-more}
-use Rattle.theory_laws.proofs.Lookups.{named-turned, part-question, part-length, bare-width, Located, nowhere, located, positions, same-sort, same-output}
+use Rattle.theory_laws.proofs.Ready.{Ready, PatternRead, push-ready, nth-more, nth-last, nth-below, variables-more, ready-on}
+use Rattle.theory_laws.proofs.Lookups.{named-turned, part-question, part-length, bare-width, Placed, placed, variables-from, same-sort}
+use Rattle.theory_laws.proofs.Lookups.{same-output}
 
 -- An atom as a term, by its first byte.
 question-pattern : (th : Theory) (name s : Name) (vs : List Variable) → questioned name ≡ true
@@ -84,8 +87,8 @@ module _ (text counts : List ℕ) (Before : Reader → Stream Token → Type 0) 
   abbrev pub Was : ℕ → Stream Token → List ℕ → List Variable → Walk → List ℕ → List ℕ → Type 0
   Was = Ready text counts Before th es base spare
 
-  abbrev pub Left : Stream Token → List ℕ → List Variable → ℕ → List ℕ → Walk → Areas → Pattern × List Variable → Type 0
-  Left = PatternRead text counts Before th es base spare
+  abbrev pub HasRead : Stream Token → List ℕ → List Variable → ℕ → List ℕ → Walk → Areas → Pattern × List Variable → Type 0
+  HasRead = PatternRead text counts Before th es base spare
 
   module _ {credit : ℕ} {ts : Stream Token} {ks : List ℕ} {vs : List Variable} {w : Walk} {vars heap : List ℕ} (r : Was credit ts ks vs w vars heap) where
     pub top-after : sum32 (w .top) 1 ≡ w .top + 1
@@ -95,31 +98,20 @@ module _ (text counts : List ℕ) (Before : Reader → Stream Token → Type 0) 
     word-there c word = let m = r .room in let l = r .holds .long in getD-set-same heap (w .top) word 0 (omega arith)
 
     pub less-credit : (c : ℕ) → c ≤ credit → Was c ts ks vs w vars heap
-    less-credit c h =
-        let m = r .room in
-        record {
-          walks = r .walks;
-          holds = r .holds;
-          above = r .above;
-          base-low = r .base-low;
-          many = r .many;
-          long = r .long;
-          variables = r .variables;
-          room = omega arith;
-        }
+    less-credit c h = ready-on text counts Before th es base spare r (r .walks) refl refl (omega arith)
 
   -- A variable that the rule has.
   again : {ts : Stream Token} {ks : List ℕ} {vs : List Variable} {w : Walk} {vars heap : List ℕ} (name : Name) (v : ℕ)
       → Was 3 ts ks vs w vars heap
       → Nth vs v name
       → v < 4294950912
-      → Left ts ks vs (w .top) heap (withTop w (sum32 (w .top) 1)) (vars, set heap (w .top) (variableWord v)) (var name, vs)
+      → HasRead ts ks vs (w .top) heap (withTop w (sum32 (w .top) 1)) (vars, set heap (w .top) (variableWord v)) (var name, vs)
   unfolding variableWord
   again {w} {heap} name v r n small =
       let e = top-after r in
       let b = r .base-low in
       let u = r .above in
-      let k : sum32 16384 v ≡ 16384 + v = sum-small 16384 v (omega arith) in
+      let k : sum32 places.variable v ≡ places.variable + v = sum-small places.variable v (omega arith) in
       record {
         reached = record {
           ready = push-ready text counts Before th es base spare _ r;
@@ -164,7 +156,7 @@ module _ (text counts : List ℕ) (Before : Reader → Stream Token → Type 0) 
       → s < 4294967296
       → t < 4294967296
       → SortAt es a sortName
-      → Simulates (Left ts ks vs (w .top) heap) (introduced s t a w vars heap) (ok (var name, vs ++ (variable name sortName ∷ [])))
+      → Simulates (HasRead ts ks vs (w .top) heap) (introduced s t a w vars heap) (ok (var name, vs ++ (variable name sortName ∷ [])))
   unfolding introduced pushed
   introduced-law {vs} {w} name sortName s t a r p hs ht m =
       let c = r .room in
@@ -187,24 +179,25 @@ module _ (text counts : List ℕ) (Before : Reader → Stream Token → Type 0) 
       → s < 4294967296
       → t < 4294967296
       → SortAt es a sortName
-      → Located vars es 0 vs name o o′
-      → Simulates (Left ts ks vs (w .top) heap) (variableAt o s t a w vars heap)
+      → Agree (Placed vars es 0 0 vs name) o o′
+      → Simulates (HasRead ts ks vs (w .top) heap) (variableAt o s t a w vars heap)
       (elim o′ [
         | none ↦ ok (var name, vs ++ (variable name sortName ∷ []))
         | some (variable n u) ↦ need (named sortName u) twoSorts >>= λ _. ok (var name, vs)
       ])
   unfolding metAgain pushed number
-  variable-law name sortName s t a r p hs ht m nowhere = introduced-law name sortName s t a r p hs ht m
-  variable-law {vs} {w} {vars} {heap} name sortName s t a r p hs ht m (located {v} {k} {n} {t = u} e x y) =
+  variable-law name sortName s t a r p hs ht m both-none = introduced-law name sortName s t a r p hs ht m
+  variable-law {vs} {w} {vars} {heap} name sortName s t a r p hs ht m (both-some {e = v} (placed {k} {s = u} e _ x y)) =
       let c = r .room in
       let q : v ≡ k = omega arith in
+      let z : 0 + 3 * v + 2 ≡ 3 * v + 2 = omega arith in
       let l = nth-below vs x in
       test (eqb (getD vars (3 * v + 2) 0) a) 14 twoSorts _ _
-      (same-sort (r .holds) y m ∙ named-turned u sortName) refl
+      (same-sort (r .holds) (rw z at y) m ∙ named-turned u sortName) refl
       (λ _. leave (again name v (less-credit r 3 (omega arith)) (rw q x) (omega arith)))
 
   -- "In a term, `?` alone is 11".
-  pub schematic-law : {ts : Stream Token} {ks : List ℕ} {vs : List Variable} {w : Walk} {vars heap : List ℕ} (name sortName : Name) (s t a : ℕ)
+  pub variable-pattern-law : {ts : Stream Token} {ks : List ℕ} {vs : List Variable} {w : Walk} {vars heap : List ℕ} (name sortName : Name) (s t a : ℕ)
       → length text ≤ 8192
       → Was (4 * suc (length name)) ts ks vs w vars heap
       → part s t text ≡ name
@@ -212,16 +205,16 @@ module _ (text counts : List ℕ) (Before : Reader → Stream Token → Type 0) 
       → t ≤ length text
       → questioned name ≡ true
       → SortAt es a sortName
-      → Simulates (Left ts ks vs (w .top) heap) (walk.schematic text s t a w vars heap) (definition.variablePattern name sortName vs)
-  unfolding walk.schematic definition.variablePattern number position
-  schematic-law {vs} {w} {vars} name sortName s t a short r p l u q m =
+      → Simulates (HasRead ts ks vs (w .top) heap) (walk.variablePattern text s t a w vars heap) (definition.variablePattern name sortName vs)
+  unfolding walk.variablePattern definition.variablePattern number
+  variable-pattern-law {vs} {w} {vars} name sortName s t a short r p l u q m =
       let n : length name ≡ t - s = ap length (sym p) ∙ part-length s t text u in
       let b = bare-width name (t - s) q n in
       test (not (eqb (t - s) 1)) 11 variableName _ _ (ap not (sym b)) refl
       (λ e.
       let d = eqb-false (t - s) 1 (sym b ∙ not-true _ e) in
-      let k : Located vars es 0 vs name (position text vars (w .variables) s t) (first (isVariable name) vs) =
-      rw (r .many, p) (positions text vars name 0 (omega arith) (r .variables)) in
+      let k : Agree (Placed vars es 0 0 vs name) (variableFrom (w .variables) vars text 0 (part s t text) 0) (first (isVariable name) vs) =
+      rw (r .many, p) (variables-from text vars 0 name 0 (omega arith) (r .variables)) in
       variable-law name sortName s t a (less-credit r 12 (omega arith)) p (omega arith) (omega arith) m k)
 
   -- The tests of a symbol's output and number of inputs are the definition's.
@@ -239,7 +232,8 @@ module _ (text counts : List ℕ) (Before : Reader → Stream Token → Type 0) 
             (λ q. ne-eqb (length ins + 1) (suc n) (λ u. q (omega arith)) ∙ sym (ne-eqb (length ins) n q))
 
   -- A symbol found, with its output and its number of inputs.
-  pub data Applied (ts : Stream Token) (ks : List ℕ) (vs : List Variable) (w : Walk) (vars heap : List ℕ) (expected : Output) (n : ℕ) : ℕ × Walk → List ℕ → Symbol → Type 0 where
+  pub data Applied (ts : Stream Token) (ks : List ℕ) (vs : List Variable) (w : Walk) (vars heap : List ℕ) (expected : Output) (n : ℕ) : ℕ × Walk → List ℕ
+      → Symbol → Type 0 where
     applied-at : {e : ℕ} {c : Symbol} {heap′ : List ℕ} → SymbolAt heap es base e c → fits c expected n ≡ true → heap′ ≡ set heap (w .top) e
         → Applied ts ks vs w vars heap expected n (e, withTop w (sum32 (w .top) 1)) heap′ c
 
@@ -280,16 +274,16 @@ module _ (text counts : List ℕ) (Before : Reader → Stream Token → Type 0) 
       → Was 3 ts ks vs w vars heap
       → part s t text ≡ name
       → SortAt es a sortName
-      → Simulates (Left ts ks vs (w .top) heap) (beside vars (walk.constant text s t a w heap)) (definition.constantPattern th name sortName vs)
+      → Simulates (HasRead ts ks vs (w .top) heap) (beside vars (walk.constant text s t a w heap)) (definition.constantPattern th name sortName vs)
   unfolding walk.constant definition.constantPattern definition.constructor
   constant-law {ts} {ks} {vs} {w} {vars} {heap} name sortName s t a r p m =
-      aside {Q = λ q heap″ y. Left ts ks vs (w .top) heap q (vars, heap″) y} vars
+      aside {Q = λ q heap″ y. HasRead ts ks vs (w .top) heap q (vars, heap″) y} vars
       (checked _ (λ c. fits c (sort sortName) 0) sortArity _ (λ c. ok (app c []ₚ, vs))
-      (applied-law 256 isConstructor name s t a 1 0 (sort sortName) r (r .holds .constructors) p (omega arith) (sort-output m))
+      (applied-law places.constructors isConstructor name s t a 1 0 (sort sortName) r (r .holds .constructors) p (omega arith) (sort-output m))
       (λ x heap′ c k. leave (done x heap′ c k)))
       (λ q heap′ y k. k) where
         done : (x : ℕ × Walk) (heap′ : List ℕ) (c : Symbol) → Applied ts ks vs w vars heap (sort sortName) 0 x heap′ c
-            → Left ts ks vs (w .top) heap (x .1) (vars, heap′) (app c []ₚ, vs)
+            → HasRead ts ks vs (w .top) heap (x .1) (vars, heap′) (app c []ₚ, vs)
         done x heap′ c (applied-at {e} y f q) =
             rw q
             record {
@@ -310,10 +304,10 @@ module _ (text counts : List ℕ) (Before : Reader → Stream Token → Type 0) 
       → s < t
       → t ≤ length text
       → SortAt es a sortName
-      → Simulates (Left ts ks vs (w .top) heap) (walk.leaf text s t a w vars heap) (definition.pattern th (leaf name) sortName vs)
+      → Simulates (HasRead ts ks vs (w .top) heap) (walk.leaf text s t a w vars heap) (definition.pattern th (leaf name) sortName vs)
   unfolding walk.leaf
   leaf-law {vs} name sortName s t a short r p l u m =
       let q : question text s ≡ questioned name = sym (part-question s t text l u) ∙ ap questioned p in
       case (questioned name)
-      (λ k. rw (q, k, question-pattern th name sortName vs k) (schematic-law name sortName s t a short r p l u k m))
+      (λ k. rw (q, k, question-pattern th name sortName vs k) (variable-pattern-law name sortName s t a short r p l u k m))
       (λ k. rw (q, k, plain-pattern th name sortName vs k) (constant-law name sortName s t a (less-credit r 3 (omega arith)) p m))

@@ -2,7 +2,7 @@
 use mathlib.Core.Path.{_≡_, ap, sym, _∙_}
 use mathlib.Core.Bool.{true, true≢false}
 use mathlib.Core.List.{List, [], _∷_}
-use mathlib.Core.Option.{Option, none, some}
+use mathlib.Core.Option.{Option}
 use Prim.Native.Nat.{ℕ, zero, suc, _+_, _*_, _-_, _≤_, _<_}
 use native.Mathlib.Omega.{arith}
 use borrow.Author.Tests.{eq-eqb, ne-eqb}
@@ -16,13 +16,15 @@ use Rattle.horn.proofs.Inversion.{some-equal}
 use Rattle.words.specs.Parts.{part, sameBytes}
 use Rattle.facts.proofs.Comparing.{same-named}
 use Rattle.names.specs.Chains.{nameAt}
-use Rattle.names.specs.Tables.{lookup}
+use Rattle.names.specs.Tables.{lookup, Agree, both-none, both-some}
 use Rattle.names.proofs.Holds.{by-name}
 use Rattle.names.proofs.Kept.{member-named, member-bounds}
 use Rattle.names.proofs.Declared.{lookup-member, stands-distinct}
+use Rattle.items.specs.Places as places
 use Rattle.items.specs.Items.{question}
-use Rattle.leaves.specs.Leaves.{variableName, positionFrom}
-use Rattle.theory_laws.specs.Representation.{Entries, SortAt, sort-at, OutputAt, sort-output, judgment-output, Nth, here, there, VariablesAt, no-variables, one-variable, Holds}
+use Rattle.leaves.specs.Leaves.{nameOfVariable, variableFrom}
+use Rattle.theory_laws.specs.Representation.{Entries, SortAt, sort-at, OutputAt, sort-output, judgment-output, Nth, here, there, VariablesAt}
+use Rattle.theory_laws.specs.Representation.{no-variables, one-variable, Holds}
 
 pub named-turned : (a b : Name) → named a b ≡ named b a
 named-turned a b =
@@ -48,43 +50,44 @@ bare-width [] n q e = absurd (true≢false (sym q))
 bare-width (b ∷ []) n q e = rw (q, sameList) (sym (eq-eqb n 1 (omega arith)))
 bare-width (b ∷ c ∷ cs) n q e = rw (q, sameList) (sym (ne-eqb n 1 (λ h. omega arith)))
 
--- A variable of the rule by its bytes.
-pub data Located (vars : List ℕ) (es : Entries) (i : ℕ) (us : List Variable) (key : Name) : Option ℕ → Option Variable → Type 0 where
-  nowhere : Located vars es i us key none none
-  located : {v k : ℕ} {n t : Name} → v ≡ i + k → Nth us k key → SortAt es (getD vars (3 * v + 2) 0) t → Located vars es i us key (some v) (some (variable n t))
+-- A variable of the rule by its bytes, the words of its variables standing from `place` on: v is its number.
+pub data Placed (area : List ℕ) (es : Entries) (place i : ℕ) (us : List Variable) (key : Name) (v : ℕ) : Variable → Type 0 where
+  placed : {k : ℕ} {name s : Name} → v ≡ i + k → name ≡ key → Nth us k key → SortAt es (getD area (place + 3 * v + 2) 0) s
+      → Placed area es place i us key v (variable name s)
 
-located-later : {vars : List ℕ} {es : Entries} {i : ℕ} {u : Variable} {us : List Variable} {key : Name} {o : Option ℕ} {p : Option Variable}
-    → Located vars es (i + 1) us key o p
-    → Located vars es i (u ∷ us) key o p
-located-later nowhere = nowhere
-located-later (located {v} {k} e n a) = located {v = v} {k = suc k} (omega arith) (there n) a
+placed-later : {area : List ℕ} {es : Entries} {place i : ℕ} {u : Variable} {us : List Variable} {key : Name} {o : Option ℕ} {p : Option Variable}
+    → Agree (Placed area es place (i + 1) us key) o p
+    → Agree (Placed area es place i (u ∷ us) key) o p
+placed-later both-none = both-none
+placed-later (both-some {e = v} (placed {k} e q n a)) = both-some {e = v} (placed {k = suc k} (omega arith) q (there n) a)
 
-module _ (text vars : List ℕ) (key : Name) where
-  variable-same : (i o : ℕ) (name s : Name) → o ≡ 3 * i → part (getD vars o 0) (getD vars (o + 1) 0) text ≡ name
-      → sameBytes (variableName text vars i) key ≡ isVariable key (variable name s)
-  unfolding variableName isVariable
-  variable-same i o name s e n = same-named _ _ ∙ rw (← e, n) (named-turned name key)
+module _ (text area : List ℕ) (place : ℕ) (key : Name) where
+  name-same : (i o : ℕ) (name s : Name) → o ≡ place + 3 * i → part (getD area o 0) (getD area (o + 1) 0) text ≡ name
+      → sameBytes (nameOfVariable area text place i) key ≡ isVariable key (variable name s)
+  unfolding nameOfVariable isVariable
+  name-same i o name s e n = same-named _ _ ∙ rw (← e, n) (named-turned name key)
 
-  variable-here : (name s : Name) (vs : List Variable) → isVariable key (variable name s) ≡ true → Nth (variable name s ∷ vs) 0 key
+  name-equal : (name s : Name) → isVariable key (variable name s) ≡ true → key ≡ name
   unfolding isVariable
-  variable-here name s vs q = rw (named-decides .equal key name q) here
+  name-equal name s q = named-decides .equal key name q
 
-  pub positions : {es : Entries} {o : ℕ} {us : List Variable} (i : ℕ) → o ≡ 3 * i → VariablesAt text vars es o us
-      → Located vars es i us key (positionFrom (length us) text vars key i) (first (isVariable key) us)
-  unfolding positionFrom first
-  positions i e no-variables = nowhere
-  positions {o} i e (one-variable {name} {s} {vs} n a r) =
+  pub variables-from : {es : Entries} {o : ℕ} {us : List Variable} (i : ℕ) → o ≡ place + 3 * i → VariablesAt text area es o us
+      → Agree (Placed area es place i us key) (variableFrom (length us) area text place key i) (first (isVariable key) us)
+  unfolding variableFrom first
+  variables-from i e no-variables = both-none
+  variables-from {o} i e (one-variable {name} {s} {vs} n a r) =
       case (isVariable key (variable name s))
       (λ q.
-      rw (variable-same i o name s e n, q, positionFrom, first)
-      (located {v = i} {k = 0} {n = name} {t = s} (omega arith) (variable-here name s vs q) (rw (← e) a)))
+      let k = name-equal name s q in
+      rw (name-same i o name s e n, q, variableFrom, first)
+      (both-some {e = i} (placed {k = 0} {name = name} {s = s} (omega arith) (sym k) (rw k here) (rw (← e) a))))
       (λ q.
-      rw (variable-same i o name s e n, q, positionFrom, first)
-      (located-later (positions (i + 1) (omega arith) r)))
+      rw (name-same i o name s e n, q, variableFrom, first)
+      (placed-later (variables-from (i + 1) (omega arith) r)))
 
 -- Equal addresses of sorts are equal sorts.
 module _ {text heap : List ℕ} {es : Entries} {top : ℕ} {th : Theory} (h : Holds text heap es top th) where
-  pub sort-low : {a : ℕ} {s : Name} → SortAt es a s → 1024 ≤ a
+  pub sort-low : {a : ℕ} {s : Name} → SortAt es a s → places.entries ≤ a
   sort-low (sort-at m) = member-bounds (h .sorts .table .chain) m .0
 
   pub same-sort : {a b : ℕ} {s t : Name} → SortAt es a s → SortAt es b t → eqb a b ≡ named s t

@@ -23,6 +23,7 @@ use Rattle.outcomes.specs.Outcomes as outcomes
 use Rattle.outcomes.specs.Leaving as leaving
 use Rattle.outcomes.specs.Leaving.{_leaving_}
 use Rattle.words.specs.Sums.{sum32}
+use Rattle.items.specs.Places as places
 use Rattle.items.specs.Items.{readOn, withTop, pushed, atomDue, declaredName}
 use Rattle.items.specs.declared.Walk.{Walk}
 use Rattle.symbols.specs.Symbols.{sortFrom, sortNamed, inputs}
@@ -93,7 +94,7 @@ module _ (text counted : List ℕ) (Before : Reader → Stream Token → Type 0)
       pub walks : Walks text counted Before ts ks w
       pub holds : Holds text heap es base th
       pub above : base ≤ w .top
-      pub base-low : 1024 ≤ base
+      pub base-low : places.entries ≤ base
       pub room : 3 * w .top + 4 * weight ts + credit ≤ 35844
 
     pub record InputsRead (n : ℕ) (ts : Stream Token) (ks : List ℕ) (from : ℕ) (heap : List ℕ) (q : Walk) (heap′ : List ℕ) (ins : List Name) : Type 0 where
@@ -131,7 +132,8 @@ module _ (text counted : List ℕ) (Before : Reader → Stream Token → Type 0)
           us : Stream Token
           us = flat xs (closing ▹ ts)
 
-          join : (a : ℕ) (name : Name) (next : Reader) → SortAt es a name → 2 + weight us ≤ weight (flatOne x us) → {q : Walk} {heap′ : List ℕ} {ins : List Name}
+          join : (a : ℕ) (name : Name) (next : Reader) → SortAt es a name → 2 + weight us ≤ weight (flatOne x us)
+              → {q : Walk} {heap′ : List ℕ} {ins : List Name}
               → InputsRead (size xs) ts ks (sum32 (w .top) 1) (set heap (w .top) a) q heap′ ins
               → InputsRead (suc (size xs)) ts ks (w .top) heap q heap′ (name ∷ ins)
           join a name next m h {q} {heap′} {ins} k =

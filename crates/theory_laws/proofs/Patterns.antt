@@ -13,12 +13,14 @@ use Rattle.horn.specs.Names.{Name, isZero}
 use Rattle.horn.specs.Tokens.{Stream, _▹_, Token, opening, closing, atom}
 use Rattle.horn.specs.NestedLists.{Sexp, leaf, list, Sexps, []ₛ, _∷ₛ_}
 use Rattle.horn.specs.Rulebook as definition
-use Rattle.horn.specs.Rulebook.{Output, sort, sameOutput, Symbol, symbol, Variable, Pattern, app, Patterns, []ₚ, _∷ₚ_, isConstructor, Theory, fits, count, inputs}
+use Rattle.horn.specs.Rulebook.{Output, sort, sameOutput, Symbol, symbol, Variable, Pattern, app, Patterns, []ₚ, _∷ₚ_, isConstructor, Theory, fits, count}
+use Rattle.horn.specs.Rulebook.{inputs}
 use Rattle.horn.proofs.Equality.{both}
 use Rattle.lex.specs.declared.Reader.{Reader}
 use Rattle.sexp.specs.Flattening.{flatOne, flat, size, countsOne, countsAll}
 use Rattle.outcomes.specs.Outcomes as outcomes
 use Rattle.outcomes.specs.Leaving.{Did, _leaving_}
+use Rattle.items.specs.Places as places
 use Rattle.items.specs.Items as items
 use Rattle.words.specs.Sums.{sum32}
 use Rattle.items.specs.Items.{readOn, openedOne, withTop, atomDue, headDue, closingDue}
@@ -30,8 +32,8 @@ use Rattle.outcomes.specs.Simulation.{Simulates, refuse, leave, bind, test, tes
 use Rattle.theory_laws.specs.Reading.{Reads, weight, Shallow, shallow-leaf, shallow-list, Shallows, shallow-more}
 use Rattle.theory_laws.specs.Representation.{Entries, SortAt, SortsAt, one-sort, sort-output, symbol-at, flat-symbol, Flats, no-flats, one-flat}
 use Rattle.theory_laws.proofs.Items.{AtomMet, atom-met, ListMet, list-met, ClosingMet, closing-met}
-use Rattle.theory_laws.proofs.Frames.{Keeps, keeps-all, keeps-then, keeps-set, grown-none, sorts-kept, symbol-kept, flat-kept}
-use Rattle.theory_laws.proofs.Ready.{Ready, Reached, PatternRead, push-ready}
+use Rattle.theory_laws.proofs.Frames.{Keeps, keeps-all, keeps-then, keeps-set, grown-none, sorts-kept, symbol-kept}
+use Rattle.theory_laws.proofs.Ready.{Ready, Reached, PatternRead, push-ready, ready-on, reached-then, flat-then}
 use Rattle.theory_laws.proofs.Leaves.{Applied, applied-at, applied-law, leaf-law, less-credit, symbol-word, low-top, top-rises, top-after}
 
 -- The number of members, in the words of both.
@@ -50,8 +52,8 @@ module _ (text counted : List ℕ) (Before : Reader → Stream Token → Type 0)
   abbrev pub Was : ℕ → Stream Token → List ℕ → List Variable → Walk → List ℕ → List ℕ → Type 0
   Was = Ready text counted Before th es base spare
 
-  abbrev pub Left : Stream Token → List ℕ → List Variable → ℕ → List ℕ → Walk → Areas → Pattern × List Variable → Type 0
-  Left = PatternRead text counted Before th es base spare
+  abbrev pub HasRead : Stream Token → List ℕ → List Variable → ℕ → List ℕ → Walk → Areas → Pattern × List Variable → Type 0
+  HasRead = PatternRead text counted Before th es base spare
 
   -- After a token.
   pub after-atom : {bytes : List ℕ} {ts : Stream Token} {ks : List ℕ} {vs : List Variable} {w : Walk} {vars heap : List ℕ}
@@ -59,57 +61,25 @@ module _ (text counted : List ℕ) (Before : Reader → Stream Token → Type 0)
       → (m : AtomMet text counted Before reads bytes ts ks w)
       → Was (4 * suc (length bytes)) ts ks vs (readOn w (m .next)) vars heap
   unfolding weight
-  after-atom r m =
-      let c = r .room in
-      record {
-        walks = m .walks;
-        holds = r .holds;
-        above = r .above;
-        base-low = r .base-low;
-        many = r .many;
-        long = r .long;
-        variables = r .variables;
-        room = omega arith;
-      }
+  after-atom r m = ready-on text counted Before th es base spare r (m .walks) refl refl (omega arith)
 
   pub after-opening : {k : ℕ} {ts : Stream Token} {ks : List ℕ} {vs : List Variable} {w : Walk} {vars heap : List ℕ}
       → Was 0 (opening ▹ ts) (k ∷ ks) vs w vars heap
       → (m : ListMet text counted Before reads k ts ks w)
       → Was 0 ts ks vs (openedOne w (m .next)) vars heap
   unfolding weight
-  after-opening r m =
-      let c = r .room in
-      record {
-        walks = m .walks;
-        holds = r .holds;
-        above = r .above;
-        base-low = r .base-low;
-        many = r .many;
-        long = r .long;
-        variables = r .variables;
-        room = omega arith;
-      }
+  after-opening r m = ready-on text counted Before th es base spare r (m .walks) refl refl (omega arith)
 
   pub after-closing : {ts : Stream Token} {ks : List ℕ} {vs : List Variable} {w : Walk} {vars heap : List ℕ}
       → Was 0 (closing ▹ ts) ks vs w vars heap
       → (m : ClosingMet text counted Before reads ts ks w)
       → Was 0 ts ks vs (readOn w (m .next)) vars heap
   unfolding weight
-  after-closing r m =
-      let c = r .room in
-      record {
-        walks = m .walks;
-        holds = r .holds;
-        above = r .above;
-        base-low = r .base-low;
-        many = r .many;
-        long = r .long;
-        variables = r .variables;
-        room = omega arith;
-      }
+  after-closing r m = ready-on text counted Before th es base spare r (m .walks) refl refl (omega arith)
 
   -- What reading arguments leaves.
-  pub record ArgumentsRead (ts : Stream Token) (ks : List ℕ) (vs : List Variable) (from : ℕ) (heap : List ℕ) (q : Walk) (areas : Areas) (r : Patterns × List Variable) : Type 0 where
+  pub record ArgumentsRead (ts : Stream Token) (ks : List ℕ) (vs : List Variable) (from : ℕ) (heap : List ℕ) (q : Walk) (areas : Areas)
+      (r : Patterns × List Variable) : Type 0 where
     pub reached : Reached text counted Before th es base spare ts ks vs from heap q areas (r .1)
     pub flats : Flats (areas .1) es base (base + 7) (q .top) (r .1) from (r .0) (q .top)
 
@@ -128,7 +98,7 @@ module _ (text counted : List ℕ) (Before : Reader → Stream Token → Type 0)
   -- One argument and the others.
   more-arguments : {ts us : Stream Token} {ks ls : List ℕ} {vs : List Variable} {w : Walk} {vars heap : List ℕ}
       (read : ℕ → Walk → List ℕ → List ℕ → Did Areas Walk) (n c k : ℕ) (p : definition.Read Pattern) (ps : List Variable → definition.Read Patterns)
-      → Simulates (Left us ls vs (w .top) heap) (read (getD heap (c + 5 + k) 0) w vars heap) p
+      → Simulates (HasRead us ls vs (w .top) heap) (read (getD heap (c + 5 + k) 0) w vars heap) p
       → ((q : Walk) (vars′ heap′ : List ℕ) (vs′ : List Variable) → Was 0 us ls vs′ q vars′ heap′ → Keeps (w .top) heap heap′
       → Simulates (ArgumentsRead ts ks vs′ (q .top) heap′) (argumentsFrom read n text c (k + 1) q vars′ heap′) (ps vs′))
       → Simulates (ArgumentsRead ts ks vs (w .top) heap) (argumentsFrom read (suc n) text c k w vars heap)
@@ -137,24 +107,16 @@ module _ (text counted : List ℕ) (Before : Reader → Stream Token → Type 0)
   more-arguments {ts} {us} {ks} {ls} {vs} {w} {vars} {heap} read n c k p ps h more =
       bind _ _ h (λ q areas x y. by q areas x y (more q (areas .0) (areas .1) (x .1) (y .reached .ready) (y .reached .keeps))) where
         join : {q q′ : Walk} {areas areas′ : Areas} {x : Pattern × List Variable} {xs : Patterns × List Variable}
-            → Left us ls vs (w .top) heap q areas x
+            → HasRead us ls vs (w .top) heap q areas x
             → ArgumentsRead ts ks (x .1) (q .top) (areas .1) q′ areas′ xs
             → ArgumentsRead ts ks vs (w .top) heap q′ areas′ (x .0 ∷ₚ xs .0, xs .1)
-        join {q} {q′} y z =
-            let a = y .reached .rises in
-            let b = z .reached .rises in
-            let u = y .reached .ready .above in
+        join y z =
             record {
-              reached = record {
-                ready = z .reached .ready;
-                keeps = keeps-then a (y .reached .keeps) (z .reached .keeps);
-                rises = omega arith;
-                more = λ v e m. z .reached .more v e (y .reached .more v e m);
-              };
-              flats = one-flat (flat-kept grown-none (λ i g f. z .reached .keeps .words i (omega arith)) (omega arith) (λ i g f. z .reached .keeps .words i f) b (z .reached .more) (y .flat)) (z .flats);
+              reached = reached-then text counted Before th es base spare (y .reached) (z .reached);
+              flats = one-flat (flat-then text counted Before th es base spare (y .reached) (z .reached) (y .flat)) (z .flats);
             }
 
-        by : (q : Walk) (areas : Areas) (x : Pattern × List Variable) (y : Left us ls vs (w .top) heap q areas x)
+        by : (q : Walk) (areas : Areas) (x : Pattern × List Variable) (y : HasRead us ls vs (w .top) heap q areas x)
             → Simulates (ArgumentsRead ts ks (x .1) (q .top) (areas .1)) (argumentsFrom read n text c (k + 1) q (areas .0) (areas .1)) (ps (x .1))
             → Simulates (ArgumentsRead ts ks vs (w .top) heap) (argumentsFrom read n text c (k + 1) q (areas .0) (areas .1))
             (ps (x .1) >>= λ (xs, ws). ok (x .0 ∷ₚ xs, ws))
@@ -166,14 +128,14 @@ module _ (text counted : List ℕ) (Before : Reader → Stream Token → Type 0)
       (sortName : Name) (a : ℕ) (ts : Stream Token) (ks : List ℕ) (vs : List Variable) (w : Walk) (vars heap : List ℕ)
       → SortAt es a sortName
       → Was 0 (flatOne x ts) (countsOne x ks) vs w vars heap
-      → Simulates (Left ts ks vs (w .top) heap) (walk.pattern left text counted a w vars heap) (definition.pattern th x sortName vs)
+      → Simulates (HasRead ts ks vs (w .top) heap) (walk.pattern left text counted a w vars heap) (definition.pattern th x sortName vs)
 
   abbrev CompoundLaw : ℕ → Sexps → Type 0
   CompoundLaw left xs =
       (sortName : Name) (a : ℕ) (ts : Stream Token) (ks : List ℕ) (vs : List Variable) (w : Walk) (vars heap : List ℕ)
       → SortAt es a sortName
       → Was 0 (flat xs (closing ▹ ts)) (countsAll xs ks) vs w vars heap
-      → Simulates (Left ts ks vs (w .top) heap) (walk.patternOf (walk.pattern left text counted) text counted a (items.list (size xs) w) vars heap)
+      → Simulates (HasRead ts ks vs (w .top) heap) (walk.patternOf (walk.pattern left text counted) text counted a (items.list (size xs) w) vars heap)
       (definition.compoundPattern th xs sortName vs)
 
   abbrev pub ArgumentsLaw : ℕ → Sexps → Type 0
@@ -181,7 +143,7 @@ module _ (text counted : List ℕ) (Before : Reader → Stream Token → Type 0)
       (ins : List Name) (o c k : ℕ) (ts : Stream Token) (ks : List ℕ) (vs : List Variable) (w : Walk) (vars heap : List ℕ)
       → o ≡ c + 5 + k
       → count xs ≡ length ins
-      → 1024 ≤ o
+      → places.entries ≤ o
       → o + length ins ≤ base
       → SortsAt heap es o ins
       → Was 0 (flat xs (closing ▹ ts)) (countsAll xs ks) vs w vars heap
@@ -204,14 +166,15 @@ module _ (text counted : List ℕ) (Before : Reader → Stream Token → Type 0)
   fits-count name ins out expected n e = sym (eqb-true (length ins) n (both (sameOutput out expected) (eqb (length ins) n) e .1))
 
   -- A symbol put before its arguments.
-  pub applied-arguments : {ts us : Stream Token} {ks ls : List ℕ} {vs : List Variable} {w : Walk} {vars heap : List ℕ} (left : ℕ) (xs : Sexps) (expected : Output)
+  pub applied-arguments : {ts us : Stream Token} {ks ls : List ℕ} {vs : List Variable} {w : Walk} {vars heap : List ℕ} (left : ℕ) (xs : Sexps)
+      (expected : Output)
       → ArgumentsLaw left xs
       → us ≡ flat xs (closing ▹ ts)
       → ls ≡ countsAll xs ks
       → Was 3 us ls vs w vars heap
       → (x : ℕ × Walk) (heap′ : List ℕ) (c : Symbol)
       → Applied text counted Before th es base spare us ls vs w vars heap expected (count xs) x heap′ c
-      → Simulates (Left ts ks vs (w .top) heap)
+      → Simulates (HasRead ts ks vs (w .top) heap)
       (argumentsFrom (walk.pattern left text counted) (getD heap′ (x .0 + 4) 0) text (x .0) 0 (x .1) vars heap′)
       (definition.patterns th xs (inputs c) vs >>= λ (ps, ws). ok (app c ps, ws))
   unfolding inputs
@@ -244,7 +207,7 @@ module _ (text counted : List ℕ) (Before : Reader → Stream Token → Type 0)
             ready
 
         join : {q′ : Walk} {areas : Areas} {v : Patterns × List Variable} → ArgumentsRead ts ks vs (sum32 (w .top) 1) new q′ areas v
-            → Left ts ks vs (w .top) heap q′ areas (app (symbol name ins out) (v .0), v .1)
+            → HasRead ts ks vs (w .top) heap q′ areas (app (symbol name ins out) (v .0), v .1)
         join {q′} {areas} {v} k =
             let t = top-rises text counted Before th es base spare r e in
             let a = k .reached .rises in
@@ -256,9 +219,11 @@ module _ (text counted : List ℕ) (Before : Reader → Stream Token → Type 0)
                 rises = omega arith;
                 more = k .reached .more;
               };
-              flat = flat-symbol {o = w .top} {o′ = q′ .top} {c = symbol name ins out} {ps = v .0} (low-top text counted Before th es base spare r e) (omega arith)
+              flat =
+                  flat-symbol {o = w .top} {o′ = q′ .top} {c = symbol name ins out} {ps = v .0} (low-top text counted Before th es base spare r e) (omega arith)
                   (rw (k .reached .keeps .words (w .top) t)
-                  (symbol-kept grown-none (λ i g h. k .reached .keeps .words i (omega arith)) (omega arith) (symbol-word text counted Before th es base spare r e (symbol-at y))))
+                  (symbol-kept grown-none (λ i g h. k .reached .keeps .words i (omega arith)) (omega arith)
+                  (symbol-word text counted Before th es base spare r e (symbol-at y))))
                   (rw (← top-after text counted Before th es base spare r) (k .flats));
             }
 
@@ -269,12 +234,14 @@ module _ (text counted : List ℕ) (Before : Reader → Stream Token → Type 0)
       → Was 3 ts ks vs (readOn w (met .next)) vars heap
       → Simulates (Applied text counted Before th es base spare ts ks vs (readOn w (met .next)) vars heap (sort sortName) (count xs))
       (compoundHead text counted a (suc (size xs)) w heap)
-      (need (not (isZero (count xs))) bracketedConstant >>= λ _. definition.constructor th name >>= λ c. need (fits c (sort sortName) (count xs)) sortArity >>= λ _. ok c)
+      (need (not (isZero (count xs))) bracketedConstant >>= λ _. definition.constructor th name >>= λ c. need (fits c (sort sortName) (count xs)) sortArity
+      >>= λ _. ok c)
   unfolding compoundHead definition.constructor number
   compound-head name sortName a xs met m r =
       rw (head-met (size xs) met)
       (test (not (eqb (suc (size xs)) 1)) 16 bracketedConstant _ _ (ap not (alone xs)) refl
-      (λ _. applied-law text counted Before th es base spare 256 isConstructor name (met .s) (met .t) a (suc (size xs)) (count xs) (sort sortName) r
+      (λ _. applied-law text counted Before th es base spare places.constructors isConstructor name (met .s) (met .t) a (suc (size xs)) (count xs)
+      (sort sortName) r
       (r .holds .constructors) (met .name) (ap suc (size-count xs)) (sort-output m)))
 
   compound-atom : (left : ℕ) (name : Name) (xs : Sexps) → ArgumentsLaw left xs → CompoundLaw left (leaf name ∷ₛ xs)

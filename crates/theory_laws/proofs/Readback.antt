@@ -15,6 +15,7 @@ use Rattle.names.specs.Tables.{entry}
 use Rattle.names.proofs.Holds.{by-number}
 use Rattle.names.proofs.Kept.{member-named}
 use Rattle.names.proofs.Declared.{lookup-member, stands-distinct}
+use Rattle.items.specs.Places as places
 use Rattle.theory_laws.specs.Representation.{Entries, tableOf, SortAt, OutputAt, SortsAt, no-sorts, one-sort, SymbolAt, symbol-at}
 use Rattle.theory_laws.specs.Representation.{Holds}
 use Rattle.theory_laws.proofs.Lookups.{same-sort, same-output}
@@ -46,15 +47,9 @@ module _ {text heap : List ℕ} {es : Entries} {top : ℕ} {th : Theory} (h : Ho
       by : {d : Symbol} → SymbolAt heap es top a d → getD heap (a + 4) 0 ≡ length (inputs d)
       by (symbol-at w) = w .arity
 
-    pub symbol-input : (i : ℕ) → i < length (inputs c) → SortAt es (getD heap (a + 5 + i) 0) (getD (inputs c) i [])
-    unfolding inputs
-    symbol-input = by x where
-      by : {d : Symbol} → SymbolAt heap es top a d → (i : ℕ) → i < length (inputs d) → SortAt es (getD heap (a + 5 + i) 0) (getD (inputs d) i [])
-      by (symbol-at w) i l = sort-there (w .takes) i l
-
-    pub symbol-below : (1024 ≤ a) × (a + 5 ≤ top)
+    pub symbol-below : (places.entries ≤ a) × (a + 5 ≤ top)
     symbol-below = by x where
-      by : {d : Symbol} → SymbolAt heap es top a d → (1024 ≤ a) × (a + 5 ≤ top)
+      by : {d : Symbol} → SymbolAt heap es top a d → (places.entries ≤ a) × (a + 5 ≤ top)
       by (symbol-at w) = let l = w .low in let u = w .high in (omega arith, omega arith)
 
   -- Equal addresses are equal symbols.

@@ -1,6 +1,6 @@
 -- Where the walk stands while a rule's patterns are read: before which tokens, with which variables, over which theory.
 -- Assumes nothing.
-use mathlib.Core.Path.{_≡_}
+use mathlib.Core.Path.{_≡_, _∙_}
 use mathlib.Core.List.{List, [], _∷_, _++_}
 use Prim.Native.Nat.{ℕ, zero, suc, _+_, _*_, _≤_, _<_}
 use native.Mathlib.Omega.{arith}
@@ -11,13 +11,14 @@ use Rattle.horn.specs.Rulebook.{Variable, variable, Pattern, Theory}
 use Rattle.words.specs.Parts.{part}
 use Rattle.lex.specs.declared.Reader.{Reader}
 use Rattle.words.specs.Sums.{sum32}
+use Rattle.items.specs.Places as places
 use Rattle.items.specs.Items.{withTop}
 use Rattle.leaves.specs.Leaves.{Areas}
 use Rattle.items.specs.declared.Walk.{Walk}
 use Rattle.theory_laws.specs.Reading.{Walks, weight}
 use Rattle.theory_laws.specs.Representation.{Entries, SortAt, Nth, here, there, Flat, VariablesAt, no-variables, one-variable, Holds}
 use Rattle.words.proofs.Sums.{sum-small}
-use Rattle.theory_laws.proofs.Frames.{Keeps, keeps-set, holds-kept}
+use Rattle.theory_laws.proofs.Frames.{Keeps, keeps-set, keeps-then, grown-none, flat-kept, holds-kept}
 
 -- One variable more behind others.
 pub nth-more : (vs ws : List Variable) {v : ℕ} {name : Name} → Nth vs v name → Nth (vs ++ ws) v name
@@ -51,20 +52,22 @@ module _ (text counts : List ℕ) (Before : Reader → Stream Token → Type 0) 
     pub walks : Walks text counts Before ts ks w
     pub holds : Holds text heap es base th
     pub above : base + 7 ≤ w .top
-    pub base-low : 1024 ≤ base
+    pub base-low : places.entries ≤ base
     pub many : w .variables ≡ length vs
     pub long : length vars ≡ 16384
     pub variables : VariablesAt text vars es 0 vs
     pub room : 3 * w .top + 9 * length vs + 4 * weight ts + credit + spare ≤ 35846
 
   -- What reading leaves.
-  pub record Reached (ts : Stream Token) (ks : List ℕ) (vs : List Variable) (from : ℕ) (heap : List ℕ) (q : Walk) (areas : Areas) (vs′ : List Variable) : Type 0 where
+  pub record Reached (ts : Stream Token) (ks : List ℕ) (vs : List Variable) (from : ℕ) (heap : List ℕ) (q : Walk) (areas : Areas)
+      (vs′ : List Variable) : Type 0 where
     pub ready : Ready 0 ts ks vs′ q (areas .0) (areas .1)
     pub keeps : Keeps from heap (areas .1)
     pub rises : from ≤ q .top
     pub more : (v : ℕ) (name : Name) → Nth vs v name → Nth vs′ v name
 
-  pub record PatternRead (ts : Stream Token) (ks : List ℕ) (vs : List Variable) (from : ℕ) (heap : List ℕ) (q : Walk) (areas : Areas) (r : Pattern × List Variable) : Type 0 where
+  pub record PatternRead (ts : Stream Token) (ks : List ℕ) (vs : List Variable) (from : ℕ) (heap : List ℕ) (q : Walk) (areas : Areas)
+      (r : Pattern × List Variable) : Type 0 where
     pub reached : Reached ts ks vs from heap q areas (r .1)
     pub flat : Flat (areas .1) es base (base + 7) (q .top) (r .1) from (r .0) (q .top)
 
@@ -86,3 +89,41 @@ module _ (text counts : List ℕ) (Before : Reader → Stream Token → Type 0) 
         variables = r .variables;
         room = rw e (omega arith);
       }
+
+  -- Behind other tokens, with the words as they are.
+  pub ready-on : {c d : ℕ} {ts us : Stream Token} {ks ls : List ℕ} {vs : List Variable} {w q : Walk} {vars heap : List ℕ} → Ready c ts ks vs w vars heap
+      → Walks text counts Before us ls q → q .top ≡ w .top → q .variables ≡ w .variables → 4 * weight us + d ≤ 4 * weight ts + c
+      → Ready d us ls vs q vars heap
+  ready-on r walks t v p =
+      let a = r .above in
+      let m = r .room in
+      record {
+        walks = walks;
+        holds = r .holds;
+        above = omega arith;
+        base-low = r .base-low;
+        many = v ∙ r .many;
+        long = r .long;
+        variables = r .variables;
+        room = omega arith;
+      }
+
+  -- One reading after another: what both leave, and that a pattern of the first stays.
+  module _ {ts us : Stream Token} {ks ls : List ℕ} {vs vs₁ vs₂ : List Variable} {from : ℕ} {heap : List ℕ} {q q′ : Walk} {areas areas′ : Areas}
+      (y : Reached us ls vs from heap q areas vs₁) (z : Reached ts ks vs₁ (q .top) (areas .1) q′ areas′ vs₂) where
+    pub reached-then : Reached ts ks vs from heap q′ areas′ vs₂
+    reached-then =
+        let a = y .rises in
+        let b = z .rises in
+        record {
+          ready = z .ready;
+          keeps = keeps-then a (y .keeps) (z .keeps);
+          rises = omega arith;
+          more = λ v e m. z .more v e (y .more v e m);
+        }
+
+    pub flat-then : {o o′ : ℕ} {p : Pattern} → Flat (areas .1) es base (base + 7) (q .top) vs₁ o p o′
+        → Flat (areas′ .1) es base (base + 7) (q′ .top) vs₂ o p o′
+    flat-then f =
+        let u = y .ready .above in
+        flat-kept grown-none (λ i g h. z .keeps .words i (omega arith)) (omega arith) (λ i g h. z .keeps .words i h) (z .rises) (z .more) f

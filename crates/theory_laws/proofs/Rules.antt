@@ -24,6 +24,7 @@ use Rattle.sexp.specs.Flattening.{flatOne, flat, size, countsOne}
 use Rattle.outcomes.specs.Outcomes as outcomes
 use Rattle.outcomes.specs.Leaving.{beside}
 use Rattle.words.specs.Sums.{sum32}
+use Rattle.items.specs.Places as places
 use Rattle.items.specs.Items.{readOn, openedOne, withTop, listDue}
 use Rattle.leaves.specs.Leaves.{Areas}
 use Rattle.items.specs.declared.Walk.{Walk}
@@ -113,7 +114,8 @@ module _ (text counted : List ℕ) (Before : Reader → Stream Token → Type 0)
 
   module _ (th : Theory) (es : Entries) where
     -- A rule's premises and its conclusion.
-    pub data BodyRead (base spare : ℕ) (ts : Stream Token) (ks : List ℕ) (heap : List ℕ) : ℕ × ℕ × Walk → Areas → (List Pattern × List Variable) × (Pattern × List Variable) → Type 0 where
+    pub data BodyRead (base spare : ℕ) (ts : Stream Token) (ks : List ℕ) (heap : List ℕ) : ℕ × ℕ × Walk → Areas
+        → (List Pattern × List Variable) × (Pattern × List Variable) → Type 0 where
       body-read : {n : ℕ} {q : Walk} {areas : Areas} {p : List Pattern × List Variable} {c : Pattern × List Variable} (mid : ℕ)
           → n ≡ length (p .0)
           → Ready text counted Before th es base spare 0 ts ks (c .1) q (areas .0) (areas .1)
@@ -130,7 +132,8 @@ module _ (text counted : List ℕ) (Before : Reader → Stream Token → Type 0)
         → Simulates (BodyRead base spare ts ks heap) (bodyRead text counted w vars heap)
         (definition.listDue js >>= λ xs. definition.judgmentPatterns th xs [] >>= λ p. definition.judgmentPattern th j (p .1) >>= λ c. ok (paired p c))
     unfolding bodyRead definition.listDue flatOne countsOne number _>>=_
-    body-law (leaf bytes) j {base} {spare} r e s₀ s₁ = rw (atom-due text counted Before reads short th es base spare (atom-met text counted Before reads (r .walks))) (refuse refl)
+    body-law (leaf bytes) j {base} {spare} r e s₀ s₁ =
+        rw (atom-due text counted Before reads short th es base spare (atom-met text counted Before reads (r .walks))) (refuse refl)
     body-law (list xs) j {base} {spare} {ts} {ks} {w} {vars} {heap} r e (shallow-list {d} q s₀) s₁ =
         let m = list-met text counted Before reads (r .walks) in
         let k : d ≡ 258 = omega arith in
@@ -152,7 +155,8 @@ module _ (text counted : List ℕ) (Before : Reader → Stream Token → Type 0)
               let b = z .reached .rises in
               let u = y .reached .ready .above in
               let f : FlatList (areas′ .1) es base (base + 7) (q₂ .top) (c .1) (w .top) (p .0) (q₁ .top) =
-              premises-kept grown-none (λ i g f. z .reached .keeps .words i (omega arith)) (omega arith) (λ i g f. z .reached .keeps .words i f) b (z .reached .more) (y .flats) in
+              premises-kept grown-none (λ i g f. z .reached .keeps .words i (omega arith)) (omega arith) (λ i g f. z .reached .keeps .words i f) b
+              (z .reached .more) (y .flats) in
               body-read (q₁ .top) (y .many) (z .reached .ready)
               (rw e at (keeps-then a (y .reached .keeps) (z .reached .keeps)))
               (rw e at f)
@@ -164,7 +168,8 @@ module _ (text counted : List ℕ) (Before : Reader → Stream Token → Type 0)
       pub long : length (areas .0) ≡ 16384
 
     -- The rule's entry, its variables, and the closing of the declaration.
-    rule-entered : {base : ℕ} {n : Sexp} {ts : Stream Token} {ks : List ℕ} {heap : List ℕ} (b : ℕ × ℕ × Walk) (areas : Areas) (p : List Pattern × List Variable) (c : Pattern × List Variable)
+    rule-entered : {base : ℕ} {n : Sexp} {ts : Stream Token} {ks : List ℕ} {heap : List ℕ} (b : ℕ × ℕ × Walk) (areas : Areas) (p : List Pattern × List Variable)
+        (c : Pattern × List Variable)
         (st : ℕ × ℕ) (name : Name)
         → Holds text heap es base th
         → BodyRead base (spared n) (closing ▹ ts) ks heap b areas (paired p c)
@@ -183,17 +188,22 @@ module _ (text counted : List ℕ) (Before : Reader → Stream Token → Type 0)
         let m : ClosingMet text counted Before reads ts ks q′ =
         closing-met text counted Before reads record { before = r .walks .before; counted = r .walks .counted; few = r .walks .few } in
         aside {Q = λ q₁ heap₁ th′. Stood text counted Before reads short ts ks q₁ heap₁ th′} (areas .0)
-        (test-then (areas .1) (isNew (found (areas .1) 768 256 text (part s t text))) 13 duplicate q (added (areas .1) 768 256 base text s t) _ _
+        (test-then (areas .1) (isNew (found (areas .1) places.rules places.buckets text (part s t text))) 13 duplicate q
+        (added (areas .1) places.rules places.buckets base text s t) _ _
         (rw e (new-test name (r .holds .rules))) refl
         (λ y.
         rw (m .met)
-        (leave {a = readOn q′ (m .next)} {s = copied (ruleDescribed base n (q .variables) mid (q .top) (added (areas .1) 768 256 base text s t)) (q .top) (areas .0) 0 (3 * q .variables)} {b = record { sorts = th .sorts; symbols = th .symbols; rules = th .rules ++ (rule name (c .1) (p .0) (c .0) ∷ []) }} record {
+        (leave {a = readOn q′ (m .next)} {s = copied (ruleDescribed base n (q .variables) mid (q .top)
+        (added (areas .1) places.rules places.buckets base text s t)) (q .top)
+        (areas .0) 0 (3 * q .variables)} {b = record { sorts = th .sorts; symbols = th .symbols; rules = th .rules ++ (rule name (c .1) (p .0) (c .0) ∷ []) }}
+        record {
           entries = withRule es (entry base name);
           ready = record {
             walks = m .walks;
             holds =
                 rw k
-                (rule-added text heap (areas .1) (areas .0) es th base (q .top) s t n (q .variables) name (c .1) (p .0) (c .0) mid h (keeps-less (omega arith) keeps)
+                (rule-added text heap (areas .1) (areas .0) es th base (q .top) s t n (q .variables) name (c .1) (p .0) (c .0) mid h
+                (keeps-less (omega arith) keeps)
                 low above (omega arith) e (omega arith) (omega arith) many v premises conclusion (r .variables) (not-true _ y));
             above = omega arith;
             base-low = rw k (omega arith);
@@ -204,7 +214,8 @@ module _ (text counted : List ℕ) (Before : Reader → Stream Token → Type 0)
 
     -- "`(rule N (J...) J)`: premises left to right, conclusion, N, duplicate."
     pub rule-law : (n js j : Sexp) {ts : Stream Token} {ks : List ℕ} {w : Walk} (vars : List ℕ) {heap : List ℕ}
-        → Midway text counted Before reads th es (w .top) 20 (flatOne n (flatOne js (flatOne j (closing ▹ ts)))) (countsOne n (countsOne js (countsOne j ks))) w heap
+        → Midway text counted Before reads th es (w .top) 20 (flatOne n (flatOne js (flatOne j (closing ▹ ts))))
+        (countsOne n (countsOne js (countsOne j ks))) w heap
         → length vars ≡ 16384
         → Shallow 259 js
         → Shallow 258 j

@@ -13,6 +13,7 @@ use Rattle.words.proofs.Writing.{length-copied, copied-before, copied-there}
 use Rattle.names.specs.Chains.{added}
 use Rattle.names.specs.Tables.{Entry, entry}
 use Rattle.names.proofs.Kept.{length-added, added-other}
+use Rattle.items.specs.Places as places
 use Rattle.rules.specs.Rules.{ruleDescribed}
 use Rattle.theory_laws.specs.Representation.{Entries, Flat, FlatList, VariablesAt, no-variables, one-variable, RuleAt, rule-at, Holds}
 use Rattle.theory_laws.proofs.Frames.{Grown, Keeps, sort-kept, symbol-kept, rule-kept, flat-kept, premises-kept}
@@ -87,13 +88,13 @@ rule-grown es e = record { sorts = λ x m. m; constructors = λ x m. m; predicat
 
 module _ (text heap middle vars : List ℕ) (es : Entries) (th : Theory) (e top s t n v : ℕ) (name : Name)
     (vs : List Variable) (premises : List Pattern) (conclusion : Pattern) (mid : ℕ)
-    (h : Holds text heap es e th) (keeps : Keeps e heap middle) (low : 1024 ≤ e) (rising : e + 7 ≤ top) (fits : top + 3 * v ≤ 16384)
+    (h : Holds text heap es e th) (keeps : Keeps e heap middle) (low : places.entries ≤ e) (rising : e + 7 ≤ top) (fits : top + 3 * v ≤ 16384)
     (p : part s t text ≡ name) (small-start : s < 4294967296) (small-end : t < 4294967296)
     (many-premises : n ≡ length premises) (many-variables : v ≡ length vs)
     (at-premises : FlatList middle es e (e + 7) top vs (e + 7) premises mid) (at-conclusion : Flat middle es e (e + 7) top vs mid conclusion top)
     (at-variables : VariablesAt text vars es 0 vs) where
   abbrev named-words : List ℕ
-  named-words = added middle 768 256 e text s t
+  named-words = added middle places.rules places.buckets e text s t
 
   abbrev described-words : List ℕ
   described-words = ruleDescribed e n v mid top named-words
@@ -102,26 +103,27 @@ module _ (text heap middle vars : List ℕ) (es : Entries) (th : Theory) (e top 
   rule-words = copied described-words top vars 0 (3 * v)
 
   length-middle : length described-words ≡ 16384
-  length-middle = length-rule named-words e n v mid top ∙ length-added middle 768 256 e text s t ∙ keeps .same-length ∙ h .long
+  length-middle = length-rule named-words e n v mid top ∙ length-added middle places.rules places.buckets e text s t ∙ keeps .same-length ∙ h .long
 
   -- Words between the entry's seven words and the variables, and words below the entry.
   pattern-words : (i : ℕ) → e + 7 ≤ i → i < top → getD rule-words i 0 ≡ getD middle i 0
   pattern-words i l u =
       copied-before (3 * v) described-words top vars 0 i (omega arith)
       ∙ rule-other named-words e n v mid top i (λ x y. omega arith)
-      ∙ added-other middle 768 256 e text s t (omega arith) i (λ x y. omega arith) (λ x y. omega arith)
+      ∙ added-other middle places.rules places.buckets e text s t (omega arith) i (λ x y. omega arith) (λ x y. omega arith)
 
-  older-words : (i : ℕ) → 1024 ≤ i → i < e → getD rule-words i 0 ≡ getD middle i 0
+  older-words : (i : ℕ) → places.entries ≤ i → i < e → getD rule-words i 0 ≡ getD middle i 0
   older-words i l u =
       copied-before (3 * v) described-words top vars 0 i (omega arith)
       ∙ rule-other named-words e n v mid top i (λ x y. omega arith)
-      ∙ added-other middle 768 256 e text s t (omega arith) i (λ x y. omega arith) (λ x y. omega arith)
+      ∙ added-other middle places.rules places.buckets e text s t (omega arith) i (λ x y. omega arith) (λ x y. omega arith)
 
-  rule-adds : Adds text heap rule-words e 768 s t
+  rule-adds : Adds text heap rule-words e places.rules s t
   rule-adds = record {
     middle = middle;
     keeps = keeps;
-    same-length = length-copied (3 * v) described-words top vars 0 ∙ length-rule named-words e n v mid top ∙ length-added middle 768 256 e text s t;
+    same-length =
+        length-copied (3 * v) described-words top vars 0 ∙ length-rule named-words e n v mid top ∙ length-added middle places.rules places.buckets e text s t;
     words = λ i u.
         copied-before (3 * v) described-words top vars 0 i (omega arith)
         ∙ rule-other named-words e n v mid top i (λ x y. omega arith);
@@ -133,7 +135,7 @@ module _ (text heap middle vars : List ℕ) (es : Entries) (th : Theory) (e top 
   }
 
   long-enough : e + 6 < length named-words
-  long-enough = let l = h .long in let q = keeps .same-length in rw (length-added middle 768 256 e text s t) (omega arith)
+  long-enough = let l = h .long in let q = keeps .same-length in rw (length-added middle places.rules places.buckets e text s t) (omega arith)
 
   new-rule : RuleAt text rule-words (withRule es (entry e name)) (top + 3 * v) e (rule name vs premises conclusion)
   new-rule =
@@ -173,8 +175,14 @@ module _ (text heap middle vars : List ℕ) (es : Entries) (th : Theory) (e top 
       record {
         long = length-copied (3 * v) described-words top vars 0 ∙ length-middle;
         sorts = others k (top + 3 * v) (omega arith) (λ d x y. sort-kept g y) 0 (omega arith) (λ i x y z u. omega arith) (h .sorts);
-        constructors = others k (top + 3 * v) (omega arith) (λ d c y. symbol-kept g (adds-kept k) (omega arith) y) 256 (omega arith) (λ i x y z u. omega arith) (h .constructors);
-        predicates = others k (top + 3 * v) (omega arith) (λ d c y. symbol-kept g (adds-kept k) (omega arith) y) 512 (omega arith) (λ i x y z u. omega arith) (h .predicates);
+        constructors =
+            others k (top + 3 * v) (omega arith) (λ d c y. symbol-kept g (adds-kept k) (omega arith) y) places.constructors (omega arith)
+            (λ i x y z u. omega arith)
+            (h .constructors);
+        predicates =
+            others k (top + 3 * v) (omega arith) (λ d c y. symbol-kept g (adds-kept k) (omega arith) y) places.predicates (omega arith)
+            (λ i x y z u. omega arith)
+            (h .predicates);
         rules =
             newer k (top + 3 * v) (omega arith) (λ d c y. rule-kept g (adds-kept k) (omega arith) y) name (rule name vs premises conclusion) p (λ key. refl)
             new-rule new (h .rules);

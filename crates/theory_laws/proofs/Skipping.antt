@@ -32,7 +32,8 @@ module _ (text counted : List ℕ) (Before : Reader → Stream Token → Type 0)
   pass-atom : {bytes : List ℕ} {ts : Stream Token} {ks : List ℕ} {w : Walk} → Walks text counted Before (atom bytes ▹ ts) ks w → Passes 1 ts ks w
   unfolding passed
   pass-atom {bytes} {ts} {ks} {w} h = by (reads .at-token (w .reader) (atom bytes) ts (h .before)) where
-    from : (got : read.Token) (next : Reader) → lexed.taken text (w .reader) ≡ lexed.token got next → Same text got (atom bytes) → Before next ts → Passes 1 ts ks w
+    from : (got : read.Token) (next : Reader) → lexed.taken text (w .reader) ≡ lexed.token got next → Same text got (atom bytes) → Before next ts
+        → Passes 1 ts ks w
     from (Atom s t) next e (same-atom n l u) b =
         record { next = readOn w next; met = rw e; walks = record { before = b; counted = h .counted; few = h .few }; top = refl }
 
@@ -178,7 +179,8 @@ module _ (text counted : List ℕ) (Before : Reader → Stream Token → Type 0)
   ended : {fuel depth : ℕ} {ts : Stream Token} {ks : List ℕ} {w : Walk} → Skips fuel depth 0 ts ks w → Skipped ts ks w (skipped fuel depth text w)
   ended b = record { next = b .next; met = b .same ∙ skipped-none (b .fuel′) (b .next); walks = b .walks; top = b .top }
 
-  pub rest-skipped : (xs : Sexps) {ts : Stream Token} {ks : List ℕ} {w : Walk} (fuel : ℕ) → Walks text counted Before (flat xs (closing ▹ ts)) (countsAll xs ks) w
+  pub rest-skipped : (xs : Sexps) {ts : Stream Token} {ks : List ℕ} {w : Walk} (fuel : ℕ)
+      → Walks text counted Before (flat xs (closing ▹ ts)) (countsAll xs ks) w
       → fuel ≤ 8192
       → streamLength (flat xs (closing ▹ ts)) ≤ fuel
       → Skipped ts ks w (skipped fuel 1 text w)

@@ -25,9 +25,11 @@ use Rattle.outcomes.specs.Outcomes as outcomes
 use Rattle.outcomes.specs.Leaving as leaving
 use Rattle.outcomes.specs.Leaving.{_leaving_}
 use Rattle.words.specs.Sums.{sum32}
+use Rattle.items.specs.Places as places
 use Rattle.items.specs.Items.{readOn, openedOne, withTop, declaredName, listDue, closingDue}
 use Rattle.items.specs.declared.Walk.{Walk}
-use Rattle.symbols.specs.Symbols.{reserved, isNew, sortNamed, entered, described, sortDeclared, inputs, signature, symbolEntered, constructorDeclared, predicateDeclared}
+use Rattle.symbols.specs.Symbols.{reserved, isNew, sortNamed, entered, described, sortDeclared, inputs, signature, symbolEntered, constructorDeclared}
+use Rattle.symbols.specs.Symbols.{predicateDeclared}
 use Rattle.outcomes.specs.Simulation.{Simulates, refuse, leave, bind, pure, test-then, paired, three}
 use Rattle.theory_laws.specs.Reading.{Reads, weight}
 use Rattle.theory_laws.specs.Representation.{Entries, sort-at, Declares, Holds}
@@ -42,9 +44,9 @@ use Rattle.theory_laws.proofs.SymbolsAdded.{withConstructor, withPredic
 pub new-test : {text heap : List ℕ} {top buckets : ℕ} {entries : List Entry} {A : Type 0} {test : Name → A → Bool} {Means : ℕ → A → Type 0} {things : List A}
     (name : Name)
     → Declares text heap top buckets entries test Means things
-    → isNew (found heap buckets 256 text name) ≡ not (someOf (test name) things)
+    → isNew (found heap buckets places.buckets text name) ≡ not (someOf (test name) things)
 new-test {text} {heap} {buckets} {test} {Means} name d =
-    absent (found heap buckets 256 text name) ∙ ap not (find-present test Means name (d .table) (d .stands)) where
+    absent (found heap buckets places.buckets text name) ∙ ap not (find-present test Means name (d .table) (d .stands)) where
       absent : (o : Option ℕ) → isNew o ≡ not (present o)
       absent none = refl
       absent (some a) = refl
@@ -63,30 +65,35 @@ module _ (text counted : List ℕ) (Before : Reader → Stream Token → Type 0)
   sort-grown es e = record { sorts = λ x m. List·Memᴰ·tail m; constructors = λ x m. m; predicates = λ x m. m; rules = λ x m. m }
 
   sort-added : {heap : List ℕ} {es : Entries} {top : ℕ} {th : Theory} (name : Name) (s t : ℕ) → Holds text heap es top th
-      → 1024 ≤ top
+      → places.entries ≤ top
       → top + 3 ≤ 16384
       → part s t text ≡ name
       → s < 4294967296
       → t < 4294967296
       → someOf (named name) (th .sorts) ≡ false
-      → Holds text (added heap 0 256 top text s t) (withSort es (entry top name)) (top + 3)
+      → Holds text (added heap places.sorts places.buckets top text s t) (withSort es (entry top name)) (top + 3)
       record { sorts = th .sorts ++ (name ∷ []); symbols = th .symbols; rules = th .rules }
   sort-added {heap} {es} {top} {th} name s t h low fits p small-start small-end new =
       record {
-        long = length-added heap 0 256 top text s t ∙ h .long;
+        long = length-added heap places.sorts places.buckets top text s t ∙ h .long;
         sorts = newer k (top + 3) (omega arith) (λ e a m. sort-kept g m) name name p (λ key. refl) (sort-at (List·Memᴰ·head refl)) new (h .sorts);
-        constructors = others k (top + 3) (omega arith) (λ e c m. symbol-kept g (adds-kept k) (omega arith) m) 256 (omega arith) (λ i a b c d. omega arith) (h .constructors);
-        predicates = others k (top + 3) (omega arith) (λ e c m. symbol-kept g (adds-kept k) (omega arith) m) 512 (omega arith) (λ i a b c d. omega arith) (h .predicates);
-        rules = others k (top + 3) (omega arith) (λ e c m. rule-kept g (adds-kept k) (omega arith) m) 768 (omega arith) (λ i a b c d. omega arith) (h .rules);
+        constructors =
+            others k (top + 3) (omega arith) (λ e c m. symbol-kept g (adds-kept k) (omega arith) m) places.constructors (omega arith) (λ i a b c d. omega arith)
+            (h .constructors);
+        predicates =
+            others k (top + 3) (omega arith) (λ e c m. symbol-kept g (adds-kept k) (omega arith) m) places.predicates (omega arith) (λ i a b c d. omega arith)
+            (h .predicates);
+        rules = others k (top + 3) (omega arith) (λ e c m. rule-kept g (adds-kept k) (omega arith) m) places.rules (omega arith) (λ i a b c d. omega arith)
+            (h .rules);
       } where
         g : Grown es (withSort es (entry top name))
         g = sort-grown es (entry top name)
 
-        k : Adds text heap (added heap 0 256 top text s t) top 0 s t
+        k : Adds text heap (added heap places.sorts places.buckets top text s t) top 0 s t
         k = record {
           middle = heap;
           keeps = keeps-all;
-          same-length = length-added heap 0 256 top text s t;
+          same-length = length-added heap places.sorts places.buckets top text s t;
           words = λ i u. refl;
           room = let l = h .long in omega arith;
           base-low = low;
@@ -107,12 +114,15 @@ module _ (text counted : List ℕ) (Before : Reader → Stream Token → Type 0)
       let c = r .room in
       let e : sum32 (w .top) 3 ≡ w .top + 3 = sum-small (w .top) 3 (omega arith) in
       let q : Walk = withTop (readOn w next) (sum32 (w .top) 3) in
-      let m : ClosingMet text counted Before reads ts ks q = closing-met text counted Before reads record { before = k .before; counted = k .counted; few = k .few } in
-      test-then heap (isNew (found heap 0 256 text (part s t text))) 13 duplicate (readOn w next) (added heap 0 256 (w .top) text s t) _ _
+      let m : ClosingMet text counted Before reads ts ks q =
+      closing-met text counted Before reads record { before = k .before; counted = k .counted; few = k .few } in
+      test-then heap (isNew (found heap places.sorts places.buckets text (part s t text))) 13 duplicate (readOn w next)
+      (added heap places.sorts places.buckets (w .top) text s t) _ _
       (rw p (new-test name (r .holds .sorts))) refl
       (λ x.
       rw (m .met)
-      (leave {a = readOn q (m .next)} {s = added heap 0 256 (w .top) text s t} {b = record { sorts = th .sorts ++ (name ∷ []); symbols = th .symbols; rules = th .rules }} record {
+      (leave {a = readOn q (m .next)} {s = added heap places.sorts places.buckets (w .top) text s t}
+      {b = record { sorts = th .sorts ++ (name ∷ []); symbols = th .symbols; rules = th .rules }} record {
         entries = withSort es (entry (w .top) name);
         ready = record {
           walks = m .walks;
@@ -130,7 +140,8 @@ module _ (text counted : List ℕ) (Before : Reader → Stream Token → Type 0)
   sort-law n r = pure _ _ (declared-name text counted Before reads n (r .walks)) (λ b name k. sort-behind n b name r k)
 
   -- N and the inputs of a symbol.
-  pub data SignatureRead (th : Theory) (es : Entries) (base : ℕ) (ts : Stream Token) (ks : List ℕ) (heap : List ℕ) : ℕ × ℕ × ℕ × Walk → List ℕ → Name × List Name → Type 0 where
+  pub data SignatureRead (th : Theory) (es : Entries) (base : ℕ) (ts : Stream Token) (ks : List ℕ) (heap : List ℕ) : ℕ × ℕ × ℕ × Walk → List ℕ
+      → Name × List Name → Type 0 where
     signature-read : {s t n : ℕ} {q : Walk} {heap′ : List ℕ} {name : Name} {ins : List Name} → part s t text ≡ name → s < t → t ≤ length text
         → InputsRead text counted Before reads th es base n ts ks (base + 5) heap q heap′ ins
         → SignatureRead th es base ts ks heap (s, t, n, q) heap′ (paired name ins)
@@ -173,8 +184,8 @@ module _ (text counted : List ℕ) (Before : Reader → Stream Token → Type 0)
     -- A symbol's entry, then the closing of its declaration.
     symbol-entered : {th′ : Theory} {es′ : Entries} {base : ℕ} {ts : Stream Token} {ks : List ℕ} {q : Walk} {heap : List ℕ} (b s t a n : ℕ) (x : Bool)
         → Midway text counted Before reads th es base 0 (closing ▹ ts) ks q heap
-        → isNew (found heap b 256 text (part s t text)) ≡ not x
-        → (x ≡ false → Holds text (described base a n (added heap b 256 base text s t)) es′ (q .top) th′)
+        → isNew (found heap b places.buckets text (part s t text)) ≡ not x
+        → (x ≡ false → Holds text (described base a n (added heap b places.buckets base text s t)) es′ (q .top) th′)
         → Simulates (Stood ts ks) (symbolEntered text b base s t a n q heap) (need (not x) duplicate >>= λ _. ok th′)
     unfolding symbolEntered entered number weight
     symbol-entered {th′} {es′} {base} {ts} {ks} {q} {heap} b s t a n x r e h =
@@ -182,7 +193,7 @@ module _ (text counted : List ℕ) (Before : Reader → Stream Token → Type 0)
         let c = r .room in
         let u = r .above in
         let l = r .base-low in
-        test-then heap (isNew (found heap b 256 text (part s t text))) 13 duplicate q (added heap b 256 base text s t) _ _ e refl
+        test-then heap (isNew (found heap b places.buckets text (part s t text))) 13 duplicate q (added heap b places.buckets base text s t) _ _ e refl
         (λ y.
         rw (m .met)
         (leave {b = th′} record {
@@ -190,17 +201,19 @@ module _ (text counted : List ℕ) (Before : Reader → Stream Token → Type 0)
           ready = record { walks = m .walks; holds = h (not-true x y); above = omega arith; base-low = omega arith; room = omega arith };
         }))
 
-    output-behind : (o : Sexp) {ts : Stream Token} {ks : List ℕ} {base : ℕ} {heap : List ℕ} (b : ℕ × ℕ × ℕ × Walk) (heap′ : List ℕ) (name : Name) (ins : List Name)
+    output-behind : (o : Sexp) {ts : Stream Token} {ks : List ℕ} {base : ℕ} {heap : List ℕ} (b : ℕ × ℕ × ℕ × Walk) (heap′ : List ℕ) (name : Name)
+        (ins : List Name)
         → Holds text heap es base th
         → SignatureRead th es base (flatOne o (closing ▹ ts)) (countsOne o ks) heap b heap′ (paired name ins)
         → Simulates (Stood ts ks)
         (leaving._>>=_ (sortNamed text counted heap′ (b .3) leaving heap′)
-        (λ ((a, q), heap). symbolEntered text 256 base (b .0) (b .1) a (b .2) q heap))
-        (definition.sortNamed th o >>= λ out. need (not (someOf (isConstructor name) (th .symbols))) duplicate >>= λ _. ok (withSymbol th (symbol name ins (sort out))))
+        (λ ((a, q), heap). symbolEntered text places.constructors base (b .0) (b .1) a (b .2) q heap))
+        (definition.sortNamed th o >>= λ out. need (not (someOf (isConstructor name) (th .symbols))) duplicate
+        >>= λ _. ok (withSymbol th (symbol name ins (sort out))))
     output-behind o {ts} {ks} {base} {heap} b heap′ name ins h (signature-read {s} {t} {n} {q} p l u k) =
         pure _ _ (sort-named text counted Before reads (k .ready .holds) o (k .ready .walks)) (λ x out y. one x out y) where
           one : (x : ℕ × Walk) (out : Name) → SortRead text counted Before reads es o (closing ▹ ts) ks q x out
-              → Simulates (Stood ts ks) (symbolEntered text 256 base s t (x .0) n (x .1) heap′)
+              → Simulates (Stood ts ks) (symbolEntered text places.constructors base s t (x .0) n (x .1) heap′)
               (need (not (someOf (isConstructor name) (th .symbols))) duplicate >>= λ _. ok (withSymbol th (symbol name ins (sort out))))
           one x out (sort-read {a} {next} m paid g) =
               let c = k .ready .room in
@@ -208,7 +221,7 @@ module _ (text counted : List ℕ) (Before : Reader → Stream Token → Type 0)
               let j = k .ready .base-low in
               let i = k .words in
               symbol-entered {th′ = withSymbol th (symbol name ins (sort out))} {es′ = withConstructor es (entry base name)} {base = base}
-              256 s t a n (someOf (isConstructor name) (th .symbols))
+              places.constructors s t a n (someOf (isConstructor name) (th .symbols))
               record { walks = g; holds = k .ready .holds; above = v; base-low = j; room = omega arith }
               (rw p (new-test name (k .ready .holds .constructors)))
               (λ new.
@@ -216,12 +229,14 @@ module _ (text counted : List ℕ) (Before : Reader → Stream Token → Type 0)
               p (omega arith) (omega arith) (k .sorts) (k .many) out m new)
 
     pub constructor-law : (x is o : Sexp) {ts : Stream Token} {ks : List ℕ} {w : Walk} {heap : List ℕ}
-        → Midway text counted Before reads th es (w .top) 20 (flatOne x (flatOne is (flatOne o (closing ▹ ts)))) (countsOne x (countsOne is (countsOne o ks))) w heap
+        → Midway text counted Before reads th es (w .top) 20 (flatOne x (flatOne is (flatOne o (closing ▹ ts))))
+        (countsOne x (countsOne is (countsOne o ks))) w heap
         → Simulates (Stood ts ks) (constructorDeclared text counted w heap) (definition.declareConstructor th x is o)
     unfolding constructorDeclared definition.declareConstructor
     constructor-law x is o {ts} {ks} {w} {heap} r =
         rw (← three (definition.declaredName x) (definition.listDue is) (definition.sortsNamed th)
-        (λ name ins. definition.sortNamed th o >>= λ out. need (not (someOf (isConstructor name) (th .symbols))) duplicate >>= λ _. ok (withSymbol th (symbol name ins (sort out)))))
+        (λ name ins. definition.sortNamed th o >>= λ out. need (not (someOf (isConstructor name) (th .symbols))) duplicate
+        >>= λ _. ok (withSymbol th (symbol name ins (sort out)))))
         (bind _ _ (signature-law x is r) (λ b heap′ y k. output-behind o b heap′ (y .0) (y .1) (r .holds) k))
 
     pub predicate-law : (x is : Sexp) {ts : Stream Token} {ks : List ℕ} {w : Walk} {heap : List ℕ}
@@ -234,16 +249,17 @@ module _ (text counted : List ℕ) (Before : Reader → Stream Token → Type 0)
         (bind _ _ (signature-law x is r) (λ b heap′ y k. one b heap′ (y .0) (y .1) k)) where
           one : (b : ℕ × ℕ × ℕ × Walk) (heap′ : List ℕ) (name : Name) (ins : List Name)
               → SignatureRead th es (w .top) (closing ▹ ts) ks heap b heap′ (paired name ins)
-              → Simulates (Stood ts ks) (symbolEntered text 512 (w .top) (b .0) (b .1) 0 (b .2) (b .3) heap′)
+              → Simulates (Stood ts ks) (symbolEntered text places.predicates (w .top) (b .0) (b .1) 0 (b .2) (b .3) heap′)
               (need (not (someOf (isPredicate name) (th .symbols))) duplicate >>= λ _. ok (withSymbol th (symbol name ins judgment)))
           one b heap′ name ins (signature-read {s} {t} {n} {q} p l u k) =
               let c = k .ready .room in
               let j = k .ready .base-low in
               let i = k .words in
               symbol-entered {th′ = withSymbol th (symbol name ins judgment)} {es′ = withPredicate es (entry (w .top) name)} {base = w .top}
-              512 s t 0 n (someOf (isPredicate name) (th .symbols))
+              places.predicates s t 0 n (someOf (isPredicate name) (th .symbols))
               (k .ready)
               (rw p (new-test name (k .ready .holds .predicates)))
               (λ new.
-              predicate-added text heap heap′ es th (w .top) (q .top) s t 0 n name ins (r .holds) (keeps-less (omega arith) (k .keeps)) j (omega arith) (omega arith)
+              predicate-added text heap heap′ es th (w .top) (q .top) s t 0 n name ins (r .holds) (keeps-less (omega arith) (k .keeps)) j (omega arith)
+              (omega arith)
               p (omega arith) (omega arith) (k .sorts) (k .many) refl new)

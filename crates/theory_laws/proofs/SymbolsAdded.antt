@@ -12,6 +12,7 @@ use Rattle.words.specs.Parts.{part}
 use Rattle.names.specs.Chains.{added}
 use Rattle.names.specs.Tables.{Entry, entry}
 use Rattle.names.proofs.Kept.{length-added, added-other}
+use Rattle.items.specs.Places as places
 use Rattle.symbols.specs.Symbols.{described}
 use Rattle.theory_laws.specs.Representation.{Entries, tableOf, SortAt, OutputAt, sort-output, judgment-output, SortsAt, SymbolAt, symbol-at, Holds}
 use Rattle.theory_laws.proofs.Frames.{Grown, Keeps, sort-kept, output-kept, sorts-kept, symbol-kept, rule-kept}
@@ -48,16 +49,16 @@ predicate-grown : (es : Entries) (e : Entry) → Grown es (withPredicate es e)
 predicate-grown es e = record { sorts = λ x m. m; constructors = λ x m. m; predicates = λ x m. List·Memᴰ·tail m; rules = λ x m. m }
 
 module _ (text heap middle : List ℕ) (es : Entries) (th : Theory) (e top s t a n : ℕ) (name : Name) (ins : List Name)
-    (h : Holds text heap es e th) (keeps : Keeps e heap middle) (low : 1024 ≤ e) (high : e + 5 + length ins ≤ top) (fits : e + 5 ≤ 16384)
+    (h : Holds text heap es e th) (keeps : Keeps e heap middle) (low : places.entries ≤ e) (high : e + 5 + length ins ≤ top) (fits : e + 5 ≤ 16384)
     (p : part s t text ≡ name) (small-start : s < 4294967296) (small-end : t < 4294967296)
     (takes : SortsAt middle es (e + 5) ins) (many : length ins ≡ n) where
-  module _ (b : ℕ) (buckets-low : b + 256 ≤ 1024) where
-    symbol-adds : Adds text heap (described e a n (added middle b 256 e text s t)) e b s t
+  module _ (b : ℕ) (buckets-low : b + places.buckets ≤ places.entries) where
+    symbol-adds : Adds text heap (described e a n (added middle b places.buckets e text s t)) e b s t
     symbol-adds = record {
       middle = middle;
       keeps = keeps;
-      same-length = length-described (added middle b 256 e text s t) e a n ∙ length-added middle b 256 e text s t;
-      words = λ i u. described-other (added middle b 256 e text s t) e a n i (λ x. omega arith) (λ x. omega arith);
+      same-length = length-described (added middle b places.buckets e text s t) e a n ∙ length-added middle b places.buckets e text s t;
+      words = λ i u. described-other (added middle b places.buckets e text s t) e a n i (λ x. omega arith) (λ x. omega arith);
       room = let l = h .long in omega arith;
       base-low = low;
       buckets-low = buckets-low;
@@ -65,61 +66,66 @@ module _ (text heap middle : List ℕ) (es : Entries) (th : Theory) (e top s t a
       small-end = small-end;
     }
 
-    long-enough : e + 4 < length (added middle b 256 e text s t)
-    long-enough = let l = h .long in let q = keeps .same-length in rw (length-added middle b 256 e text s t) (omega arith)
+    long-enough : e + 4 < length (added middle b places.buckets e text s t)
+    long-enough = let l = h .long in let q = keeps .same-length in rw (length-added middle b places.buckets e text s t) (omega arith)
 
     new-symbol : {es′ : Entries} (out : Output) → Grown es es′ → List·Memᴰ (entry e name) (tableOf es′ out) → OutputAt es a out
-        → SymbolAt (described e a n (added middle b 256 e text s t)) es′ top e (symbol name ins out)
+        → SymbolAt (described e a n (added middle b places.buckets e text s t)) es′ top e (symbol name ins out)
     new-symbol out g m o =
         symbol-at {name = name} {ins = ins} {out = out} record {
           low = low;
           high = high;
           called = m;
-          gives = rw (described-first (added middle b 256 e text s t) e a n long-enough) (output-kept g o);
-          arity = described-second (added middle b 256 e text s t) e a n long-enough ∙ sym many;
+          gives = rw (described-first (added middle b places.buckets e text s t) e a n long-enough) (output-kept g o);
+          arity = described-second (added middle b places.buckets e text s t) e a n long-enough ∙ sym many;
           takes =
               sorts-kept g top
               (λ i x y.
-              described-other (added middle b 256 e text s t) e a n i (λ z. omega arith) (λ z. omega arith)
-              ∙ added-other middle b 256 e text s t (omega arith) i (λ z v. omega arith) (λ z v. omega arith))
+              described-other (added middle b places.buckets e text s t) e a n i (λ z. omega arith) (λ z. omega arith)
+              ∙ added-other middle b places.buckets e text s t (omega arith) i (λ z v. omega arith) (λ z v. omega arith))
               high takes;
         }
 
-    long-after : length (described e a n (added middle b 256 e text s t)) ≡ 16384
-    long-after = length-described (added middle b 256 e text s t) e a n ∙ length-added middle b 256 e text s t ∙ keeps .same-length ∙ h .long
+    long-after : length (described e a n (added middle b places.buckets e text s t)) ≡ 16384
+    long-after =
+        length-described (added middle b places.buckets e text s t) e a n ∙ length-added middle b places.buckets e text s t ∙ keeps .same-length ∙ h .long
 
   pub constructor-added : (o : Name) → SortAt es a o → someOf (isConstructor name) (th .symbols) ≡ false
-      → Holds text (described e a n (added middle 256 256 e text s t)) (withConstructor es (entry e name)) top (withSymbol th (symbol name ins (sort o)))
+      → Holds text (described e a n (added middle places.constructors places.buckets e text s t)) (withConstructor es (entry e name)) top
+      (withSymbol th (symbol name ins (sort o)))
   unfolding withSymbol isConstructor isPredicate tableOf
   constructor-added o m new =
       let g = constructor-grown es (entry e name) in
-      let k = symbol-adds 256 (omega arith) in
+      let k = symbol-adds places.constructors (omega arith) in
       record {
-        long = long-after 256 (omega arith);
+        long = long-after places.constructors (omega arith);
         sorts = others k top (omega arith) (λ d x y. sort-kept g y) 0 (omega arith) (λ i x y z v. omega arith) (h .sorts);
         constructors =
             newer k top (omega arith) (λ d c y. symbol-kept g (adds-kept k) (omega arith) y) name (symbol name ins (sort o)) p (λ key. refl)
-            (new-symbol 256 (omega arith) (sort o) g (List·Memᴰ·head refl) (sort-output m)) new (h .constructors);
+            (new-symbol places.constructors (omega arith) (sort o) g (List·Memᴰ·head refl) (sort-output m)) new (h .constructors);
         predicates =
-            others-more k top (omega arith) (λ d c y. symbol-kept g (adds-kept k) (omega arith) y) 512 (symbol name ins (sort o)) (omega arith)
+            others-more k top (omega arith) (λ d c y. symbol-kept g (adds-kept k) (omega arith) y) places.predicates (symbol name ins (sort o)) (omega arith)
             (λ i x y z v. omega arith) (λ key. refl) (h .predicates);
-        rules = others k top (omega arith) (λ d c y. rule-kept g (adds-kept k) (omega arith) y) 768 (omega arith) (λ i x y z v. omega arith) (h .rules);
+        rules =
+            others k top (omega arith) (λ d c y. rule-kept g (adds-kept k) (omega arith) y) places.rules (omega arith) (λ i x y z v. omega arith) (h .rules);
       }
 
   pub predicate-added : a ≡ 0 → someOf (isPredicate name) (th .symbols) ≡ false
-      → Holds text (described e a n (added middle 512 256 e text s t)) (withPredicate es (entry e name)) top (withSymbol th (symbol name ins judgment))
+      → Holds text (described e a n (added middle places.predicates places.buckets e text s t)) (withPredicate es (entry e name)) top
+      (withSymbol th (symbol name ins judgment))
   unfolding withSymbol isConstructor isPredicate tableOf
   predicate-added zero-word new =
       let g = predicate-grown es (entry e name) in
-      let k = symbol-adds 512 (omega arith) in
+      let k = symbol-adds places.predicates (omega arith) in
       record {
-        long = long-after 512 (omega arith);
+        long = long-after places.predicates (omega arith);
         sorts = others k top (omega arith) (λ d x y. sort-kept g y) 0 (omega arith) (λ i x y z v. omega arith) (h .sorts);
         constructors =
-            others-more k top (omega arith) (λ d c y. symbol-kept g (adds-kept k) (omega arith) y) 256 (symbol name ins judgment) (omega arith)
+            others-more k top (omega arith) (λ d c y. symbol-kept g (adds-kept k) (omega arith) y) places.constructors (symbol name ins judgment) (omega arith)
             (λ i x y z v. omega arith) (λ key. refl) (h .constructors);
         predicates =
             newer k top (omega arith) (λ d c y. symbol-kept g (adds-kept k) (omega arith) y) name (symbol name ins judgment) p (λ key. refl)
-            (new-symbol 512 (omega arith) judgment g (List·Memᴰ·head refl) (judgment-output zero-word)) new (h .predicates);
-        rules = others k top (omega arith) (λ d c y. rule-kept g (adds-kept k) (omega arith) y) 768 (omega arith) (λ i x y z v. omega arith) (h .rules);
+            (new-symbol places.predicates (omega arith) judgment g (List·Memᴰ·head refl) (judgment-output zero-word)) new (h .predicates);
+        rules =
+            others k top (omega arith) (λ d c y. rule-kept g (adds-kept k) (omega arith) y) places.rules (omega arith) (λ i x y z v. omega arith) (h .rules);
       }

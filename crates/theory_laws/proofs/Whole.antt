@@ -84,7 +84,7 @@ pub record Judged (text : List ℕ) (c : Counts) (areas : AllAreas) (th : Theory
   pub entries : Entries
   pub top : ℕ
   pub holds : Holds text (areas .2) entries top th
-  pub low : 1024 ≤ top
+  pub low : places.entries ≤ top
   pub high : top ≤ 11948
   pub vars-long : length (areas .0) ≡ 16384
   pub counts-long : length (areas .1) ≡ 16384
@@ -110,7 +110,7 @@ module _ (text : List ℕ) (short : length text ≤ 8192) where
       → sexps (items (tokens text)) ≡ ok xs
       → tokens text ≡ flattened xs
       → take (length (counts xs)) area ≡ counts xs
-      → Simulates (Accepted text area (Stands text) (reads text) short) (declarations text area vars (cleared 1024 heap))
+      → Simulates (Accepted text area (Stands text) (reads text) short) (declarations text area vars (cleared places.entries heap))
       (definition.declarations emptyTheory xs)
   unfolding declarations startWalk flattened counts
   second-walk vars area heap xs long-vars long e whole found =
@@ -145,7 +145,8 @@ module _ (text : List ℕ) (short : length text ≤ 8192) where
       walk-cases text member-counts short (omega arith)
       (λ r e a. rw (a, e) (refuse refl))
       (λ xs e whole a found.
-      rw (a, e) (with-counts (walked text member-counts .area) (walked-length text member-counts ∙ long-counts) (second-walk vars (walked text member-counts .area) heap xs long-vars long e whole found)))
+      rw (a, e) (with-counts (walked text member-counts .area) (walked-length text member-counts ∙ long-counts)
+      (second-walk vars (walked text member-counts .area) heap xs long-vars long e whole found)))
 
 -- The report of both walks: number and counts.
 abbrev pub reported : Did AllAreas Counts → RulebookReport
@@ -174,7 +175,7 @@ pub second-walk-judges : (text vars member-counts heap : List ℕ) → length te
     → (xs : Sexps)
     → sexps (items (tokens text)) ≡ ok xs
     → {n : ℕ} {areas : Areas}
-    → declarations text (walked text member-counts .area) vars (cleared 1024 heap) ≡ (outcomes.refused n leaving areas)
+    → declarations text (walked text member-counts .area) vars (cleared places.entries heap) ≡ (outcomes.refused n leaving areas)
     → (7 ≤ n) × (n ≡ 10 → ⊥)
 second-walk-judges text vars member-counts heap short long-vars long-counts long xs e f =
     walk-cases text member-counts short (omega arith)

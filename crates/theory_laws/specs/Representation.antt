@@ -85,7 +85,8 @@ pub data VariablesAt (text area : List ℕ) (es : Entries) : ℕ → List Variab
       → VariablesAt text area es o (variable name s ∷ vs)
 
 -- The entry of a rule.
-pub record RuleWords (text heap : List ℕ) (es : Entries) (top e : ℕ) (name : Name) (vs : List Variable) (premises : List Pattern) (conclusion : Pattern) : Type 0 where
+pub record RuleWords (text heap : List ℕ) (es : Entries) (top e : ℕ) (name : Name) (vs : List Variable) (premises : List Pattern)
+    (conclusion : Pattern) : Type 0 where
   pub low : places.entries ≤ e
   pub called : List·Memᴰ (entry e name) (es .rules)
   pub premise-count : getD heap (e + places.premise-count) 0 ≡ length premises
@@ -106,7 +107,8 @@ pub data RuleAt (text heap : List ℕ) (es : Entries) (top e : ℕ) : Rule → T
       → RuleAt text heap es top e (rule name vs premises conclusion)
 
 -- One kind of declared things: a table of their names below `top`, and what each address means.
-pub record Declares (text heap : List ℕ) (top buckets : ℕ) (entries : List Entry) {A : Type 0} (test : Name → A → Bool) (Means : ℕ → A → Type 0) (things : List A) : Type 0 where
+pub record Declares (text heap : List ℕ) (top buckets : ℕ) (entries : List Entry) {A : Type 0} (test : Name → A → Bool) (Means : ℕ → A → Type 0)
+    (things : List A) : Type 0 where
   pub table : Table heap buckets places.buckets places.entries text entries
   pub below : tables.top places.entries entries ≤ top
   pub stands : Stands test Means entries things

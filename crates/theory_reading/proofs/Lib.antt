@@ -1,4 +1,3 @@
-pub mod Turns
 pub mod Bridge
 pub mod Held
 pub mod Naming

@@ -5,11 +5,10 @@ use mathlib.Core.Option.{none, some}
 use Prim.Native.Nat.{ℕ, suc}
 use Rattle.horn.specs.Refusals.{ok}
 use Rattle.horn.specs.Names.{Name, first}
-use Rattle.horn.specs.Rulebook.{Variable, variable, isVariable, Rule, Theory, variablesOf, isRule, ruleNamed, theory}
+use Rattle.horn.specs.Rulebook.{Variable, variable, isVariable, Rule, Theory, variablesOf, isRule, ruleNamed}
 use Rattle.horn.proofs.Equality.{named-decides, apart, first-some}
 use Rattle.horn.proofs.Inversion.{none-some, was-found}
 use Rattle.horn.proofs.SoundnessWords.{Apart, name-apart, WellFormed}
-use Rattle.horn.proofs.SoundnessRulebook.{theory-formed}
 use Rattle.names.proofs.Holds.{by-name}
 use Rattle.theory_laws.specs.Representation.{Nth, here, there}
 use Rattle.theory_laws.proofs.Readback.{Sorted, sorted-here, sorted-there}
@@ -55,6 +54,3 @@ nth-first {key} (name-apart {name} {s = t} {vs} f a) (there n) (sorted-there m) 
 pub rule-apart : {th : Theory} → WellFormed th → (key : Name) {r : Rule} → ruleNamed th key ≡ ok r → Apart (variablesOf r)
 unfolding ruleNamed
 rule-apart {th} w key {r} e = was-found _ _ e λ p. w .formed r (first-some (isRule key) (th .rules) p .0) .apart
-
-pub accepted-apart : (text : List ℕ) {th : Theory} → theory text ≡ ok th → (key : Name) {r : Rule} → ruleNamed th key ≡ ok r → Apart (variablesOf r)
-accepted-apart text e key f = rule-apart (theory-formed text e) key f

@@ -1,6 +1,6 @@
 -- The terms that the store holds, by number: what a number stands for, and one node more. Assumes nothing.
 use mathlib.Core.Path.{_≡_, refl, sym, ap, _∙_}
-use mathlib.Core.Bool.{true, false, true≢false}
+use mathlib.Core.Bool.{true, true≢false}
 use mathlib.Core.List.{List, [], _∷_, _++_, append-nil, append-assoc}
 use Prim.Native.Nat.{ℕ, suc, _+_, _≤_, _<_}
 use native.Mathlib.Omega.{arith}
@@ -118,10 +118,6 @@ module _ {es : Entries} {th : Theory} where
       let b = m .below in
       record { below = omega arith; tree = longer-tree (symbolAt es th) k g (m .below) ∙ m .tree }
 
-  -- A number has one tree.
-  pub means-one : {ts : List Term} {k : ℕ} {t u : Term} → Means es th ts k t → Means es th ts k u → t ≡ u
-  means-one m n = sym (m .tree) ∙ n .tree
-
   module _ {limits : Setting} {places : ℕ} {store : List ℕ} {ts : List Term} (st : Stored es th limits places store ts) where
     pub few-terms : length ts ≤ limits .nodes
     few-terms = let a = st .trees .kept .nodes-fit in let b = st .trees .stand .same in omega arith
@@ -129,9 +125,6 @@ module _ {es : Entries} {th : Theory} where
     -- A tree has one number.
     pub one-number : (j k : ℕ) → j < length ts → k < length ts → treeOf (symbolAt es th) ts j ≡ treeOf (symbolAt es th) ts k → j ≡ k
     one-number = one-tree (symbolAt es th) (Used es) (limits .nodes) (limits .nodeWords) places store ts (st .trees)
-
-    pub means-number : {j k : ℕ} {t : Term} → Means es th ts j t → Means es th ts k t → j ≡ k
-    means-number {j} {k} m n = one-number j k (m .below) (n .below) (m .tree ∙ sym (n .tree))
 
     pub node-at : (k : ℕ) → k < length ts → NodeAt es th (limits .nodes) places store ts k
     unfolding build

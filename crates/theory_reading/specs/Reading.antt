@@ -1,17 +1,15 @@
 -- What each function answers, for any words.
-use Prim.Native.Nat.{ℕ, zero, suc, _+_, _*_, _-_}
+use Prim.Native.Nat.{ℕ, zero, suc, _+_, _*_}
 use mathlib.Core.Bool.{Bool, true, false}
 use mathlib.Core.List.{List}
-use mathlib.Core.Option.{Option, none, some}
-use lib.Dec.{eqb, ltb}
+use mathlib.Core.Option.{Option}
+use lib.Dec.{eqb}
 use lib.ListN.{getD}
-use Rattle.words.specs.Parts.{part, sameBytes}
 use Rattle.names.specs.Chains.{found}
 use Rattle.items.specs.Places as places
 use Rattle.outcomes.specs.Outcomes.{pick}
 use Rattle.words.specs.Sums.{sum32}
-use Rattle.theory_reading.specs.declared.Node as declared
-use Rattle.theory_reading.specs.declared.Node.the-variants as nodes
+use Rattle.leaves.specs.Leaves.{variableFrom}
 
 -- The address of the symbol or rule that has the name `key`; names of the rulebook stand in `text`.
 unfoldable pub constructorFound : List ℕ → List ℕ → List ℕ → Option ℕ
@@ -63,33 +61,6 @@ variablesPlace heap r = getD heap (r + places.variables) 0
 unfoldable pub sortOfVariable : List ℕ → ℕ → ℕ → ℕ
 sortOfVariable heap r v = getD heap (variablesPlace heap r + 3 * v + 2) 0
 
--- The name of a variable whose words stand from `place` on, three for each.
-unfoldable pub nameOfVariable : List ℕ → List ℕ → ℕ → ℕ → List ℕ
-nameOfVariable heap text place v = part (getD heap (place + 3 * v) 0) (getD heap (place + 3 * v + 1) 0) text
-
--- The first variable that has the name `key`, from the i-th on.
-unfoldable pub variableFrom : ℕ → List ℕ → List ℕ → ℕ → List ℕ → ℕ → Option ℕ
-variableFrom zero heap text place key i = none
-variableFrom (suc left) heap text place key i =
-    pick (sameBytes (nameOfVariable heap text place i) key)
-    (λ _. some i)
-    (λ _. variableFrom left heap text place key (i + 1))
-
+-- The variable that has the name `key`.
 unfoldable pub variableFound : List ℕ → List ℕ → ℕ → List ℕ → Option ℕ
 variableFound heap text r key = variableFrom (variableCount heap r) heap text (variablesPlace heap r) key 0
-
--- A variable by its number, or a symbol by its address.
-pub data Node : Type 0 where
-  variable : ℕ → Node
-  symbol : ℕ → Node
-
--- What each case of an answer says.
-abbrev pub read : declared.Node → Node
-read (nodes.Variable v) = variable v
-read (nodes.Symbol c) = symbol c
-
-unfoldable pub nodeOf : ℕ → Node
-nodeOf word = pick (ltb word places.variable) (λ _. symbol word) (λ _. variable (word - places.variable))
-
-unfoldable pub nodeAt : List ℕ → ℕ → Node
-nodeAt heap o = nodeOf (getD heap o 0)

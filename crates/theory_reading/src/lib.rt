@@ -5,15 +5,9 @@ ghost use Rattle.words.specs.Parts.{part};
 ghost use Rattle.names.specs.Chains.{answered};
 ghost use Rattle.theory_reading.specs.Reading.{constructorFound, predicateFound, ruleFound, outputOf, arityOf, inputOf, fitsInput};
 ghost use Rattle.theory_reading.specs.Reading.{premiseCount, variableCount, premisesPlace, conclusionPlace, variablesPlace};
-ghost use Rattle.theory_reading.specs.Reading.{sortOfVariable, variableFound, read, nodeAt};
+ghost use Rattle.theory_reading.specs.Reading.{sortOfVariable, variableFound};
 use items::places;
 use names::Found;
-
-// A pattern's first word: a variable by its number, or a symbol by its address, whose arguments follow.
-pub enum Node {
-    Variable(u32),
-    Symbol(u32),
-}
 
 // A constructor of the rulebook `text` that has the name from `start` to `end` in `from`.
 pub fn find_constructor(heap: &[u32], text: &[u8], from: &[u8], start: usize, end: usize) -> Found
@@ -136,26 +130,5 @@ pub fn find_variable(
 {
     let count = variable_count(heap, r);
     let place = variables(heap, r);
-    let mut i: u32 = 0;
-    while i < count {
-        let v = place as usize + 3 * i as usize;
-        let s = words::at(heap, v);
-        let t = words::at(heap, v + 1);
-        if words::same_bytes(text, s as usize, t as usize, from, start, end) {
-            return Found::At(i);
-        }
-        i += 1;
-    }
-    Found::Nothing
-}
-
-// What a pattern's words begin with at o.
-pub fn pattern_node(heap: &[u32], o: u32) -> Node
-    ensures { λ r. ⌜ read r ≡ nodeAt (now (heap .entry)) o ⌝ }
-{
-    let word = words::at(heap, o as usize);
-    if word < places::VARIABLE {
-        return Node::Symbol(word);
-    }
-    Node::Variable(word - places::VARIABLE)
+    leaves::find_variable(heap, place, count, text, from, start, end)
 }

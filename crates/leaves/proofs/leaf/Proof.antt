@@ -11,7 +11,7 @@ same-length-2 c = c .before .heap .given
 
 returns : tie.Need-returns
 unfolding leaf
-returns c = rw (← c .before .before .before .before .before .before .before .before .is-question .ensures, c .before .before .before .before .before .before .before .if1 .taken, ← c .before .before .before .before .schematic .ensures)
+returns c = rw (← c .before .before .before .before .before .before .before .before .is-question .ensures, c .before .before .before .before .before .before .before .if1 .taken, ← c .before .before .before .before .variable-pattern .ensures)
 
 same-length-3 : tie.Need-same-length-3
 same-length-3 c = c .before .heap2 .given
