@@ -7,8 +7,8 @@ use Rattle.horn.specs.Tokens
 use Rattle.words.specs.Parts
 use Rattle.words.specs.Sums
 use Rattle.lex.specs.Answers
-use Rattle.lex.specs.Characters
-use Rattle.lex.specs.Classes
+use Rattle.utf8.specs.Characters
+use Rattle.utf8.specs.Classes
 use Rattle.lex.specs.Scan
 use Rattle.names.specs.Chains
 use Rattle.outcomes.specs.Outcomes.{refusal}

@@ -10,12 +10,13 @@ use lib.ListN.{length, getD, take, drop, length-drop, drop-of-length-le}
 use lib.Seq.{drop-drop, drop-cons}
 use Rattle.horn.specs.Utf8.{Char, char}
 use Rattle.horn.specs.Tokens.{Stream, end, _▹_, before, lines, characters}
-use Rattle.lex.specs.Characters.{First, broken, found, first, width}
+use Rattle.utf8.specs.Characters.{First, broken, found, first, width}
 use Rattle.lex.specs.Scan.{lineEnd}
 use Rattle.lex.specs.declared.Line.the-variants as line
 use Rattle.horn.proofs.Equality.{case}
 use Rattle.horn.proofs.CompleteLines.{before-append}
-use Rattle.lex.proofs.Turns.{at-drop, Sound, sound, width-zero, width-steps, line-stop, line-bad, line-step, line-over}
+use Rattle.utf8.proofs.Looks.{at-drop, Sound, sound, width-zero, width-steps}
+use Rattle.lex.proofs.Turns.{line-stop, line-bad, line-step, line-over}
 use Rattle.lex.proofs.Streams.{GoodLine, BadLine, good-end, good-newline, good-on, bad-on, head-broken}
 use Rattle.lex.proofs.Streams.{stream-newline, stream-on, value-on}
 

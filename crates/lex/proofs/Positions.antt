@@ -7,13 +7,13 @@ use native.Mathlib.Omega.{arith}
 use lib.ListN.{length, drop}
 use Rattle.horn.specs.Tokens.{Stream, _▹_, before, tokens}
 use Rattle.horn.specs.Tokens as horn
-use Rattle.lex.specs.Characters.{first, width, kindAt}
+use Rattle.utf8.specs.Characters.{first, width, kindAt}
 use Rattle.lex.specs.Answers.{Answer, token, peeked, taken, start}
 use Rattle.lex.specs.declared.Token.{Token}
 use Rattle.lex.specs.declared.Token.the-variants.{Opening, Closing, Atom}
 use Rattle.lex.specs.declared.Reader.{Reader}
-use Rattle.lex.proofs.Grammar.{lt-of-le-of-ne}
-use Rattle.lex.proofs.Turns.{kind-steps}
+use Rattle.utf8.proofs.Grammar.{lt-of-le-of-ne}
+use Rattle.utf8.proofs.Looks.{kind-steps}
 use Rattle.lex.proofs.Lines.{Clean, clean-le}
 use Rattle.lex.proofs.Standing.{meant, AtomMoved, Moved, Stands, Took, Saw, Takes, Sees, start-stands, token-law, peek-law}
 

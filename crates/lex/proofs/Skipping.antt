@@ -12,8 +12,8 @@ use Rattle.horn.specs.Tokens.{Stream, _▹_, before, Token, opening, closing, a
 use Rattle.horn.specs.Tokens.{kind, Kind, blank, opens, closes, comments, ordinary, white, whiteRanges, inSome}
 use Rattle.horn.specs.Tokens.{Place, between, inComment, inAtom, begins, continues, move, unended, tokensFrom}
 use Rattle.words.specs.Parts.{part}
-use Rattle.lex.specs.Classes.{kindNumber}
-use Rattle.lex.specs.Characters.{found, first, width, kindAt}
+use Rattle.utf8.specs.Classes.{kindNumber}
+use Rattle.utf8.specs.Characters.{found, first, width, kindAt}
 use Rattle.lex.specs.Scan.{blanks, atomEnd}
 use Rattle.horn.proofs.Equality.{case}
 use Rattle.lex.proofs.Turns.{atom-stop, atom-step, atom-over, blank-stop, blank-step, blank-over, comment-stop}

@@ -14,8 +14,8 @@ use Rattle.horn.specs.Tokens.{Stream, end, bad, _▹_, before, between, inAtom,
 use Rattle.horn.specs.Tokens.{kind, Kind, blank, opens, closes, comments, ordinary}
 use Rattle.horn.specs.Tokens as horn
 use Rattle.words.specs.Parts.{part}
-use Rattle.lex.specs.Classes.{kindNumber}
-use Rattle.lex.specs.Characters.{first, kindAt}
+use Rattle.utf8.specs.Classes.{kindNumber}
+use Rattle.utf8.specs.Characters.{first, kindAt}
 use Rattle.lex.specs.Scan.{blanks, atomEnd, lineEnd}
 use Rattle.lex.specs.Answers.{Answer, token, ended, refused, after, tokenAt, scannedOn, scanned, holding, peeked, peekedBy, taken, takenBy, start}
 use Rattle.lex.specs.declared.Line.{Line}
@@ -26,7 +26,7 @@ use Rattle.lex.specs.declared.Ahead.{Ahead}
 use Rattle.lex.specs.declared.Ahead.the-variants.{Nothing, Held}
 use Rattle.lex.specs.declared.Reader.{Reader}
 use Rattle.horn.proofs.Equality.{case}
-use Rattle.lex.proofs.Grammar.{lt-of-le-of-ne}
+use Rattle.utf8.proofs.Grammar.{lt-of-le-of-ne}
 use Rattle.lex.proofs.Answering.{line-bounds, scan-token, scan-ended, scan-bad, scan-step, at-atom, at-opening, at-closing}
 use Rattle.lex.proofs.Streams.{stream-bad}
 use Rattle.lex.proofs.Lines.{Clean, over, newline, on, charsAt, found-steps, clean-le, at-end, over-char, line-clean, line-broken}

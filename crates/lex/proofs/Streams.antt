@@ -10,8 +10,8 @@ use lib.Dec.{T, eqb, ltb, leb, eqb→eq, ltb→lt, leb→le}
 use lib.ListN.{length, getD, take, drop}
 use Rattle.horn.specs.Utf8.{Range, range, within, Sequence, sequence, sequences, startedBy, tail, Char, char, resumed, decoded}
 use Rattle.horn.specs.Tokens.{Stream, bad, _▹_, before, ontoFirstLine, lines, characters}
-use Rattle.lex.specs.Characters.{First, broken, found, oneMore, rest, first}
-use Rattle.lex.proofs.Table.{and-left, and-right}
+use Rattle.utf8.specs.Characters.{First, broken, found, oneMore, rest, first}
+use Rattle.utf8.proofs.Table.{and-left, and-right}
 use Rattle.horn.proofs.Equality.{case}
 
 -- The first line and the others.

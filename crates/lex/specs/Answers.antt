@@ -5,8 +5,8 @@ use mathlib.Core.List.{List}
 use lib.Dec.{eqb, ltb, leb}
 use lib.ListN.{length, drop}
 use Rattle.horn.specs.Refusals.{number, notUtf8}
-use Rattle.lex.specs.Classes.{isOrdinary, isOpening, isClosing}
-use Rattle.lex.specs.Characters.{first, width, kindAt}
+use Rattle.utf8.specs.Classes.{isOrdinary, isOpening, isClosing}
+use Rattle.utf8.specs.Characters.{first, width, kindAt}
 use Rattle.lex.specs.Scan.{blanks, atomEnd, lineEnd}
 use Rattle.lex.specs.declared.Line.{Line}
 use Rattle.lex.specs.declared.Line.the-variants as lines

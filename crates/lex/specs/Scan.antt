@@ -5,8 +5,8 @@ use mathlib.Core.Bool.{Bool, true, false}
 use mathlib.Core.List.{List}
 use lib.Dec.{eqb, ltb}
 use lib.ListN.{length, getD, drop}
-use Rattle.lex.specs.Classes.{isOrdinary, isWhite, isComment}
-use Rattle.lex.specs.Characters.{first, width, kindAt}
+use Rattle.utf8.specs.Classes.{isOrdinary, isWhite, isComment}
+use Rattle.utf8.specs.Characters.{first, width, kindAt}
 use Rattle.lex.specs.declared.Line.{Line}
 use Rattle.lex.specs.declared.Line.the-variants.{Good, Bad}
 

@@ -4,10 +4,9 @@ ghost use Prim.Native.Nat.{suc, _≤_, _<_};
 ghost use lib.ListN.{length};
 ghost use Rattle.lex.specs.Scan.{stopped, blanks, atomEnd, lineEnd};
 ghost use Rattle.lex.specs.Answers.{answer, tokenAt, scanned, peeked, taken, start};
+use utf8::classes;
 
-mod classes;
 pub mod lent;
-mod utf8;
 
 // "A token is an opening, a closing or an atom with its bounds."
 pub enum Token {

@@ -11,6 +11,12 @@ const DEEPEST: u32 = 256;
 // Where the places of the lists that are open stand.
 const OPEN: usize = 8192;
 
+// The innermost of some open lists stands their number behind this.
+const BEFORE_OPEN: usize = 8191;
+
+// A text of more than 8,192 tokens has more than 8,192 bytes; one turn more finds the end.
+const TURNS: u32 = 8193;
+
 // How many lists were opened so far, and how many of them are open.
 pub struct Place {
     pub openings: u32,
@@ -36,7 +42,7 @@ pub fn add_member(area: &mut [u32], depth: u32)
     if depth == 0 {
         return;
     }
-    let list = words::at(area, 8191 + depth as usize);
+    let list = words::at(area, BEFORE_OPEN + depth as usize);
     let count = words::at(area, list as usize);
     words::put(area, list as usize, std::num::wrapping_add_u32(count, 1));
 }
@@ -101,7 +107,7 @@ pub fn at_end(place: Place) -> Walk
 }
 
 // Reads all of a text. The count of members of each list is left in the order of the openings from word 0 on; the lists
-// that are open stand from word 8,192 on. A text of more than 8,192 tokens has more than 8,192 bytes.
+// that are open stand from word 8,192 on.
 pub fn count_members(text: &[u8], area: &mut [u32]) -> Walk
     ensures answer { λ r. ⌜ walkAnswer r ≡ (walked (now (text .entry)) (now (area .entry))) .answer ⌝ }
     ensures area { λ r. ⌜ now (area .exit) ≡ (walked (now (text .entry)) (now (area .entry))) .area ⌝ }
@@ -111,7 +117,7 @@ pub fn count_members(text: &[u8], area: &mut [u32]) -> Walk
         openings: 0,
         depth: 0,
     };
-    let mut fuel: u32 = 8193;
+    let mut fuel = TURNS;
     while 0 < fuel {
         let read = reader.token(text);
         match read {

@@ -1,6 +1,7 @@
 -- `lex::atom_end` meets its contract. Assumes nothing.
-use Rattle.lex.proofs.Turns.{look-past, look-one, longer-is, kind-steps, atom-on, atom-over, atom-stop}
-use Rattle.lex.specs.Characters.{width, kindAt}
+use Rattle.utf8.proofs.Looks.{look-past, look-one, longer-is, kind-steps}
+use Rattle.lex.proofs.Turns.{atom-on, atom-over, atom-stop}
+use Rattle.utf8.specs.Characters.{width, kindAt}
 use Rattle.lex.specs.Scan.{atomEnd}
 use lib.ListN.{length}
 use native.Mathlib.Omega.{arith}

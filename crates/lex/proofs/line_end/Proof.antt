@@ -1,5 +1,6 @@
 -- `lex::line_end` meets its contract. Assumes nothing.
-use Rattle.lex.proofs.Turns.{width-steps, rest-of, ascii-width, line-stop, line-bad, line-on, line-over}
+use Rattle.utf8.proofs.Looks.{width-steps, rest-of, ascii-width}
+use Rattle.lex.proofs.Turns.{line-stop, line-bad, line-on, line-over}
 use Rattle.lex.specs.Scan.{lineEnd}
 use lib.ListN.{length}
 use native.Mathlib.Omega.{arith}

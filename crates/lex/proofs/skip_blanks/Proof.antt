@@ -1,6 +1,7 @@
 -- `lex::skip_blanks` meets its contract. Assumes nothing.
-use Rattle.lex.proofs.Turns.{look-past, look-one, longer-is, kind-steps, blank-on, blank-over, comment-stop, blank-stop, blank-stopped}
-use Rattle.lex.specs.Characters.{width, kindAt}
+use Rattle.utf8.proofs.Looks.{look-past, look-one, longer-is, kind-steps}
+use Rattle.lex.proofs.Turns.{blank-on, blank-over, comment-stop, blank-stop, blank-stopped}
+use Rattle.utf8.specs.Characters.{width, kindAt}
 use Rattle.lex.specs.Scan.{blanks}
 use lib.ListN.{length}
 use native.Mathlib.Omega.{arith}

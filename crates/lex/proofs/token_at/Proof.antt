@@ -1,6 +1,6 @@
 -- `lex::token_at` meets its contract. Assumes nothing.
 use Rattle.lex.proofs.Answering.{at-atom, at-opening, at-closing, at-none}
-use Rattle.lex.proofs.Turns.{kind-steps}
+use Rattle.utf8.proofs.Looks.{kind-steps}
 use Rattle.lex.specs.Answers.{answer}
 use native.Mathlib.Omega.{arith}
 use mathlib.Core.Path.{_≡_, _∙_, sym, refl}

@@ -1,0 +1,4 @@
+pub mod Table
+pub mod Grammar
+pub mod Whiteness
+pub mod Looks

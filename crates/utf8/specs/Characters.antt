@@ -1,0 +1,65 @@
+-- The first character of some bytes, by RFC 3629's grammar.
+use Prim.Native.Nat.{ℕ, suc, _+_, _*_, _-_, _%_}
+use mathlib.Core.Bool.{Bool, true, false}
+use mathlib.Core.List.{List, [], _∷_}
+use mathlib.Core.Option.{Option, none, some}
+use lib.Dec.{eqb, ltb}
+use lib.ListN.{getD}
+use Rattle.horn.specs.Utf8.{Range, within, Sequence, sequence, sequences, startedBy}
+use Rattle.horn.specs.Tokens.{kind}
+use Rattle.utf8.specs.Classes.{kindNumber, never, lowOf, highOf}
+
+-- A character of so many bytes with this value, or none.
+pub data First : Type 0 where
+  broken : First
+  found : ℕ → ℕ → First
+
+unfoldable pub oneMore : First → First
+oneMore broken = broken
+oneMore (found width value) = found (suc width) value
+
+-- In the midst of a character: its value so far and the ranges of its bytes to come.
+unfoldable pub rest : ℕ → List Range → List ℕ → First
+rest value [] bs = found 0 value
+rest value (r ∷ rs) [] = broken
+rest value (r ∷ rs) (b ∷ bs) =
+    elim (within r b) [ true ↦ oneMore (rest (value * 0x40 + (b - 0x80)) rs bs) | false ↦ broken ]
+
+unfoldable pub first : List ℕ → First
+first [] = broken
+first (b ∷ bs) =
+    elim (startedBy b sequences) [ none ↦ broken | some (sequence r mark rs) ↦ oneMore (rest (b - mark) rs bs) ]
+
+-- Its width, 0 where there is none; its value; the number of its kind.
+unfoldable pub width : First → ℕ
+width broken = 0
+width (found n v) = n
+
+unfoldable pub value : First → ℕ
+value broken = 0
+value (found n v) = v
+
+unfoldable pub kindAt : First → ℕ
+kindAt broken = never
+kindAt (found n v) = kindNumber (kind v)
+
+-- The same by the class of the first byte, for the classes above 5: a byte outside its range breaks the character.
+unfoldable pub inRange : ℕ → ℕ → ℕ → First → First
+inRange low high b f = elim (ltb b low) [ true ↦ broken | false ↦ elim (ltb high b) [ true ↦ broken | false ↦ f ] ]
+
+unfoldable pub longerBy : ℕ → ℕ → List ℕ → First
+longerBy c b bs =
+    inRange (lowOf c) (highOf c) (getD bs 1 0)
+    (elim (eqb c 6) [
+      | true ↦ found 2 (b % 32 * 64 + getD bs 1 0 % 64)
+      | false ↦ inRange 0x80 0xBF (getD bs 2 0)
+          (elim (ltb c 10) [
+            | true ↦ found 3 ((b % 16 * 64 + getD bs 1 0 % 64) * 64 + getD bs 2 0 % 64)
+            | false ↦ inRange 0x80 0xBF (getD bs 3 0)
+                (found 4 (((b % 8 * 64 + getD bs 1 0 % 64) * 64 + getD bs 2 0 % 64) * 64 + getD bs 3 0 % 64))
+          ])
+    ])
+
+-- The same for the classes from 5 on: a byte of class 5 begins no character.
+unfoldable pub byClass : ℕ → List ℕ → First
+byClass c bs = elim (eqb c never) [ true ↦ broken | false ↦ longerBy c (getD bs 0 0) bs ]

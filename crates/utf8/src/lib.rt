@@ -1,0 +1,224 @@
+// Characters: the first of some bytes, and its kind.
+ghost use mathlib.Core.Path.{_≡_};
+ghost use Prim.Native.Nat.{_+_, _*_, _%_};
+ghost use lib.ListN.{drop};
+ghost use Rattle.horn.specs.Tokens.{white, kind};
+ghost use Rattle.horn.specs.Utf8.{within, range};
+ghost use Rattle.utf8.specs.Classes.{kindNumber};
+ghost use Rattle.utf8.specs.Characters.{first, longerBy, byClass, width, value, kindAt};
+
+pub mod classes;
+
+// A character's width in bytes, 0 where there is none, and its value.
+pub struct Character {
+    pub width: usize,
+    pub value: u32,
+}
+
+// The number of a character's kind, and its width.
+pub struct Seen {
+    pub kind: u8,
+    pub width: usize,
+}
+
+// Whether a value lies in a range.
+pub fn between(low: u32, v: u32, high: u32) -> bool
+    ensures { λ r. ⌜ r ≡ within (range low high) v ⌝ }
+{
+    if v < low {
+        return false;
+    }
+    v <= high
+}
+
+// Whether a character is white space, by its value.
+pub fn is_white(v: u32) -> bool
+    ensures { λ r. ⌜ r ≡ white v ⌝ }
+{
+    if 0x3000 < v {
+        return false;
+    }
+    if between(0x9, v, 0xD) {
+        return true;
+    }
+    if between(0x20, v, 0x20) {
+        return true;
+    }
+    if between(0x85, v, 0x85) {
+        return true;
+    }
+    if between(0xA0, v, 0xA0) {
+        return true;
+    }
+    if between(0x1680, v, 0x1680) {
+        return true;
+    }
+    if between(0x2000, v, 0x200A) {
+        return true;
+    }
+    if between(0x2028, v, 0x2029) {
+        return true;
+    }
+    if between(0x202F, v, 0x202F) {
+        return true;
+    }
+    if between(0x205F, v, 0x205F) {
+        return true;
+    }
+    between(0x3000, v, 0x3000)
+}
+
+// The number of a character's kind, by its value.
+pub fn kind_of(v: u32) -> u8
+    ensures { λ r. ⌜ r ≡ kindNumber (kind v) ⌝ }
+{
+    if is_white(v) {
+        return classes::WHITE;
+    }
+    if v == 0x28 {
+        return classes::OPENS;
+    }
+    if v == 0x29 {
+        return classes::CLOSES;
+    }
+    if v == 0x3B {
+        return classes::COMMENTS;
+    }
+    classes::ORDINARY
+}
+
+// The value of a character of two bytes.
+fn two(a: u8, b: u8) -> u32
+    ensures { λ r. ⌜ r ≡ a % 32 * 64 + b % 64 ⌝ }
+{
+    (a % 32) as u32 * 64 + (b % 64) as u32
+}
+
+// Of three bytes.
+fn three(a: u8, b: u8, c: u8) -> u32
+    ensures { λ r. ⌜ r ≡ (a % 16 * 64 + b % 64) * 64 + c % 64 ⌝ }
+{
+    ((a % 16) as u32 * 64 + (b % 64) as u32) * 64 + (c % 64) as u32
+}
+
+// Of four bytes.
+fn four(a: u8, b: u8, c: u8, d: u8) -> u32
+    ensures { λ r. ⌜ r ≡ ((a % 8 * 64 + b % 64) * 64 + c % 64) * 64 + d % 64 ⌝ }
+{
+    (((a % 8) as u32 * 64 + (b % 64) as u32) * 64 + (c % 64) as u32) * 64 + (d % 64) as u32
+}
+
+// The first character of some bytes.
+pub fn first_of(s: &[u8]) -> Character
+    ensures wide { λ r. ⌜ r .width ≡ width (first (now (s .entry))) ⌝ }
+    ensures valued { λ r. ⌜ r .value ≡ value (first (now (s .entry))) ⌝ }
+{
+    if s.len() == 0 {
+        return Character { width: 0, value: 0 };
+    }
+    let b = s[0];
+    let c = classes::class(b);
+    if c < classes::NEVER {
+        return Character {
+            width: 1,
+            value: b as u32,
+        };
+    }
+    if c == classes::NEVER {
+        return Character { width: 0, value: 0 };
+    }
+    longer(s, b, c)
+}
+
+// The first character of some bytes whose first byte leads longer ones.
+fn longer(s: &[u8], b: u8, c: u8) -> Character
+    ensures wide { λ r. ⌜ r .width ≡ width (longerBy c b (now (s .entry))) ⌝ }
+    ensures valued { λ r. ⌜ r .value ≡ value (longerBy c b (now (s .entry))) ⌝ }
+{
+    let second = words::byte(s, 1);
+    if second < classes::low(c) {
+        return Character { width: 0, value: 0 };
+    }
+    if classes::high(c) < second {
+        return Character { width: 0, value: 0 };
+    }
+    if c == classes::LEADS_TWO {
+        return Character {
+            width: 2,
+            value: two(b, second),
+        };
+    }
+    let third = words::byte(s, 2);
+    if third < 0x80 {
+        return Character { width: 0, value: 0 };
+    }
+    if 0xBF < third {
+        return Character { width: 0, value: 0 };
+    }
+    if c < classes::LEADS_F0 {
+        return Character {
+            width: 3,
+            value: three(b, second, third),
+        };
+    }
+    let fourth = words::byte(s, 3);
+    if fourth < 0x80 {
+        return Character { width: 0, value: 0 };
+    }
+    if 0xBF < fourth {
+        return Character { width: 0, value: 0 };
+    }
+    Character {
+        width: 4,
+        value: four(b, second, third, fourth),
+    }
+}
+
+// What stands at a place: the number of the character's kind and its width.
+pub fn look(text: &[u8], p: usize) -> Seen
+    ensures kinds { λ r. ⌜ r .kind ≡ kindAt (first (drop p (now (text .entry)))) ⌝ }
+    ensures wide { λ r. ⌜ r .width ≡ width (first (drop p (now (text .entry)))) ⌝ }
+{
+    if text.len() <= p {
+        return Seen {
+            kind: classes::NEVER,
+            width: 0,
+        };
+    }
+    let c = classes::class(text[p]);
+    if c < classes::NEVER {
+        return Seen { kind: c, width: 1 };
+    }
+    look_longer(text, p, c)
+}
+
+// The same where the byte at the place is no character by itself. It is apart so that a loop over characters of one byte stays small.
+pub fn look_longer(text: &[u8], p: usize, c: u8) -> Seen
+    ensures kinds { λ r. ⌜ r .kind ≡ kindAt (byClass c (drop p (now (text .entry)))) ⌝ }
+    ensures wide { λ r. ⌜ r .width ≡ width (byClass c (drop p (now (text .entry)))) ⌝ }
+{
+    if text.len() <= p {
+        return Seen {
+            kind: classes::NEVER,
+            width: 0,
+        };
+    }
+    if c == classes::NEVER {
+        return Seen {
+            kind: classes::NEVER,
+            width: 0,
+        };
+    }
+    let found = longer(&text[p..], text[p], c);
+    if found.width == 0 {
+        return Seen {
+            kind: classes::NEVER,
+            width: 0,
+        };
+    }
+    let kind = kind_of(found.value);
+    Seen {
+        kind,
+        width: found.width,
+    }
+}
