@@ -37,8 +37,25 @@ started-inner b (sequence a m r ∷ seqs) {r = r′} p e =
 inner : (b : ℕ) {a : Range} {m : ℕ} {r : List Range} → startedBy b sequences ≡ some (sequence a m r) → All Inner r
 unfolding sequences within tail
 inner b e =
-    started-inner b sequences
-    (tt, ((refl, tt), ((refl, (refl, tt)), ((refl, (refl, tt)), ((refl, (refl, tt)), ((refl, (refl, tt)), ((refl, (refl, (refl, tt))), ((refl, (refl, (refl, tt))), ((refl, (refl, (refl, tt))), tt)))))))))
+    started-inner b sequences (
+      tt,
+      (
+        (refl, tt),
+        (
+          (refl, (refl, tt)),
+          (
+            (refl, (refl, tt)),
+            (
+              (refl, (refl, tt)),
+              (
+                (refl, (refl, tt)),
+                ((refl, (refl, (refl, tt))), ((refl, (refl, (refl, tt))), ((refl, (refl, (refl, tt))), tt))),
+              ),
+            ),
+          ),
+        ),
+      ),
+    )
     e
 
 -- 0A begins a character that it ends.

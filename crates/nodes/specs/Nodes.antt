@@ -41,7 +41,9 @@ headOn store stack from i = headOf store nodeLimit indexPlaces (getD stack (from
 
 -- A node with these words.
 unfoldable pub interned : List ℕ → Reader → List ℕ → List ℕ → Did Areas (ℕ × Reader)
-interned key r store stack = storing.numbered r (internAnswer store nodeLimit wordLimit indexPlaces key) leaving (internArea store nodeLimit wordLimit indexPlaces key, stack)
+interned key r store stack =
+    storing.numbered r (internAnswer store nodeLimit wordLimit indexPlaces key)
+    leaving (internArea store nodeLimit wordLimit indexPlaces key, stack)
 
 -- "Then 15 for arity and sorts, then the store."
 unfoldable pub make : List ℕ → ℕ → ℕ → ℕ → Reader → List ℕ → List ℕ → Did Areas (ℕ × Reader)

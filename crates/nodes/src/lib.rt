@@ -67,7 +67,8 @@ pub fn accepts(heap: &[u32], store: &[u32], stack: &[u32], c: u32, from: u32, n:
 
 // "Then 15 for arity and sorts, then the store." The node's arguments stand behind the place of its head.
 pub fn node(heap: &[u32], store: &mut [u32], stack: &mut [u32], c: u32, top: u32, n: u32) -> Number
-    ensures { λ a. ⌜ ((r : Reader) → (given a r leaving (now (store .exit), now (stack .exit))) ≡ make (now (heap .entry)) c top n r (now (store .entry)) (now (stack .entry))) ⌝ }
+    ensures { λ a. ⌜ ((r : Reader) → (given a r leaving (now (store .exit), now (stack .exit)))
+        ≡ make (now (heap .entry)) c top n r (now (store .entry)) (now (stack .entry))) ⌝ }
 {
     if !accepts(heap, store, stack, c, words::plus(top, 1), n) {
         return Number::Refused(15);
@@ -92,7 +93,8 @@ pub fn make(
     n: u32,
     reader: Reader,
 ) -> Numbered
-    ensures { λ r. ⌜ (numbered r leaving (now (store .exit), now (stack .exit))) ≡ make (now (heap .entry)) c top n reader (now (store .entry)) (now (stack .entry)) ⌝ }
+    ensures { λ r. ⌜ (numbered r leaving (now (store .exit), now (stack .exit)))
+        ≡ make (now (heap .entry)) c top n reader (now (store .entry)) (now (stack .entry)) ⌝ }
 {
     let a = node(heap, store, stack, c, top, n);
     match a {
@@ -150,7 +152,9 @@ pub fn atom_term(
     t: usize,
     reader: Reader,
 ) -> Numbered
-    ensures { λ r. ⌜ (numbered r leaving (now (store .exit), now (stack .exit))) ≡ atomTerm (now (text .entry)) (now (rules .entry)) (now (heap .entry)) (now (table .entry)) top s t reader (now (store .entry)) (now (stack .entry)) ⌝ }
+    ensures { λ r. ⌜ (numbered r leaving (now (store .exit), now (stack .exit)))
+        ≡ atomTerm (now (text .entry)) (now (rules .entry)) (now (heap .entry)) (now (table .entry)) top s t reader (now (store .entry)) (now (stack .entry))
+        ⌝ }
 {
     if items::is_question(text, s) {
         let known = tables::meaning(table, limits::DEF_BUCKETS, text, s, t);

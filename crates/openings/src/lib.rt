@@ -1,4 +1,5 @@
-// How a term begins: as a term without brackets, whole, or as a list, by its head; and where a list may end, the closing. The reader is lent as words.
+// How a term begins: as a term without brackets, whole, or as a list, by its head; and where a list may end, the closing. The reader is
+// lent as words.
 ghost use mathlib.Core.Path.{_≡_};
 ghost use Rattle.lex.specs.Lent.{readerIn};
 ghost use Rattle.asking.specs.Asking as asked;
@@ -42,7 +43,9 @@ pub fn item(
     left: u32,
     reader: Reader,
 ) -> Begun
-    ensures { λ b. ⌜ (begins b (readerIn (now (r .exit))) leaving (now (store .exit), now (stack .exit))) ≡ begunAt left (now (text .entry)) (now (rules .entry)) (now (heap .entry)) (now (table .entry)) top (asked.member reader) (now (store .entry)) (now (stack .entry)) ⌝ }
+    ensures { λ b. ⌜ (begins b (readerIn (now (r .exit))) leaving (now (store .exit), now (stack .exit)))
+        ≡ begunAt left (now (text .entry)) (now (rules .entry)) (now (heap .entry)) (now (table .entry)) top (asked.member reader) (now (store .entry))
+        (now (stack .entry)) ⌝ }
 {
     if left == 0 {
         return Begun::Refused(4);
@@ -82,7 +85,9 @@ pub fn begin(
     left: u32,
     member: bool,
 ) -> Begun
-    ensures { λ b. ⌜ (begins b (readerIn (now (r .exit))) leaving (now (store .exit), now (stack .exit))) ≡ begun member left (now (text .entry)) (now (rules .entry)) (now (heap .entry)) (now (table .entry)) top (readerIn (now (r .entry))) (now (store .entry)) (now (stack .entry)) ⌝ }
+    ensures { λ b. ⌜ (begins b (readerIn (now (r .exit))) leaving (now (store .exit), now (stack .exit)))
+        ≡ begun member left (now (text .entry)) (now (rules .entry)) (now (heap .entry)) (now (table .entry)) top (readerIn (now (r .entry)))
+        (now (store .entry)) (now (stack .entry)) ⌝ }
 {
     let next = look(text, member, lent::reader_in(r));
     match next {

@@ -119,7 +119,8 @@ module _ {goalsText certificate table : List ℕ} {buckets : ℕ} {Means : ℕ �
         goal-part =
             goals-kept (entered goalBuckets buckets e certificate s t w table) (h .goal-part) l
             (entered-below table goalBuckets buckets e certificate s t w p 0 goalBuckets (omega arith) (omega arith))
-            (entered-same table goalBuckets buckets e certificate s t w p (goalBuckets + buckets) (goalBuckets + buckets + 4 * length goals) (omega arith) (omega arith));
+            (entered-same table goalBuckets buckets e certificate s t w p (goalBuckets + buckets) (goalBuckets + buckets + 4 * length goals)
+            (omega arith) (omega arith));
         def-part = rw q (defs-add s t w u (h .def-part) (omega arith) x y m n);
         step-part =
             steps-kept (entered goalBuckets buckets e certificate s t w table) (h .step-part) l
@@ -155,7 +156,8 @@ module _ {goalsText certificate table : List ℕ} {buckets : ℕ} {Means : ℕ �
         def-part =
             defs-kept (stepAdded j r place tally table) (h .def-part) l
             (step-added-below table j r place tally goalBuckets (goalBuckets + buckets) (omega arith))
-            (step-added-below table j r place tally (goalBuckets + buckets + 4 * length goals) (goalBuckets + buckets + 4 * length goals + 4 * length defs) (omega arith));
+            (step-added-below table j r place tally (goalBuckets + buckets + 4 * length goals) (goalBuckets + buckets + 4 * length goals + 4 * length defs)
+            (omega arith));
         step-part = steps-add j r place s tally (h .step-part) c (omega arith) x m;
         small = omega arith;
         room = omega arith;
@@ -181,7 +183,8 @@ module _ {goalsText certificate table : List ℕ} {buckets : ℕ} {Means : ℕ �
         def-part =
             defs-kept (set table (e + 3) 0) (h .def-part) l
             (set-same table (e + 3) 0 goalBuckets (goalBuckets + buckets) (λ x y. omega arith))
-            (set-same table (e + 3) 0 (goalBuckets + buckets + 4 * length goals) (goalBuckets + buckets + 4 * length goals + 4 * length defs) (λ x y. omega arith));
+            (set-same table (e + 3) 0 (goalBuckets + buckets + 4 * length goals) (goalBuckets + buckets + 4 * length goals + 4 * length defs)
+            (λ x y. omega arith));
         step-part =
             steps-kept (set table (e + 3) 0) (h .step-part) l
             (set-same table (e + 3) 0 (length table - 3 * length steps) (length table) (λ x y. omega arith));
@@ -259,8 +262,8 @@ add-goal {goalsText} {certificate} {table} {buckets} {tally} {goals} {openGoals}
           defs-raised (goalBuckets + buckets + 4 * length (goals ++ (g ∷ [])))
           (defs-kept (entered 0 goalBuckets e goalsText s t v table) (h .def-part) l
           (entered-same table 0 goalBuckets e goalsText s t v (omega arith) goalBuckets (goalBuckets + buckets) (omega arith) (omega arith))
-          (entered-same table 0 goalBuckets e goalsText s t v (omega arith) (goalBuckets + buckets + 4 * length goals) (goalBuckets + buckets + 4 * length goals + 0) (omega arith)
-          (omega arith)))
+          (entered-same table 0 goalBuckets e goalsText s t v (omega arith) (goalBuckets + buckets + 4 * length goals)
+          (goalBuckets + buckets + 4 * length goals + 0) (omega arith) (omega arith)))
           (omega arith);
       step-part =
           steps-kept (entered 0 goalBuckets e goalsText s t v table) (h .step-part) l

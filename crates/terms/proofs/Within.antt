@@ -47,7 +47,8 @@ module _ {B : Type 0} (z : Reader → Areas → Did Areas B) (f : (ℕ × Reader
   atom-then (refused n leaving s) = refl
 
   list-then : (o : Outcome (ℕ × Reader)) (store stack : List ℕ)
-      → ((o leaving (store, stack) >>= λ x. compounded heap (x .0 .0) top (arguments below text rules heap table (sum32 top 1) (x .0 .1) (x .1 .0) (x .1 .1))) >>= f)
+      → ((o leaving (store, stack) >>= λ x. compounded heap (x .0 .0) top
+      (arguments below text rules heap table (sum32 top 1) (x .0 .1) (x .1 .0) (x .1 .1))) >>= f)
       ≡ begunThen (o leaving (store, stack) >>= λ x. ok (opened (x .0 .0), x .0 .1) leaving (x .1 .0, x .1 .1))
   list-then (ok a) store stack = refl
   list-then (refused n) store stack = refl
@@ -126,7 +127,8 @@ list-within zero text rules heap table top store stack (ok (closing q)) e = let 
 list-within zero text rules heap table top store stack (ok (member q)) e = let x : _≡_ {A = ℕ} 0 1 = ap openings e in absurd (omega arith)
 list-within zero text rules heap table top store stack (refused m) e = let x : _≡_ {A = ℕ} 0 1 = ap openings e in absurd (omega arith)
 
-pub opened-within : (m : Bool) (left : ℕ) (text rules heap table : List ℕ) (top : ℕ) (r : Reader) (store stack : List ℕ) (b : Begun) {c : ℕ} (q : Reader) (s : Areas)
+pub opened-within : (m : Bool) (left : ℕ) (text rules heap table : List ℕ) (top : ℕ) (r : Reader) (store stack : List ℕ)
+    (b : Begun) {c : ℕ} (q : Reader) (s : Areas)
     → (begins b q leaving s) ≡ begun m left text rules heap table top r store stack → b ≡ Opened c → 0 < left
 unfolding begun
 opened-within m left text rules heap table top r store stack b q s e h =
@@ -151,7 +153,8 @@ module _ (left : ℕ) (text rules heap table : List ℕ) (top n fuel : ℕ) wher
   one-then (refused m leaving s) = refl
 
   look-then : (o : Outcome Ahead) (store stack : List ℕ)
-      → (o leaving (store, stack) >>= λ x. oneMore (term left text rules heap table) (argumentsFrom (term left text rules heap table) fuel text top) top n (x .0) (x .1 .0) (x .1 .1))
+      → (o leaving (store, stack) >>= λ x. oneMore (term left text rules heap table)
+      (argumentsFrom (term left text rules heap table) fuel text top) top n (x .0) (x .1 .0) (x .1 .1))
       ≡ argumentThen (o leaving (store, stack) >>= λ x. argumentAt left text rules heap table (sum32 top n) (x .0) (x .1 .0) (x .1 .1))
   look-then (ok (closing q)) store stack = refl
   look-then (ok (member q)) store stack = one-then (term left text rules heap table (sum32 top n) q store stack)
@@ -167,7 +170,8 @@ arguments-then left (suc fuel) text rules heap table top n r store stack l =
     let e : suc fuel - 1 ≡ fuel = omega arith in
     rw e (look-then left text rules heap table top n fuel (closingNext text r) store stack)
 
-pub arguments-on : (left fuel : ℕ) (text rules heap table : List ℕ) (top n : ℕ) (r : Reader) (store stack : List ℕ) (a : Argument) (q : Reader) {place next k : ℕ} {store′ stack′ stack″ : List ℕ}
+pub arguments-on : (left fuel : ℕ) (text rules heap table : List ℕ) (top n : ℕ) (r : Reader) (store stack : List ℕ)
+    (a : Argument) (q : Reader) {place next k : ℕ} {store′ stack′ stack″ : List ℕ}
     → 0 < fuel → place ≡ sum32 top n → next ≡ sum32 n 1
     → (argues a q leaving (store′, stack′)) ≡ argument left text rules heap table place r store stack → a ≡ Term k → stack″ ≡ set stack′ place k
     → argumentsFrom (term left text rules heap table) fuel text top n r store stack

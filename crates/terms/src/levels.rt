@@ -28,7 +28,9 @@ pub fn term(
     max: usize,
 ) -> Argument
     requires { ⌜ max ≡ length (now text) + 1 ⌝ }
-    ensures { λ a. ⌜ (argues a (readerIn (now (r .exit))) leaving (now (store .exit), now (stack .exit))) ≡ argument left (now (text .entry)) (now (rules .entry)) (now (heap .entry)) (now (table .entry)) top (readerIn (now (r .entry))) (now (store .entry)) (now (stack .entry)) ⌝ }
+    ensures { λ a. ⌜ (argues a (readerIn (now (r .exit))) leaving (now (store .exit), now (stack .exit)))
+        ≡ argument left (now (text .entry)) (now (rules .entry)) (now (heap .entry)) (now (table .entry)) top (readerIn (now (r .entry)))
+        (now (store .entry)) (now (stack .entry)) ⌝ }
 {
     let b = openings::begin(text, rules, heap, table, store, stack, r, top, left, true);
     match b {
@@ -69,7 +71,9 @@ pub fn args(
     max: usize,
 ) -> Number
     requires { ⌜ max ≡ length (now text) + 1 ⌝ }
-    ensures { λ a. ⌜ (given a (readerIn (now (r .exit))) leaving (now (store .exit), now (stack .exit))) ≡ arguments left (now (text .entry)) (now (rules .entry)) (now (heap .entry)) (now (table .entry)) top (readerIn (now (r .entry))) (now (store .entry)) (now (stack .entry)) ⌝ }
+    ensures { λ a. ⌜ (given a (readerIn (now (r .exit))) leaving (now (store .exit), now (stack .exit)))
+        ≡ arguments left (now (text .entry)) (now (rules .entry)) (now (heap .entry)) (now (table .entry)) top (readerIn (now (r .entry)))
+        (now (store .entry)) (now (stack .entry)) ⌝ }
 {
     let mut n: u32 = 0;
     let mut fuel = max;

@@ -32,7 +32,8 @@ pub fn term(
     left: u32,
     reader: Reader,
 ) -> Numbered
-    ensures { λ r. ⌜ (numbered r leaving (now (store .exit), now (stack .exit))) ≡ term left (now (text .entry)) (now (rules .entry)) (now (heap .entry)) (now (table .entry)) top reader (now (store .entry)) (now (stack .entry)) ⌝ }
+    ensures { λ r. ⌜ (numbered r leaving (now (store .exit), now (stack .exit)))
+        ≡ term left (now (text .entry)) (now (rules .entry)) (now (heap .entry)) (now (table .entry)) top reader (now (store .entry)) (now (stack .entry)) ⌝ }
 {
     let mut lent = lex::lent::lend(reader);
     let b = openings::begin(
@@ -78,7 +79,9 @@ pub fn args(
     left: u32,
     reader: Reader,
 ) -> Numbered
-    ensures { λ r. ⌜ (numbered r leaving (now (store .exit), now (stack .exit))) ≡ arguments left (now (text .entry)) (now (rules .entry)) (now (heap .entry)) (now (table .entry)) top reader (now (store .entry)) (now (stack .entry)) ⌝ }
+    ensures { λ r. ⌜ (numbered r leaving (now (store .exit), now (stack .exit)))
+        ≡ arguments left (now (text .entry)) (now (rules .entry)) (now (heap .entry)) (now (table .entry)) top reader (now (store .entry))
+        (now (stack .entry)) ⌝ }
 {
     let mut lent = lex::lent::lend(reader);
     let max = text.len() + 1;
@@ -114,7 +117,9 @@ pub fn headed_judgment(
     t: usize,
     reader: Reader,
 ) -> Numbered
-    ensures { λ r. ⌜ (numbered r leaving (now (store .exit), now (stack .exit))) ≡ headedJudgment left (now (text .entry)) (now (rules .entry)) (now (heap .entry)) (now (table .entry)) top s t reader (now (store .entry)) (now (stack .entry)) ⌝ }
+    ensures { λ r. ⌜ (numbered r leaving (now (store .exit), now (stack .exit)))
+        ≡ headedJudgment left (now (text .entry)) (now (rules .entry)) (now (heap .entry)) (now (table .entry)) top s t reader (now (store .entry))
+        (now (stack .entry)) ⌝ }
 {
     let h = nodes::predicate_due(text, rules, heap, s, t, reader);
     let Numbered::Got(c, q) = h else {
@@ -140,7 +145,9 @@ pub fn judgment(
     left: u32,
     reader: Reader,
 ) -> Numbered
-    ensures { λ r. ⌜ (numbered r leaving (now (store .exit), now (stack .exit))) ≡ judgment left (now (text .entry)) (now (rules .entry)) (now (heap .entry)) (now (table .entry)) top reader (now (store .entry)) (now (stack .entry)) ⌝ }
+    ensures { λ r. ⌜ (numbered r leaving (now (store .exit), now (stack .exit)))
+        ≡ judgment left (now (text .entry)) (now (rules .entry)) (now (heap .entry)) (now (table .entry)) top reader (now (store .entry))
+        (now (stack .entry)) ⌝ }
 {
     if left == 0 {
         return Numbered::Refused(4);
