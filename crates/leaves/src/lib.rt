@@ -26,12 +26,13 @@ pub fn find_variable(
 ) -> Found
     ensures { λ r. ⌜ answered r ≡ variableFrom count (now (area .entry)) (now (text .entry)) place (part start end (now (from .entry))) 0 ⌝ }
 {
+    let key = words::bytes_part(from, start, end);
     let mut i: u32 = 0;
     while i < count {
         let v = place as usize + 3 * i as usize;
         let s = words::at(area, v);
         let t = words::at(area, v + 1);
-        if words::same_bytes(text, s as usize, t as usize, from, start, end) {
+        if words::is_part(text, s as usize, t as usize, key) {
             return Found::At(i);
         }
         i += 1;

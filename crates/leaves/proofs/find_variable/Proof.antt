@@ -9,20 +9,20 @@ use Rattle.leaves.proofs.find_variable.Statement.{statement}
 use Rattle.leaves.proofs.find_variable.Tie as tie
 
 abbrev Inv-loop : tie.InvT-loop
-Inv-loop area place count text from start end i₀ i =
-    (i ≤ count) × (variableFrom count area text place (part start end from) 0 ≡ variableFrom (count - i) area text place (part start end from) i)
+Inv-loop area place count text from start end key i₀ i =
+    (i ≤ count) × (variableFrom count area text place (part start end from) 0 ≡ variableFrom (count - i) area text place key i)
 
 abbrev μ-loop : tie.MeasureT-loop
-μ-loop area place count text from start end i₀ i = count - i
+μ-loop area place count text from start end key i₀ i = count - i
 
 loop-holds : tie.Need-loop-holds Inv-loop μ-loop
-loop-holds c = (search needs, variable-first _ _ _ _ _)
+loop-holds c = (search needs, rw (← c .bytes-part .ensures) (variable-first _ _ _ _ _))
 
 returns : tie.Need-returns Inv-loop μ-loop
-returns c = sym (c .before .before .before .before .before .loop .inv .1 ∙ variable-here _ _ _ _ _ _ (c .before .before .before .before .loop-test .taken) (variable-compared _ _ _ _ _ (c .before .before .before .at .ensures) (c .before .before .at2 .ensures) (c .before .same-bytes .ensures) ∙ c .if1 .taken))
+returns c = sym (c .before .before .before .before .before .loop .inv .1 ∙ variable-here _ _ _ _ _ _ (c .before .before .before .before .loop-test .taken) (variable-compared _ _ _ _ _ (c .before .before .before .at .ensures) (c .before .before .at2 .ensures) (c .before .is-part .ensures) ∙ c .if1 .taken))
 
 loop-again : tie.Need-loop-again Inv-loop μ-loop
-loop-again c = (search needs, c .before .before .before .before .before .loop .inv .1 ∙ variable-on _ _ _ _ _ _ (c .before .before .before .before .loop-test .taken) (variable-compared _ _ _ _ _ (c .before .before .before .at .ensures) (c .before .before .at2 .ensures) (c .before .same-bytes .ensures) ∙ c .if1 .left))
+loop-again c = (search needs, c .before .before .before .before .before .loop .inv .1 ∙ variable-on _ _ _ _ _ _ (c .before .before .before .before .loop-test .taken) (variable-compared _ _ _ _ _ (c .before .before .before .at .ensures) (c .before .before .at2 .ensures) (c .before .is-part .ensures) ∙ c .if1 .left))
 
 returns-2 : tie.Need-returns-2 Inv-loop μ-loop
 returns-2 c = sym (c .before .loop .inv .1 ∙ variable-nowhere _ _ _ _ _ _ (c .loop-test .left))
@@ -30,5 +30,5 @@ returns-2 c = sym (c .before .loop .inv .1 ∙ variable-nowhere _ _ _ _ _ _ (c .
 pub find-variable-spec : {M : Type 1} → statement M
 find-variable-spec =
     tie.close
-    (tie.spec Inv-loop μ-loop loop-holds (λ c. search needs) (λ c. search needs) (λ c. search needs) (λ c κs. tt) (λ c. search needs) (λ c κs. tt)
+    (tie.spec Inv-loop μ-loop (λ c κs. tt) loop-holds (λ c. search needs) (λ c. search needs) (λ c. search needs) (λ c κs. tt) (λ c. search needs) (λ c κs. tt)
     (λ c. search needs) (λ c. search needs) (λ c κs. tt) returns (λ c. search needs) (λ c. search needs) loop-again returns-2)
