@@ -1,6 +1,6 @@
 // Nodes, each stored once and named by its number, in one lent area. Limits are parameters, and any area is survived.
 ghost use mathlib.Core.Path.{_≡_};
-ghost use Prim.Native.Nat.{ℕ};
+ghost use Prim.Native.Nat.{ℕ, _+_, _%_, _<_};
 ghost use lib.ListN.{getD};
 ghost use Rattle.arena.specs.Probing.{probe, startPlace};
 ghost use Rattle.arena.specs.Store.{placeAt, count, isKey, addedAnswer, addedArea};
@@ -42,6 +42,18 @@ fn is_key(a: &[u32], nodes: u32, places: u32, key: &[u32], k: u32) -> bool
     words::same_words(node, key)
 }
 
+// The place behind i, from last to first. Only the last place pays for a division.
+fn next_place(i: u32, places: u32) -> u32
+    requires { ⌜ 0 < places ⌝ }
+    ensures { λ r. ⌜ r ≡ (i + 1) % places ⌝ }
+{
+    let next = i as u64 + 1;
+    if next < places as u64 {
+        return next as u32;
+    }
+    (next % places as u64) as u32
+}
+
 // Walks the index from a place, at most once around.
 fn walk(a: &[u32], nodes: u32, places: u32, key: &[u32], start: u32) -> Probe
     ensures { λ r. ⌜ r
@@ -57,7 +69,7 @@ fn walk(a: &[u32], nodes: u32, places: u32, key: &[u32], start: u32) -> Probe
         if is_key(a, nodes, places, key, v - 1) {
             return Probe::Held(v - 1);
         }
-        i = ((i as u64 + 1) % places as u64) as u32;
+        i = next_place(i, places);
         fuel -= 1;
     }
     Probe::Nowhere

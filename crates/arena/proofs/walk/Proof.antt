@@ -2,7 +2,6 @@
 use Prim.Native.Nat.{ℕ, _+_, _≤_, _<_}
 use mathlib.Core.Path.{_≡_, refl, sym, _∙_}
 use native.Mathlib.Omega.{arith}
-use native.Mathlib.Nat.{mod-lt}
 use lib.ListN.{getD}
 use Rattle.arena.specs.Probing.{probe}
 use Rattle.arena.specs.Store.{placeAt, isKey}
@@ -28,11 +27,14 @@ returns c = sym (c .before .before .before .loop .inv .0 ∙ walk-free _ _ _ _ _
 returns-2 : tie.Need-returns-2 Inv-loop μ-loop
 returns-2 c = sym (c .before .before .before .before .before .loop .inv .0 ∙ walk-held _ _ _ _ _ _ (c .before .before .before .before .loop-test .taken) (c .before .before .before .at .ensures) (c .before .before .if1 .left) (sym (c .before .is-key .ensures) ∙ c .if2 .taken))
 
-cast-i-2 : tie.Need-cast-i-2 Inv-loop μ-loop
-cast-i-2 c = let h : 0 < c .before .before .before .before .before .before .before .before .args .places = omega arith in let m = mod-lt (c .before .before .before .before .before .loop .i + 1) h in record { fits = omega arith }
-
 loop-again : tie.Need-loop-again Inv-loop μ-loop
-loop-again c = (c .before .before .before .before .before .loop .inv .0 ∙ walk-on _ _ _ _ _ _ (c .before .before .before .before .loop-test .taken) (c .before .before .before .at .ensures) (c .before .before .if1 .left) (sym (c .before .is-key .ensures) ∙ c .if2 .left), search needs, let h : 0 < c .before .before .before .before .before .before .before .before .args .places = omega arith in let m = mod-lt (c .before .before .before .before .before .loop .i + 1) h in omega arith)
+loop-again c = (
+  rw (c .next-place .ensures)
+      (c .before .before .before .before .before .before .loop .inv .0
+      ∙ walk-on _ _ _ _ _ _ (c .before .before .before .before .before .loop-test .taken) (c .before .before .before .before .at .ensures) (c .before .before .before .if1 .left) (sym (c .before .before .is-key .ensures) ∙ c .before .if2 .left)),
+  search needs,
+  search needs,
+)
 
 returns-3 : tie.Need-returns-3 Inv-loop μ-loop
 returns-3 c = sym (c .before .loop .inv .0 ∙ walk-end _ _ _ _ _ (λ h. omega arith))
@@ -41,5 +43,5 @@ pub walk-spec : {M : Type 1} → statement M
 walk-spec =
     tie.close
     (tie.spec Inv-loop μ-loop loop-holds (λ c. search needs) (λ c. search needs) (λ c. search needs) (λ c κs. search needs) returns
-    (λ c. search needs) (λ c κs. search needs) (λ c. search needs) returns-2 (λ c. search needs) (λ c. search needs) (λ c. search needs)
-    cast-i-2 (λ c. search needs) (λ c. search needs) loop-again returns-3)
+    (λ c. search needs) (λ c κs. search needs) (λ c. search needs) returns-2 (λ c κs. search needs) (λ c. search needs) (λ c. search needs)
+    loop-again returns-3)
