@@ -25,7 +25,7 @@ use Rattle.theory_laws.proofs.Lookups.{part-question, part-length, bare-width}
 use Rattle.theory_reading.specs.Storing as storing
 use Rattle.asking_laws.proofs.Places.{RestComes, At}
 use Rattle.asking_laws.proofs.Asking.{WordMet, word-met, word-law}
-use Rattle.asking.specs.Asking.{atomDue}
+use Rattle.asking.specs.Asking.{inForm, atomDue}
 use Rattle.certificates.specs.Certificates.{defNamed}
 
 -- What was asked for and tested at once, where the definition does one after the other.
@@ -62,8 +62,8 @@ module _ (text : List ℕ) (K : Stream Token → Type 0) (n : ℕ) where
   answered (both-ok m) = both-ok (word-is m)
 
   -- An atom of a form.
-  pub member-law : (is : Items) {r : Reader} → At text (RestComes is K) n r → Answers WordIs (atomDue text 256 r) (definition.askWord 1 is)
-  member-law is a = answered (word-law text K n is 256 1 refl a)
+  pub member-law : (is : Items) {r : Reader} → At text (RestComes is K) n r → Answers WordIs (atomDue text inForm r) (definition.askWord 1 is)
+  member-law is a = answered (word-law text K n is inForm 1 refl a)
 
   -- "Name without `?`, or `?` alone, 11".
   pub def-named : (is : Items) {r : Reader} → At text (RestComes is K) n r

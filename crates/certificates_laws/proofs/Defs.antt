@@ -34,6 +34,7 @@ use Rattle.tables.specs.Words.{defFound, defAdded, defCounted}
 use Rattle.tables.specs.Representation.{Tables}
 use Rattle.tables.proofs.Laws.{known-def}
 use Rattle.tables.proofs.Phases.{next-def}
+use Rattle.asking.specs.Asking.{inForm}
 use Rattle.asking_laws.proofs.Places.{RestComes, Any, At, at-less}
 use Rattle.asking_laws.proofs.Asking.{closing-law}
 use Rattle.terms_laws.proofs.Judgments.{lifted, AskedRead}
@@ -91,7 +92,8 @@ module _ {rules heap : List ℕ} {es : Entries} {bound : ℕ} {th : Theory} (h :
   unfolding walk.defForm definition.defForm checker._>>=_ checker.lift checker.give AskedRead number
   reads K is r t at-items =
       lifted-tested ts (askWord 1 is) (λ y. questioned (y .0) && not (bare (y .0))) variableName _ _ (def-named certificate K 0 is at-items) (λ x y m.
-      bind-before table _ _ (certificate-term (holds-now h high keep) 256 1 0 2 refl (y .1) K (x .2) store stack stored (omega arith) long t short (m .reader))
+      bind-before table _ _ (certificate-term (holds-now h high keep) inForm 1 0 2 refl (y .1) K (x .2) store stack stored (omega arith) long t short
+      (m .reader))
       (λ z areas v k.
       lifted (v .1) _ _
       (tested (not (present (defFound 128 certificate (part (x .0) (x .1) certificate) table))) 13 duplicate (ap not (known t (m .name))) refl) (λ a b fresh.

@@ -32,6 +32,7 @@ use Rattle.tables.specs.Words.{goalOpen, goalClosed, goalDone, stepWord}
 use Rattle.tables.specs.Representation.{Tables, OpenAt, OpenAgree, none-open, one-open, StepAgree, no-step, one-step}
 use Rattle.tables.proofs.Laws.{open-goal, step-of}
 use Rattle.tables.proofs.Phases.{next-result}
+use Rattle.asking.specs.Asking.{inForm}
 use Rattle.asking_laws.proofs.Places.{RestComes, Any, At, at-less}
 use Rattle.asking_laws.proofs.Asking.{closing-law}
 use Rattle.terms_laws.proofs.Judgments.{lifted}
@@ -95,7 +96,7 @@ module _ {rules heap : List ℕ} {es : Entries} {bound : ℕ} {th : Theory} (h :
   reads K is r t at-items =
       lifted ts _ _ (member-law certificate K 0 is at-items) (λ x y m.
       lifted ts _ _ (open-due t (m .name)) (λ z g a.
-      lifted ts _ _ (number-law certificate K 2 (y .1) 256 1 refl (m .reader)) (λ n v i.
+      lifted ts _ _ (number-law certificate K 2 (y .1) inForm 1 refl (m .reader)) (λ n v i.
       lifted ts _ _ (step-due t {Says = λ j s. Means es th ts j (judgmentOf s)} (λ j e p s c. c .means) (sym (i .same))) (λ k s b.
       lifted ts _ _ (tested (eqb k (z .1)) 27 otherJudgment (means-same stored h b (open-means a)) refl) (λ c d same.
       lifted ts _ _ (closing-law certificate K 4 (v .1) (i .reader)) (λ q f there.

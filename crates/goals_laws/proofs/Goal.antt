@@ -28,6 +28,7 @@ use Rattle.tables.specs.Words.{goalAdded, goalCounted}
 use Rattle.tables.specs.Phases.{Gathering}
 use Rattle.tables.proofs.Laws.{known-goal}
 use Rattle.tables.proofs.Phases.{gathering-more, next-goal}
+use Rattle.asking.specs.Asking.{inForm}
 use Rattle.asking_laws.proofs.Places.{RestComes, At, at-less}
 use Rattle.asking_laws.proofs.Asking.{closing-law}
 use borrow.Author.Tests.{not-true}
@@ -80,11 +81,12 @@ module _ {rules heap : List ℕ} {es : Entries} {bound : ℕ} {th : Theory} (h :
   unfolding AskedRead walk.goal walk.goalName definition.goalForm definition._>>=_ definition.lift definition.give definition.groupDue refusals._>>=_ number
       codes
   goal-met =
-      word-first _ ts _ goalsText K 0 inner 256 1 _ _ refl there (λ a b q is l u at-name.
+      word-first _ ts _ goalsText K 0 inner inForm 1 _ _ refl there (λ a b q is l u at-name.
       first-of _ ts _ _ _ (tested _ 9 form (same-named (part a b goalsText) walk.goalWord) refl) (λ x y e.
-      word-first _ ts _ goalsText K 2 is 256 1 _ _ refl at-name (λ s t p js before inside at-judgment.
+      word-first _ ts _ goalsText K 2 is inForm 1 _ _ refl at-name (λ s t p js before inside at-judgment.
       first-of _ ts _ _ _ (tested _ 11 variableName (ap not (sym (part-question s t goalsText before inside))) refl) (λ x y e.
-      bind-before table _ _ (goal-judgment h 256 1 0 4 refl js K p store stack stored (omega arith) long (g .tables) (omega arith) at-judgment) (λ v areas z m.
+      bind-before table _ _ (goal-judgment h inForm 1 0 4 refl js K p store stack stored (omega arith) long (g .tables) (omega arith) at-judgment)
+      (λ v areas z m.
       lifted (z .1) _ _ (closing-law goalsText K 6 (z .0 .1) (m .reader)) (λ o x behind.
       lifted (z .1) _ _ (tested _ 13 duplicate (ap not (known-goal (g .tables) (part s t goalsText))) refl) (λ x y e.
       leave record {

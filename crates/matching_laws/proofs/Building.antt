@@ -174,7 +174,7 @@ module _ {text heap : List ℕ} {es : Entries} {top : ℕ} {th : Theory} (h : Ho
       pattern-built {o} {o′} (flat-symbol {c} {ps} y u a r) (full-symbol wide f) (suc left) q le {stack} {store} {ts} fits short st bs =
           let (below, above) = symbol-below h a in
           let w : getD now o 0 ≡ getD heap o 0 = keep .words o (omega arith) in
-          let n : arityOf now (getD heap o 0) ≡ widthOf ps = keep .words (getD heap o 0 + 4) (omega arith) ∙ symbol-arity h a ∙ sym wide in
+          let n : arityOf now (getD heap o 0) ≡ widthOf ps = keep .words (getD heap o 0 + layout.arity) (omega arith) ∙ symbol-arity h a ∙ sym wide in
           let z : sum32 o 1 ≡ o + 1 = sum-small o 1 (omega arith) in
           let x : sum32 q 1 ≡ q + 1 = sum-small q 1 (omega arith) in
           let m = length-set stack q (getD heap o 0) in

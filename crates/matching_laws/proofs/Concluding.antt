@@ -91,8 +91,8 @@ module _ {text heap : List ℕ} {es : Entries} {top : ℕ} {th : Theory} (h : Ho
       let up = list-width (w .at-premises) in
       let high = w .high in
       let over = flat-rises (w .at-conclusion) in
-      let n : premiseCount now e ≡ length ps = keep .words (e + 3) (omega arith) ∙ w .premise-count in
-      let x : premisesPlace e ≡ e + 7 = sum-small e 7 (omega arith) in
+      let n : premiseCount now e ≡ length ps = keep .words (e + layout.premise-count) (omega arith) ∙ w .premise-count in
+      let x : premisesPlace e ≡ e + layout.patterns = sum-small e layout.patterns (omega arith) in
       rw (eq-eqb word 0 z, n, x, built-defined limits th steps name vs ps c refs binds ts)
       (bind-aside (store, stack) _ _
       (premises-match h small narrow st (ready .distinct) (omega arith) small sa (w .at-premises) (ready .premises) count at-refs keep bs)
@@ -108,10 +108,10 @@ module _ {text heap : List ℕ} {es : Entries} {top : ℕ} {th : Theory} (h : Ho
       let up = list-width (w .at-premises) in
       let high = w .high in
       let over = flat-rises (w .at-conclusion) in
-      let n : premiseCount now e ≡ length ps = keep .words (e + 3) (omega arith) ∙ w .premise-count in
-      let x : premisesPlace e ≡ e + 7 = sum-small e 7 (omega arith) in
+      let n : premiseCount now e ≡ length ps = keep .words (e + layout.premise-count) (omega arith) ∙ w .premise-count in
+      let x : premisesPlace e ≡ e + layout.patterns = sum-small e layout.patterns (omega arith) in
       let m : word - 1 ≡ k = omega arith in
-      let s : conclusionPlace now e ≡ w .conclusion-place = keep .words (e + 5) (omega arith) ∙ w .to-conclusion in
+      let s : conclusionPlace now e ≡ w .conclusion-place = keep .words (e + layout.conclusion) (omega arith) ∙ w .to-conclusion in
       rw (ne-eqb word 0 (λ q. omega arith), m, n, x, s, stated-defined limits th steps name vs ps c refs binds j ts, ← b .tree)
       (aside {Q = λ a s q. ConcludedTo es th heap limits places ts a ((store, stack), s) q} (store, stack)
       (found-match 23 badConclusion _ _ refl

@@ -126,7 +126,7 @@ module _ {text heap : List ℕ} {es : Entries} {top : ℕ} {th : Theory} (h : Ho
           let (below, above) = symbol-below h a in
           let n = node-at st t b in
           let w : getD now o 0 ≡ getD heap o 0 = k .words o (omega arith) in
-          let y : arityOf now (getD heap o 0) ≡ widthOf ps = k .words (getD heap o 0 + 4) (omega arith) ∙ symbol-arity h a ∙ sym wide in
+          let y : arityOf now (getD heap o 0) ≡ widthOf ps = k .words (getD heap o 0 + layout.arity) (omega arith) ∙ symbol-arity h a ∙ sym wide in
           let z : sum32 o 1 ≡ o + 1 = sum-small o 1 (omega arith) in
           let same : eqb (getD heap o 0) (n .head) ≡ sameSymbol c (symbolAt es th (n .head)) = same-symbol h a (stands-at h (n .in-use)) in
           rw (w, lt-leb 16384 (getD heap o 0) (omega arith), n .read-head, n .tree)

@@ -22,12 +22,12 @@ module _ (read : ℕ → Walk → List ℕ → List ℕ → Did Areas Walk) (tex
   pub arguments-first : argumentsFrom read n text c 0 w vars heap ≡ argumentsFrom read (n - 0) text c 0 w vars heap
   arguments-first = let e : n - 0 ≡ n = omega arith in rw e
 
-  pub arguments-on : (k : ℕ) {q : Walk} {vars′ heap′ : List ℕ} → k < n → read (getD heap (c + 5 + k) 0) w vars heap ≡ (ok q leaving (vars′, heap′))
+  pub arguments-on : (k : ℕ) {q : Walk} {vars′ heap′ : List ℕ} → k < n → read (getD heap (c + places.inputs + k) 0) w vars heap ≡ (ok q leaving (vars′, heap′))
       → argumentsFrom read (n - k) text c k w vars heap ≡ argumentsFrom read (n - (k + 1)) text c (k + 1) q vars′ heap′
   unfolding argumentsFrom
   arguments-on k l h = let e : n - k ≡ suc (n - (k + 1)) = omega arith in rw (e, h)
 
-  pub argument-refused : (k : ℕ) {m : ℕ} {left : Areas} → k < n → read (getD heap (c + 5 + k) 0) w vars heap ≡ (refused m leaving left)
+  pub argument-refused : (k : ℕ) {m : ℕ} {left : Areas} → k < n → read (getD heap (c + places.inputs + k) 0) w vars heap ≡ (refused m leaving left)
       → argumentsFrom read (n - k) text c k w vars heap ≡ (refused m leaving left)
   unfolding argumentsFrom
   argument-refused k l h = let e : n - k ≡ suc (n - (k + 1)) = omega arith in rw (e, h)

@@ -15,7 +15,7 @@ use Rattle.outcomes.specs.Outcomes as outcomes
 use Rattle.outcomes.specs.Outcomes.{Outcome}
 use Rattle.outcomes.specs.Simulation.{Answers, both-refuse, both-ok}
 use Rattle.asking.specs.Asking as asked
-use Rattle.asking.specs.Asking.{Met, atomDue, listDue}
+use Rattle.asking.specs.Asking.{inForm, Met, atomDue, listDue}
 use Rattle.asking_laws.proofs.Places.{RestComes, At}
 use Rattle.asking_laws.proofs.Asking.{ItemMet, atom-met, list-met, item-law, GroupMet, group-met, group-law}
 use Rattle.terms_laws.proofs.Reading.{asked-yes}
@@ -52,9 +52,9 @@ module _ (text : List ℕ) (K : Stream Token → Type 0) (n : ℕ) where
   unfolding definition.askNumber definition.ask absent refusals._>>=_
   number-ended a = rw (asked-yes 254 2 refl) at (number-law ended 255 2 refl a)
 
-  pub list-ended : {r : Reader} → At text (RestComes ended K) n r → Answers (GroupMet text K n) (listDue text 256 r) (refusals.refused textEnds)
+  pub list-ended : {r : Reader} → At text (RestComes ended K) n r → Answers (GroupMet text K n) (listDue text inForm r) (refusals.refused textEnds)
   unfolding definition.askGroup definition.ask absent refusals._>>=_
-  list-ended a = rw (asked-yes 255 1 refl) at (group-law text K n ended 256 1 refl a)
+  list-ended a = rw (asked-yes 255 1 refl) at (group-law text K n ended inForm 1 refl a)
 
   -- A member that is a number, or a list, where the look ahead met one.
   module _ (item : Item) (rest : Items) {r : Reader} (a : At text (RestComes (item then rest) K) n r) where
@@ -66,9 +66,9 @@ module _ (text : List ℕ) (K : Stream Token → Type 0) (n : ℕ) where
       by (refusals.ok i) (both-ok k) = both-ok (k .same, k .reader)
       by (refusals.refused x) (both-refuse f) = both-refuse f
 
-    pub list-member : Answers (λ q inner. At text (RestComes inner (RestComes rest K)) n q) (listDue text 256 r) (definition.groupDue item)
+    pub list-member : Answers (λ q inner. At text (RestComes inner (RestComes rest K)) n q) (listDue text inForm r) (definition.groupDue item)
     unfolding definition.askGroup definition.ask refusals._>>=_
-    list-member = by (definition.groupDue item) (rw (asked-yes 255 1 refl) at (group-law text K n (item then rest) 256 1 refl a)) where
+    list-member = by (definition.groupDue item) (rw (asked-yes 255 1 refl) at (group-law text K n (item then rest) inForm 1 refl a)) where
       by : {o : Outcome Reader} (m : Result Items) → Answers (GroupMet text K n) o (refusals._>>=_ m (λ inner. refusals.ok (inner, rest)))
           → Answers (λ q inner. At text (RestComes inner (RestComes rest K)) n q) o m
       by (refusals.ok inner) (both-ok (group-met there)) = both-ok there

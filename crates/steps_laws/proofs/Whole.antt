@@ -40,6 +40,7 @@ use Rattle.theory_reading.proofs.Stored.{Longer, longer-none, longer-then, Stor
 use Rattle.tables.specs.declared.Tally.{Tally}
 use Rattle.tables.specs.Representation.{Tables}
 use Rattle.tables.proofs.Laws.{means-more}
+use Rattle.asking.specs.Asking.{inForm}
 use Rattle.asking_laws.proofs.Places.{RestComes, At}
 use Rattle.asking_laws.proofs.Asking.{WordMet, word-met, word-law, GroupMet, group-met, group-law}
 use Rattle.matching.specs.Matching.{unbound, stepConcluded}
@@ -204,15 +205,15 @@ module _ {rules heap : List ℕ} {es : Entries} {bound : ℕ} {th : Theory} (h :
         (certificates.stepForm document01 th now is ts)
     unfolding walk.step referring.ruleDue certificates.stepForm definition._>>=_ definition.lift definition.give number
     step-law =
-        first-of ((store, stack), live) ts _ _ _ (number-law certificate K 0 is 256 1 refl at-items)
+        first-of ((store, stack), live) ts _ _ _ (number-law certificate K 0 is inForm 1 refl at-items)
         (λ x y m.
         first-of ((store, stack), live) ts _ _ _ (tested (eqb (x .0) (tally .steps)) 19 stepOrder (ap₂ eqb (sym (m .same)) (t .steps-is)) refl)
         (λ _ _ _.
-        first-of ((store, stack), live) ts _ _ _ (word-law certificate K 2 (y .1) 256 1 refl (m .reader))
+        first-of ((store, stack), live) ts _ _ _ (word-law certificate K 2 (y .1) inForm 1 refl (m .reader))
         (λ a b n.
         first-of ((store, stack), live) ts _ _ _ (rule-named (part (a .0) (a .1) certificate) (word-is n))
         (λ e c k.
-        first-of ((store, stack), live) ts _ _ _ (group-law certificate K 4 (b .1) 256 1 refl (word-at n))
+        first-of ((store, stack), live) ts _ _ _ (group-law certificate K 4 (b .1) inForm 1 refl (word-at n))
         (λ q g l.
         let p = never-past certificate q (group-at l .coming) (group-at l .stands) in
         counted store live (certificates.references (g .0)) _ referenceCount ts _ _

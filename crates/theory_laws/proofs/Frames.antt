@@ -64,8 +64,8 @@ module _ {es es′ : Entries} (g : Grown es es′) where
             low = l;
             high = omega arith;
             called = called-kept out (w .called);
-            gives = rw (k (a + 3) (omega arith) (omega arith)) (output-kept (w .gives));
-            arity = k (a + 4) (omega arith) (omega arith) ∙ w .arity;
+            gives = rw (k (a + places.output) (omega arith) (omega arith)) (output-kept (w .gives));
+            arity = k (a + places.arity) (omega arith) (omega arith) ∙ w .arity;
             takes = sorts-kept top (λ i l u. k i (omega arith) u) (omega arith) (w .takes);
           }
 
@@ -107,12 +107,12 @@ module _ {es es′ : Entries} (g : Grown es es′) where
       rule-at {name = name} {vs = vs} {premises = premises} {conclusion = conclusion} record {
         low = l;
         called = g .rules _ (w .called);
-        premise-count = k (e + 3) (omega arith) (omega arith) ∙ w .premise-count;
-        variable-count = k (e + 4) (omega arith) (omega arith) ∙ w .variable-count;
+        premise-count = k (e + places.premise-count) (omega arith) (omega arith) ∙ w .premise-count;
+        variable-count = k (e + places.variable-count) (omega arith) (omega arith) ∙ w .variable-count;
         conclusion-place = w .conclusion-place;
         variables-place = w .variables-place;
-        to-conclusion = k (e + 5) (omega arith) (omega arith) ∙ w .to-conclusion;
-        to-variables = k (e + 6) (omega arith) (omega arith) ∙ w .to-variables;
+        to-conclusion = k (e + places.conclusion) (omega arith) (omega arith) ∙ w .to-conclusion;
+        to-variables = k (e + places.variables) (omega arith) (omega arith) ∙ w .to-variables;
         at-premises = premises-kept k up (λ i p q. k i (omega arith) q) up (λ v name n. n) (w .at-premises);
         at-conclusion = flat-kept k up (λ i p q. k i (omega arith) q) up (λ v name n. n) (w .at-conclusion);
         at-variables = variables-kept top (λ i p q. k i (omega arith) q) h (w .at-variables);

@@ -106,7 +106,7 @@ module _ (text counted : List ℕ) (Before : Reader → Stream Token → Type 0)
   pub record JudgmentsRead (n : ℕ) (ts : Stream Token) (ks : List ℕ) (vs : List Variable) (from : ℕ) (heap : List ℕ) (q : Walk) (areas : Areas)
       (r : List Pattern × List Variable) : Type 0 where
     pub reached : Reached text counted Before th es base spare ts ks vs from heap q areas (r .1)
-    pub flats : FlatList (areas .1) es base (base + 7) (q .top) (r .1) from (r .0) (q .top)
+    pub flats : FlatList (areas .1) es base (base + places.patterns) (q .top) (r .1) from (r .0) (q .top)
     pub many : n ≡ length (r .0)
 
   abbrev JudgmentsLaw : Sexps → Type 0

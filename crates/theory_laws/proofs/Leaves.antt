@@ -221,7 +221,7 @@ module _ (text counts : List ℕ) (Before : Reader → Stream Token → Type 0) 
   symbol-fits : {heap : List ℕ} {a : ℕ} {c : Symbol} → Holds text heap es base th → (e members n : ℕ) (expected : Output) → members ≡ suc n
       → OutputAt es a expected
       → SymbolAt heap es base e c
-      → (eqb (getD heap (e + 3) 0) a && eqb (getD heap (e + 4) 0 + 1) members) ≡ fits c expected n
+      → (eqb (getD heap (e + places.output) 0) a && eqb (getD heap (e + places.arity) 0 + 1) members) ≡ fits c expected n
   unfolding fits
   symbol-fits {heap} {a} h e members n expected k m (symbol-at {name} {ins} {out} x) =
       rw (same-output h (x .gives) m, x .arity, k) (ap (λ (b : Bool). sameOutput out expected && b) same-number) where
@@ -251,7 +251,7 @@ module _ (text counts : List ℕ) (Before : Reader → Stream Token → Type 0) 
       rw p
       (look 12 unknown _ _ (find-agrees is (SymbolAt heap es base) name (d .table) (d .stands)) refl
       (λ e c x.
-      tests (eqb (getD heap (e + 3) 0) a) (eqb (getD heap (e + 4) 0 + 1) members) 15 sortArity _ _
+      tests (eqb (getD heap (e + places.output) 0) a) (eqb (getD heap (e + places.arity) 0 + 1) members) 15 sortArity _ _
       (symbol-fits (r .holds) e members n expected k m x) refl
       (λ y. leave (applied-at x y refl))))
 
@@ -263,7 +263,7 @@ module _ (text counts : List ℕ) (Before : Reader → Stream Token → Type 0) 
         rw (word-there r (omega arith) e)
         (symbol-kept grown-none (λ i p k. keeps-set base heap (w .top) e (omega arith) .words i k) (omega arith) x)
 
-    pub low-top : base + 7 ≤ w .top
+    pub low-top : base + places.patterns ≤ w .top
     low-top = r .above
 
     pub top-rises : w .top < sum32 (w .top) 1

@@ -81,7 +81,7 @@ module _ (text counted : List ℕ) (Before : Reader → Stream Token → Type 0)
   pub record ArgumentsRead (ts : Stream Token) (ks : List ℕ) (vs : List Variable) (from : ℕ) (heap : List ℕ) (q : Walk) (areas : Areas)
       (r : Patterns × List Variable) : Type 0 where
     pub reached : Reached text counted Before th es base spare ts ks vs from heap q areas (r .1)
-    pub flats : Flats (areas .1) es base (base + 7) (q .top) (r .1) from (r .0) (q .top)
+    pub flats : Flats (areas .1) es base (base + places.patterns) (q .top) (r .1) from (r .0) (q .top)
 
   -- No argument is left: the closing.
   no-arguments : {ts : Stream Token} {ks : List ℕ} {vs : List Variable} {w : Walk} {vars heap : List ℕ}
@@ -98,7 +98,7 @@ module _ (text counted : List ℕ) (Before : Reader → Stream Token → Type 0)
   -- One argument and the others.
   more-arguments : {ts us : Stream Token} {ks ls : List ℕ} {vs : List Variable} {w : Walk} {vars heap : List ℕ}
       (read : ℕ → Walk → List ℕ → List ℕ → Did Areas Walk) (n c k : ℕ) (p : definition.Read Pattern) (ps : List Variable → definition.Read Patterns)
-      → Simulates (HasRead us ls vs (w .top) heap) (read (getD heap (c + 5 + k) 0) w vars heap) p
+      → Simulates (HasRead us ls vs (w .top) heap) (read (getD heap (c + places.inputs + k) 0) w vars heap) p
       → ((q : Walk) (vars′ heap′ : List ℕ) (vs′ : List Variable) → Was 0 us ls vs′ q vars′ heap′ → Keeps (w .top) heap heap′
       → Simulates (ArgumentsRead ts ks vs′ (q .top) heap′) (argumentsFrom read n text c (k + 1) q vars′ heap′) (ps vs′))
       → Simulates (ArgumentsRead ts ks vs (w .top) heap) (argumentsFrom read (suc n) text c k w vars heap)
@@ -141,7 +141,7 @@ module _ (text counted : List ℕ) (Before : Reader → Stream Token → Type 0)
   abbrev pub ArgumentsLaw : ℕ → Sexps → Type 0
   ArgumentsLaw left xs =
       (ins : List Name) (o c k : ℕ) (ts : Stream Token) (ks : List ℕ) (vs : List Variable) (w : Walk) (vars heap : List ℕ)
-      → o ≡ c + 5 + k
+      → o ≡ c + places.inputs + k
       → count xs ≡ length ins
       → places.entries ≤ o
       → o + length ins ≤ base
@@ -175,7 +175,7 @@ module _ (text counted : List ℕ) (Before : Reader → Stream Token → Type 0)
       → (x : ℕ × Walk) (heap′ : List ℕ) (c : Symbol)
       → Applied text counted Before th es base spare us ls vs w vars heap expected (count xs) x heap′ c
       → Simulates (HasRead ts ks vs (w .top) heap)
-      (argumentsFrom (walk.pattern left text counted) (getD heap′ (x .0 + 4) 0) text (x .0) 0 (x .1) vars heap′)
+      (argumentsFrom (walk.pattern left text counted) (getD heap′ (x .0 + places.arity) 0) text (x .0) 0 (x .1) vars heap′)
       (definition.patterns th xs (inputs c) vs >>= λ (ps, ws). ok (app c ps, ws))
   unfolding inputs
   applied-arguments {ts} {us} {ks} {ls} {vs} {w} {vars} {heap} left xs expected law p q r x heap′ c (applied-at {e} (symbol-at {name} {ins} {out} y) f z) =
@@ -186,8 +186,8 @@ module _ (text counted : List ℕ) (Before : Reader → Stream Token → Type 0)
         kept : Keeps (w .top) heap new
         kept = keeps-set (w .top) heap (w .top) e (omega arith)
 
-        arity : getD new (e + 4) 0 ≡ length ins
-        arity = let u = r .above in let h = y .high in kept .words (e + 4) (omega arith) ∙ y .arity
+        arity : getD new (e + places.arity) 0 ≡ length ins
+        arity = let u = r .above in let h = y .high in kept .words (e + places.arity) (omega arith) ∙ y .arity
 
         ready : Was 0 (flat xs (closing ▹ ts)) (countsAll xs ks) vs (withTop w (sum32 (w .top) 1)) vars new
         ready =
@@ -201,7 +201,7 @@ module _ (text counted : List ℕ) (Before : Reader → Stream Token → Type 0)
             let u = r .above in
             let h = y .high in
             let l = y .low in
-            law ins (e + 5) e 0 ts ks vs (withTop w (sum32 (w .top) 1)) vars new (omega arith) (fits-count name ins out expected (count xs) f)
+            law ins (e + places.inputs) e 0 ts ks vs (withTop w (sum32 (w .top) 1)) vars new (omega arith) (fits-count name ins out expected (count xs) f)
             (omega arith) (omega arith)
             (sorts-kept grown-none base (λ i g k. kept .words i (omega arith)) (omega arith) (y .takes))
             ready
@@ -289,7 +289,7 @@ module _ (text counted : List ℕ) (Before : Reader → Stream Token → Type 0)
   arguments-more left x xs one law [] o c k ts ks vs w vars heap e n l h s r = absurd (omega arith)
   arguments-more left x xs one law (i ∷ ins) o c k ts ks vs w vars heap e n l h (one-sort a s) r =
       more-arguments (walk.pattern left text counted) (length ins) c k (definition.pattern th x i vs) (λ us. definition.patterns th xs ins us)
-      (one i (getD heap (c + 5 + k) 0) (flat xs (closing ▹ ts)) (countsAll xs ks) vs w vars heap (rw (← e) a) r)
+      (one i (getD heap (c + places.inputs + k) 0) (flat xs (closing ▹ ts)) (countsAll xs ks) vs w vars heap (rw (← e) a) r)
       (λ q vars′ heap′ vs′ r′ kept.
       let u = r .above in
       law ins (o + 1) c (k + 1) ts ks vs′ q vars′ heap′ (omega arith) (omega arith) (omega arith) (omega arith)

@@ -1,7 +1,7 @@
 -- Symbols of a held theory: the words of an entry say what it is, and symbols are equal where their addresses are. Assumes nothing.
 use mathlib.Core.Path.{_≡_, refl, ap₂, sym, _∙_}
-use mathlib.Core.List.{List, [], _∷_, List·Memᴰ}
-use Prim.Native.Nat.{ℕ, zero, suc, _+_, _≤_, _<_}
+use mathlib.Core.List.{List, _∷_, List·Memᴰ}
+use Prim.Native.Nat.{ℕ, suc, _+_, _≤_}
 use native.Mathlib.Omega.{arith}
 use borrow.Author.Tests.{eq-eqb, ne-eqb}
 use lib.Dec.{eqb}
@@ -16,16 +16,9 @@ use Rattle.names.proofs.Holds.{by-number}
 use Rattle.names.proofs.Kept.{member-named}
 use Rattle.names.proofs.Declared.{lookup-member, stands-distinct}
 use Rattle.items.specs.Places as places
-use Rattle.theory_laws.specs.Representation.{Entries, tableOf, SortAt, OutputAt, SortsAt, no-sorts, one-sort, SymbolAt, symbol-at}
+use Rattle.theory_laws.specs.Representation.{Entries, tableOf, OutputAt, SortsAt, no-sorts, one-sort, SymbolAt, symbol-at}
 use Rattle.theory_laws.specs.Representation.{Holds}
 use Rattle.theory_laws.proofs.Lookups.{same-sort, same-output}
-
--- The i-th of some sorts.
-pub sort-there : {heap : List ℕ} {es : Entries} {o : ℕ} {ss : List Name} → SortsAt heap es o ss → (i : ℕ) → i < length ss
-    → SortAt es (getD heap (o + i) 0) (getD ss i [])
-sort-there no-sorts i h = absurd (omega arith)
-sort-there {heap} {es} {o} (one-sort {s} {ss} a r) zero h = let q : o + 0 ≡ o = omega arith in rw q a
-sort-there {heap} {es} {o} (one-sort {s} {ss} a r) (suc i) h = let q : o + suc i ≡ o + 1 + i = omega arith in rw q (sort-there r i (omega arith))
 
 -- The sort of the v-th of some variables.
 pub data Sorted : List Variable → ℕ → Name → Type 0 where
@@ -35,21 +28,21 @@ pub data Sorted : List Variable → ℕ → Name → Type 0 where
 module _ {text heap : List ℕ} {es : Entries} {top : ℕ} {th : Theory} (h : Holds text heap es top th) where
   -- A symbol's words.
   module _ {a : ℕ} {c : Symbol} (x : SymbolAt heap es top a c) where
-    pub symbol-output : OutputAt es (getD heap (a + 3) 0) (output c)
+    pub symbol-output : OutputAt es (getD heap (a + places.output) 0) (output c)
     unfolding output
     symbol-output = by x where
-      by : {d : Symbol} → SymbolAt heap es top a d → OutputAt es (getD heap (a + 3) 0) (output d)
+      by : {d : Symbol} → SymbolAt heap es top a d → OutputAt es (getD heap (a + places.output) 0) (output d)
       by (symbol-at w) = w .gives
 
-    pub symbol-arity : getD heap (a + 4) 0 ≡ length (inputs c)
+    pub symbol-arity : getD heap (a + places.arity) 0 ≡ length (inputs c)
     unfolding inputs
     symbol-arity = by x where
-      by : {d : Symbol} → SymbolAt heap es top a d → getD heap (a + 4) 0 ≡ length (inputs d)
+      by : {d : Symbol} → SymbolAt heap es top a d → getD heap (a + places.arity) 0 ≡ length (inputs d)
       by (symbol-at w) = w .arity
 
-    pub symbol-below : (places.entries ≤ a) × (a + 5 ≤ top)
+    pub symbol-below : (places.entries ≤ a) × (a + places.inputs ≤ top)
     symbol-below = by x where
-      by : {d : Symbol} → SymbolAt heap es top a d → (places.entries ≤ a) × (a + 5 ≤ top)
+      by : {d : Symbol} → SymbolAt heap es top a d → (places.entries ≤ a) × (a + places.inputs ≤ top)
       by (symbol-at w) = let l = w .low in let u = w .high in (omega arith, omega arith)
 
   -- Equal addresses are equal symbols.
@@ -74,7 +67,9 @@ module _ {text heap : List ℕ} {es : Entries} {top : ℕ} {th : Theory} (h : Ho
 
   pub symbols-equal : {a : ℕ} {c d : Symbol} → SymbolAt heap es top a c → SymbolAt heap es top a d → c ≡ d
   symbols-equal {a} (symbol-at {name} {ins} {out} x) (symbol-at {name = m} {ins = js} {out = p} y) =
-      let e : out ≡ p = sameOutput-decides .equal out p (sym (same-output h (x .gives) (y .gives)) ∙ eq-eqb (getD heap (a + 3) 0) (getD heap (a + 3) 0) refl) in
+      let e : out ≡ p =
+      sameOutput-decides .equal out p (sym (same-output h (x .gives) (y .gives))
+      ∙ eq-eqb (getD heap (a + places.output) 0) (getD heap (a + places.output) 0) refl) in
       let f : name ≡ m = called-same p (rw e at (x .called)) (y .called) in
       let g : ins ≡ js = same-sorts (sym (x .arity) ∙ y .arity) (x .takes) (y .takes) in
       cc

@@ -51,7 +51,7 @@ module _ (text counts : List ℕ) (Before : Reader → Stream Token → Type 0) 
   pub record Ready (credit : ℕ) (ts : Stream Token) (ks : List ℕ) (vs : List Variable) (w : Walk) (vars heap : List ℕ) : Type 0 where
     pub walks : Walks text counts Before ts ks w
     pub holds : Holds text heap es base th
-    pub above : base + 7 ≤ w .top
+    pub above : base + places.patterns ≤ w .top
     pub base-low : places.entries ≤ base
     pub many : w .variables ≡ length vs
     pub long : length vars ≡ 16384
@@ -69,7 +69,7 @@ module _ (text counts : List ℕ) (Before : Reader → Stream Token → Type 0) 
   pub record PatternRead (ts : Stream Token) (ks : List ℕ) (vs : List Variable) (from : ℕ) (heap : List ℕ) (q : Walk) (areas : Areas)
       (r : Pattern × List Variable) : Type 0 where
     pub reached : Reached ts ks vs from heap q areas (r .1)
-    pub flat : Flat (areas .1) es base (base + 7) (q .top) (r .1) from (r .0) (q .top)
+    pub flat : Flat (areas .1) es base (base + places.patterns) (q .top) (r .1) from (r .0) (q .top)
 
   -- One word more.
   pub push-ready : {ts : Stream Token} {ks : List ℕ} {vs : List Variable} {w : Walk} {vars heap : List ℕ} (word : ℕ)
@@ -122,8 +122,8 @@ module _ (text counts : List ℕ) (Before : Reader → Stream Token → Type 0) 
           more = λ v e m. z .more v e (y .more v e m);
         }
 
-    pub flat-then : {o o′ : ℕ} {p : Pattern} → Flat (areas .1) es base (base + 7) (q .top) vs₁ o p o′
-        → Flat (areas′ .1) es base (base + 7) (q′ .top) vs₂ o p o′
+    pub flat-then : {o o′ : ℕ} {p : Pattern} → Flat (areas .1) es base (base + places.patterns) (q .top) vs₁ o p o′
+        → Flat (areas′ .1) es base (base + places.patterns) (q′ .top) vs₂ o p o′
     flat-then f =
         let u = y .ready .above in
         flat-kept grown-none (λ i g h. z .keeps .words i (omega arith)) (omega arith) (λ i g h. z .keeps .words i h) (z .rises) (z .more) f

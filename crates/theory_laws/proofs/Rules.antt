@@ -119,14 +119,14 @@ module _ (text counted : List ℕ) (Before : Reader → Stream Token → Type 0)
       body-read : {n : ℕ} {q : Walk} {areas : Areas} {p : List Pattern × List Variable} {c : Pattern × List Variable} (mid : ℕ)
           → n ≡ length (p .0)
           → Ready text counted Before th es base spare 0 ts ks (c .1) q (areas .0) (areas .1)
-          → Keeps (base + 7) heap (areas .1)
-          → FlatList (areas .1) es base (base + 7) (q .top) (c .1) (base + 7) (p .0) mid
-          → Flat (areas .1) es base (base + 7) (q .top) (c .1) mid (c .0) (q .top)
+          → Keeps (base + places.patterns) heap (areas .1)
+          → FlatList (areas .1) es base (base + places.patterns) (q .top) (c .1) (base + places.patterns) (p .0) mid
+          → Flat (areas .1) es base (base + places.patterns) (q .top) (c .1) mid (c .0) (q .top)
           → BodyRead base spare ts ks heap (n, mid, q) areas (paired p c)
 
     body-law : (js j : Sexp) {base spare : ℕ} {ts : Stream Token} {ks : List ℕ} {w : Walk} {vars heap : List ℕ}
         → Ready text counted Before th es base spare 0 (flatOne js (flatOne j ts)) (countsOne js (countsOne j ks)) [] w vars heap
-        → w .top ≡ base + 7
+        → w .top ≡ base + places.patterns
         → Shallow 259 js
         → Shallow 258 j
         → Simulates (BodyRead base spare ts ks heap) (bodyRead text counted w vars heap)
@@ -154,7 +154,7 @@ module _ (text counted : List ℕ) (Before : Reader → Stream Token → Type 0)
               let a = y .reached .rises in
               let b = z .reached .rises in
               let u = y .reached .ready .above in
-              let f : FlatList (areas′ .1) es base (base + 7) (q₂ .top) (c .1) (w .top) (p .0) (q₁ .top) =
+              let f : FlatList (areas′ .1) es base (base + places.patterns) (q₂ .top) (c .1) (w .top) (p .0) (q₁ .top) =
               premises-kept grown-none (λ i g f. z .reached .keeps .words i (omega arith)) (omega arith) (λ i g f. z .reached .keeps .words i f) b
               (z .reached .more) (y .flats) in
               body-read (q₁ .top) (y .many) (z .reached .ready)

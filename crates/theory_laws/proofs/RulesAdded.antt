@@ -34,51 +34,51 @@ variables-moved {o} g o′ k (one-variable {name} {s} {vs} n a r) =
 -- The four words behind a rule's name.
 module _ (heap : List ℕ) (e a b c d : ℕ) where
   abbrev one : List ℕ
-  one = set heap (e + 3) a
+  one = set heap (e + places.premise-count) a
 
   abbrev two : List ℕ
-  two = set one (e + 4) b
+  two = set one (e + places.variable-count) b
 
   abbrev three : List ℕ
-  three = set two (e + 5) c
+  three = set two (e + places.conclusion) c
 
   pub length-rule : length (ruleDescribed e a b c d heap) ≡ length heap
   unfolding ruleDescribed
   length-rule = simp length-set
 
-  pub rule-other : (i : ℕ) → (e + 3 ≤ i → i ≤ e + 6 → ⊥) → getD (ruleDescribed e a b c d heap) i 0 ≡ getD heap i 0
+  pub rule-other : (i : ℕ) → (e + places.premise-count ≤ i → i ≤ e + places.variables → ⊥) → getD (ruleDescribed e a b c d heap) i 0 ≡ getD heap i 0
   unfolding ruleDescribed
   rule-other i h =
-      getD-set-other three (e + 6) i d 0 (λ k. h (omega arith) (omega arith))
-      ∙ getD-set-other two (e + 5) i c 0 (λ k. h (omega arith) (omega arith))
-      ∙ getD-set-other one (e + 4) i b 0 (λ k. h (omega arith) (omega arith))
-      ∙ getD-set-other heap (e + 3) i a 0 (λ k. h (omega arith) (omega arith))
+      getD-set-other three (e + places.variables) i d 0 (λ k. h (omega arith) (omega arith))
+      ∙ getD-set-other two (e + places.conclusion) i c 0 (λ k. h (omega arith) (omega arith))
+      ∙ getD-set-other one (e + places.variable-count) i b 0 (λ k. h (omega arith) (omega arith))
+      ∙ getD-set-other heap (e + places.premise-count) i a 0 (λ k. h (omega arith) (omega arith))
 
-  module _ (fits : e + 6 < length heap) where
-    pub rule-first : getD (ruleDescribed e a b c d heap) (e + 3) 0 ≡ a
+  module _ (fits : e + places.variables < length heap) where
+    pub rule-first : getD (ruleDescribed e a b c d heap) (e + places.premise-count) 0 ≡ a
     unfolding ruleDescribed
     rule-first =
-        getD-set-other three (e + 6) (e + 3) d 0 (λ k. omega arith)
-        ∙ getD-set-other two (e + 5) (e + 3) c 0 (λ k. omega arith)
-        ∙ getD-set-other one (e + 4) (e + 3) b 0 (λ k. omega arith)
-        ∙ getD-set-same heap (e + 3) a 0 (omega arith)
+        getD-set-other three (e + places.variables) (e + places.premise-count) d 0 (λ k. omega arith)
+        ∙ getD-set-other two (e + places.conclusion) (e + places.premise-count) c 0 (λ k. omega arith)
+        ∙ getD-set-other one (e + places.variable-count) (e + places.premise-count) b 0 (λ k. omega arith)
+        ∙ getD-set-same heap (e + places.premise-count) a 0 (omega arith)
 
-    pub rule-second : getD (ruleDescribed e a b c d heap) (e + 4) 0 ≡ b
+    pub rule-second : getD (ruleDescribed e a b c d heap) (e + places.variable-count) 0 ≡ b
     unfolding ruleDescribed
     rule-second =
-        getD-set-other three (e + 6) (e + 4) d 0 (λ k. omega arith)
-        ∙ getD-set-other two (e + 5) (e + 4) c 0 (λ k. omega arith)
-        ∙ getD-set-same one (e + 4) b 0 (simp length-set (omega arith))
+        getD-set-other three (e + places.variables) (e + places.variable-count) d 0 (λ k. omega arith)
+        ∙ getD-set-other two (e + places.conclusion) (e + places.variable-count) c 0 (λ k. omega arith)
+        ∙ getD-set-same one (e + places.variable-count) b 0 (simp length-set (omega arith))
 
-    pub rule-third : getD (ruleDescribed e a b c d heap) (e + 5) 0 ≡ c
+    pub rule-third : getD (ruleDescribed e a b c d heap) (e + places.conclusion) 0 ≡ c
     unfolding ruleDescribed
     rule-third =
-        getD-set-other three (e + 6) (e + 5) d 0 (λ k. omega arith)
-        ∙ getD-set-same two (e + 5) c 0 (simp length-set (omega arith))
+        getD-set-other three (e + places.variables) (e + places.conclusion) d 0 (λ k. omega arith)
+        ∙ getD-set-same two (e + places.conclusion) c 0 (simp length-set (omega arith))
 
-    pub rule-fourth : getD (ruleDescribed e a b c d heap) (e + 6) 0 ≡ d
+    pub rule-fourth : getD (ruleDescribed e a b c d heap) (e + places.variables) 0 ≡ d
     unfolding ruleDescribed
-    rule-fourth = getD-set-same three (e + 6) d 0 (simp length-set (omega arith))
+    rule-fourth = getD-set-same three (e + places.variables) d 0 (simp length-set (omega arith))
 
 abbrev pub withRule : Entries → Entry → Entries
 withRule es e = record { sorts = es .sorts; constructors = es .constructors; predicates = es .predicates; rules = e ∷ es .rules }
@@ -88,10 +88,11 @@ rule-grown es e = record { sorts = λ x m. m; constructors = λ x m. m; predicat
 
 module _ (text heap middle vars : List ℕ) (es : Entries) (th : Theory) (e top s t n v : ℕ) (name : Name)
     (vs : List Variable) (premises : List Pattern) (conclusion : Pattern) (mid : ℕ)
-    (h : Holds text heap es e th) (keeps : Keeps e heap middle) (low : places.entries ≤ e) (rising : e + 7 ≤ top) (fits : top + 3 * v ≤ 16384)
+    (h : Holds text heap es e th) (keeps : Keeps e heap middle) (low : places.entries ≤ e) (rising : e + places.patterns ≤ top) (fits : top + 3 * v ≤ 16384)
     (p : part s t text ≡ name) (small-start : s < 4294967296) (small-end : t < 4294967296)
     (many-premises : n ≡ length premises) (many-variables : v ≡ length vs)
-    (at-premises : FlatList middle es e (e + 7) top vs (e + 7) premises mid) (at-conclusion : Flat middle es e (e + 7) top vs mid conclusion top)
+    (at-premises : FlatList middle es e (e + places.patterns) top vs (e + places.patterns) premises mid)
+    (at-conclusion : Flat middle es e (e + places.patterns) top vs mid conclusion top)
     (at-variables : VariablesAt text vars es 0 vs) where
   abbrev named-words : List ℕ
   named-words = added middle places.rules places.buckets e text s t
@@ -106,7 +107,7 @@ module _ (text heap middle vars : List ℕ) (es : Entries) (th : Theory) (e top 
   length-middle = length-rule named-words e n v mid top ∙ length-added middle places.rules places.buckets e text s t ∙ keeps .same-length ∙ h .long
 
   -- Words between the entry's seven words and the variables, and words below the entry.
-  pattern-words : (i : ℕ) → e + 7 ≤ i → i < top → getD rule-words i 0 ≡ getD middle i 0
+  pattern-words : (i : ℕ) → e + places.patterns ≤ i → i < top → getD rule-words i 0 ≡ getD middle i 0
   pattern-words i l u =
       copied-before (3 * v) described-words top vars 0 i (omega arith)
       ∙ rule-other named-words e n v mid top i (λ x y. omega arith)
@@ -134,7 +135,7 @@ module _ (text heap middle vars : List ℕ) (es : Entries) (th : Theory) (e top 
     small-end = small-end;
   }
 
-  long-enough : e + 6 < length named-words
+  long-enough : e + places.variables < length named-words
   long-enough = let l = h .long in let q = keeps .same-length in rw (length-added middle places.rules places.buckets e text s t) (omega arith)
 
   new-rule : RuleAt text rule-words (withRule es (entry e name)) (top + 3 * v) e (rule name vs premises conclusion)
@@ -145,13 +146,17 @@ module _ (text heap middle vars : List ℕ) (es : Entries) (th : Theory) (e top 
         low = low;
         called = List·Memᴰ·head refl;
         premise-count =
-            copied-before (3 * v) described-words top vars 0 (e + 3) (omega arith) ∙ rule-first named-words e n v mid top long-enough ∙ many-premises;
+            copied-before (3 * v) described-words top vars 0 (e + places.premise-count) (omega arith) ∙ rule-first named-words e n v mid top long-enough
+            ∙ many-premises;
         variable-count =
-            copied-before (3 * v) described-words top vars 0 (e + 4) (omega arith) ∙ rule-second named-words e n v mid top long-enough ∙ many-variables;
+            copied-before (3 * v) described-words top vars 0 (e + places.variable-count) (omega arith) ∙ rule-second named-words e n v mid top long-enough
+            ∙ many-variables;
         conclusion-place = mid;
         variables-place = top;
-        to-conclusion = copied-before (3 * v) described-words top vars 0 (e + 5) (omega arith) ∙ rule-third named-words e n v mid top long-enough;
-        to-variables = copied-before (3 * v) described-words top vars 0 (e + 6) (omega arith) ∙ rule-fourth named-words e n v mid top long-enough;
+        to-conclusion =
+            copied-before (3 * v) described-words top vars 0 (e + places.conclusion) (omega arith) ∙ rule-third named-words e n v mid top long-enough;
+        to-variables =
+            copied-before (3 * v) described-words top vars 0 (e + places.variables) (omega arith) ∙ rule-fourth named-words e n v mid top long-enough;
         at-premises = premises-kept g older-words (omega arith) pattern-words (omega arith) (λ i x y. y) at-premises;
         at-conclusion = flat-kept g older-words (omega arith) pattern-words (omega arith) (λ i x y. y) at-conclusion;
         at-variables =

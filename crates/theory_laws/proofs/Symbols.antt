@@ -143,7 +143,7 @@ module _ (text counted : List ℕ) (Before : Reader → Stream Token → Type 0)
   pub data SignatureRead (th : Theory) (es : Entries) (base : ℕ) (ts : Stream Token) (ks : List ℕ) (heap : List ℕ) : ℕ × ℕ × ℕ × Walk → List ℕ
       → Name × List Name → Type 0 where
     signature-read : {s t n : ℕ} {q : Walk} {heap′ : List ℕ} {name : Name} {ins : List Name} → part s t text ≡ name → s < t → t ≤ length text
-        → InputsRead text counted Before reads th es base n ts ks (base + 5) heap q heap′ ins
+        → InputsRead text counted Before reads th es base n ts ks (base + places.inputs) heap q heap′ ins
         → SignatureRead th es base ts ks heap (s, t, n, q) heap′ (paired name ins)
 
   module _ {th : Theory} {es : Entries} where

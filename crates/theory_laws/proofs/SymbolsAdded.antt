@@ -24,17 +24,19 @@ module _ (heap : List ℕ) (e a n : ℕ) where
   unfolding described
   length-described = simp length-set
 
-  pub described-other : (i : ℕ) → (i ≡ e + 3 → ⊥) → (i ≡ e + 4 → ⊥) → getD (described e a n heap) i 0 ≡ getD heap i 0
+  pub described-other : (i : ℕ) → (i ≡ e + places.output → ⊥) → (i ≡ e + places.arity → ⊥) → getD (described e a n heap) i 0 ≡ getD heap i 0
   unfolding described
-  described-other i x y = getD-set-other (set heap (e + 3) a) (e + 4) i n 0 y ∙ getD-set-other heap (e + 3) i a 0 x
+  described-other i x y = getD-set-other (set heap (e + places.output) a) (e + places.arity) i n 0 y ∙ getD-set-other heap (e + places.output) i a 0 x
 
-  pub described-first : e + 4 < length heap → getD (described e a n heap) (e + 3) 0 ≡ a
+  pub described-first : e + places.arity < length heap → getD (described e a n heap) (e + places.output) 0 ≡ a
   unfolding described
-  described-first h = getD-set-other (set heap (e + 3) a) (e + 4) (e + 3) n 0 (λ k. omega arith) ∙ getD-set-same heap (e + 3) a 0 (omega arith)
+  described-first h =
+      getD-set-other (set heap (e + places.output) a) (e + places.arity) (e + places.output) n 0 (λ k. omega arith)
+      ∙ getD-set-same heap (e + places.output) a 0 (omega arith)
 
-  pub described-second : e + 4 < length heap → getD (described e a n heap) (e + 4) 0 ≡ n
+  pub described-second : e + places.arity < length heap → getD (described e a n heap) (e + places.arity) 0 ≡ n
   unfolding described
-  described-second h = getD-set-same (set heap (e + 3) a) (e + 4) n 0 (simp length-set (omega arith))
+  described-second h = getD-set-same (set heap (e + places.output) a) (e + places.arity) n 0 (simp length-set (omega arith))
 
 abbrev pub withConstructor : Entries → Entry → Entries
 withConstructor es e = record { sorts = es .sorts; constructors = e ∷ es .constructors; predicates = es .predicates; rules = es .rules }
@@ -49,9 +51,10 @@ predicate-grown : (es : Entries) (e : Entry) → Grown es (withPredicate es e)
 predicate-grown es e = record { sorts = λ x m. m; constructors = λ x m. m; predicates = λ x m. List·Memᴰ·tail m; rules = λ x m. m }
 
 module _ (text heap middle : List ℕ) (es : Entries) (th : Theory) (e top s t a n : ℕ) (name : Name) (ins : List Name)
-    (h : Holds text heap es e th) (keeps : Keeps e heap middle) (low : places.entries ≤ e) (high : e + 5 + length ins ≤ top) (fits : e + 5 ≤ 16384)
+    (h : Holds text heap es e th) (keeps : Keeps e heap middle) (low : places.entries ≤ e) (high : e + places.inputs + length ins ≤ top)
+    (fits : e + places.inputs ≤ 16384)
     (p : part s t text ≡ name) (small-start : s < 4294967296) (small-end : t < 4294967296)
-    (takes : SortsAt middle es (e + 5) ins) (many : length ins ≡ n) where
+    (takes : SortsAt middle es (e + places.inputs) ins) (many : length ins ≡ n) where
   module _ (b : ℕ) (buckets-low : b + places.buckets ≤ places.entries) where
     symbol-adds : Adds text heap (described e a n (added middle b places.buckets e text s t)) e b s t
     symbol-adds = record {
@@ -66,7 +69,7 @@ module _ (text heap middle : List ℕ) (es : Entries) (th : Theory) (e top s t a
       small-end = small-end;
     }
 
-    long-enough : e + 4 < length (added middle b places.buckets e text s t)
+    long-enough : e + places.arity < length (added middle b places.buckets e text s t)
     long-enough = let l = h .long in let q = keeps .same-length in rw (length-added middle b places.buckets e text s t) (omega arith)
 
     new-symbol : {es′ : Entries} (out : Output) → Grown es es′ → List·Memᴰ (entry e name) (tableOf es′ out) → OutputAt es a out

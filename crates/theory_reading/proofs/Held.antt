@@ -118,11 +118,11 @@ module _ {text heap : List ℕ} {es : Entries} {top : ℕ} {th : Theory} (h : Ho
   unfolding fitsInput
   fits-is c k us x e m = rw (← e) (has-sort x us m)
 
-  input-word : (c k : ℕ) {o : ℕ} → o ≡ c + 5 + k → getD heap o 0 ≡ inputOf heap c k
+  input-word : (c k : ℕ) {o : ℕ} → o ≡ c + places.inputs + k → getD heap o 0 ≡ inputOf heap c k
   unfolding inputOf
   input-word c k e = rw e
 
-  all-fit : {head : ℕ → ℕ} (c : ℕ) {o k : ℕ} {ss : List Name} {ts : Terms} → o ≡ c + 5 + k → length ss ≡ width ts → SortsAt heap es o ss
+  all-fit : {head : ℕ → ℕ} (c : ℕ) {o k : ℕ} {ss : List Name} {ts : Terms} → o ≡ c + places.inputs + k → length ss ≡ width ts → SortsAt heap es o ss
       → Heads heap es top head k ts
       → allFit head heap c (width ts) k ≡ accepts ss ts
   unfolding allFit accepts width

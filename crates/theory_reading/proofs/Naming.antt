@@ -3,12 +3,11 @@ use mathlib.Core.Path.{_≡_, refl, ap, sym, _∙_}
 use mathlib.Core.List.{List, _∷_}
 use mathlib.Core.Option.{none, some}
 use Prim.Native.Nat.{ℕ, suc}
-use Rattle.horn.specs.Refusals.{ok}
 use Rattle.horn.specs.Names.{Name, first}
-use Rattle.horn.specs.Rulebook.{Variable, variable, isVariable, Rule, Theory, variablesOf, isRule, ruleNamed}
-use Rattle.horn.proofs.Equality.{named-decides, apart, first-some}
-use Rattle.horn.proofs.Inversion.{none-some, was-found}
-use Rattle.horn.proofs.SoundnessWords.{Apart, name-apart, WellFormed}
+use Rattle.horn.specs.Rulebook.{Variable, variable, isVariable}
+use Rattle.horn.proofs.Equality.{named-decides, apart}
+use Rattle.horn.proofs.Inversion.{none-some}
+use Rattle.horn.proofs.SoundnessWords.{Apart, name-apart}
 use Rattle.names.proofs.Holds.{by-name}
 use Rattle.theory_laws.specs.Representation.{Nth, here, there}
 use Rattle.theory_laws.proofs.Readback.{Sorted, sorted-here, sorted-there}
@@ -49,8 +48,3 @@ nth-first {key} (name-apart {name} {s = t} {vs} f a) (there n) (sorted-there m) 
     by-name key name
     (λ q. absurd (nth-found n (rw (← q) at f)))
     (λ q. first-on key name t vs q ∙ nth-first a n m)
-
--- Every rule of an accepted rulebook.
-pub rule-apart : {th : Theory} → WellFormed th → (key : Name) {r : Rule} → ruleNamed th key ≡ ok r → Apart (variablesOf r)
-unfolding ruleNamed
-rule-apart {th} w key {r} e = was-found _ _ e λ p. w .formed r (first-some (isRule key) (th .rules) p .0) .apart
