@@ -37,7 +37,8 @@ use Rattle.asking_laws.proofs.Places.{Left, Any, At, at-less}
 use Rattle.asking_laws.proofs.Asking.{closing-law}
 use Rattle.terms_laws.proofs.Judgments.{lifted, AskedRead}
 use Rattle.terms_laws.proofs.Whole.{certificate-term}
-use Rattle.certificates.specs.Certificates as walk
+use Rattle.forms.specs.Forms as walk
+use Rattle.certificates.specs.Certificates.{AllAreas, around}
 use Rattle.terms_laws.proofs.Following.{tested, bind-before}
 use Rattle.certificates_laws.proofs.Asked.{lifted-tested, def-named}
 use Rattle.certificates_laws.proofs.Standing.{SoFar, Standing, StepRecorded, between-longer}
@@ -68,11 +69,11 @@ known : {goalsText certificate table : List ℕ} {Means : ℕ → Term → Type 
 known {name} t e = rw e (known-def t name)
 
 -- What leaves the store, the stack and the table, beside the theory's area.
-beside-live : {A B : Type 0} {Q : A → Areas × List ℕ → B → Type 0} {R : A → walk.AllAreas → B → Type 0} {m : Did (Areas × List ℕ) A} {m′ : Result B}
+beside-live : {A B : Type 0} {Q : A → Areas × List ℕ → B → Type 0} {R : A → AllAreas → B → Type 0} {m : Did (Areas × List ℕ) A} {m′ : Result B}
     (live : List ℕ)
     → Simulates Q m m′
     → ((a : A) (areas : Areas × List ℕ) (b : B) → Q a areas b → R a ((areas .0, live), areas .1) b)
-    → Simulates R (walk.around live m) m′
+    → Simulates R (around live m) m′
 beside-live live (refuse e) k = refuse e
 beside-live live (leave q) k = leave (k _ _ _ q)
 
@@ -103,7 +104,7 @@ module _ {rules heap : List ℕ} {es : Entries} {bound : ℕ} {th : Theory} (h :
       → definition.certificateForm document01 th now item ts ≡ definition.defForm document01 th now is ts
       → At certificate (Left is (Left rest Any)) 0 r
       → Simulates (Standing rules heap es bound th goalsText certificate goals rest)
-      (walk.around live (walk.defForm certificate rules live tally r store stack table)) (definition.defForm document01 th now is ts)
+      (around live (walk.defForm certificate rules live tally r store stack table)) (definition.defForm document01 th now is ts)
   def-law item rest is r so-far same at-items =
       beside-live live (knowing (reads (Left rest Any) is r (so-far .tables) at-items)) (λ x areas y p. by (p .0) (p .1)) where
         by : {x : Tally × Reader} {areas : Areas × List ℕ} {y : Progress × List Term} → DefRead es th certificate table tally now (Left rest Any) ts x areas y

@@ -35,7 +35,7 @@ use Rattle.asking_laws.proofs.Places.{Left, Any, At, at-less}
 use Rattle.asking_laws.proofs.Asking.{closing-law}
 use Rattle.terms_laws.proofs.Judgments.{lifted}
 use Rattle.steps_laws.proofs.Numbers.{number-law}
-use Rattle.certificates.specs.Certificates as walk
+use Rattle.forms.specs.Forms as walk
 use Rattle.terms_laws.proofs.Following.{tested}
 use Rattle.certificates_laws.proofs.Asked.{member-law}
 use Rattle.certificates_laws.proofs.Standing.{SoFar, Standing, StepRecorded}

@@ -18,7 +18,7 @@ use Rattle.theory_laws.proofs.Frames.{Keeps}
 use Rattle.theory_reading.proofs.Stored.{Stored, Means}
 use Rattle.tables.specs.declared.Tally.{Tally}
 use Rattle.tables.specs.Representation.{Tables}
-use Rattle.matching.specs.Matching.{stepConcluded}
+use Rattle.concluding.specs.Concluding.{stepConcluded}
 use Rattle.matching_laws.proofs.Relations.{Bound, Binds, ReferencesAt}
 use Rattle.matching_laws.proofs.Formed.{RuleReady}
 use Rattle.matching_laws.proofs.Starting.{narrow-01, steps-at}

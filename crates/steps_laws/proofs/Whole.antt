@@ -41,7 +41,7 @@ use Rattle.tables.specs.Representation.{Tables}
 use Rattle.tables.proofs.Laws.{means-more}
 use Rattle.asking_laws.proofs.Places.{Left, At}
 use Rattle.asking_laws.proofs.Asking.{WordMet, word-met, word-law, GroupMet, group-met, group-law}
-use Rattle.matching.specs.Matching.{unbound, stepConcluded}
+use Rattle.concluding.specs.Concluding.{unbound, stepConcluded}
 use Rattle.matching_laws.proofs.Relations.{ReferencesAt, no-references, not-bound}
 use Rattle.matching_laws.proofs.References.{references-kept}
 use Rattle.matching_laws.proofs.Bindings.{binds-none, keeps-unbound}

@@ -13,7 +13,7 @@ use Rattle.tables.specs.declared.Tally.{Tally}
 use Rattle.tables.specs.Words.{defFound, defAdded, defCounted}
 use Rattle.asking.specs.Asking.{inForm, closingDue}
 use Rattle.terms.specs.Terms.{term}
-use Rattle.certificates.specs.Certificates.{defNamed, defForm}
+use Rattle.forms.specs.Forms.{defNamed, defForm}
 
 module _ (text : List ℕ) (tally : Tally) (s t k : ℕ) (store stack table : List ℕ) where
   -- What is done behind the term.
