@@ -1,4 +1,4 @@
--- What a form leaves, and one turn of the loop over the forms, on the side of the models.
+-- One turn of the loop over the forms, on the side of the models.
 use Prim.Native.Nat.{ℕ, zero, suc, _-_, _<_, _≤_}
 use mathlib.Core.Path.{_≡_, refl}
 use mathlib.Core.List.{List}
@@ -9,10 +9,6 @@ use Rattle.outcomes.specs.Leaving.{Did, _leaving_}
 use Rattle.tables.specs.declared.Tally.{Tally}
 use Rattle.asking.specs.Asking.{over, form, formDue}
 use Rattle.certificates.specs.Certificates.{AllAreas, formRead, formsFrom}
-
-pub next-is : {tally next : Tally} {r : Reader} {table after : List ℕ} → tally ≡ next → table ≡ after
-    → _≡_ {A = Did (List ℕ) (Tally × Reader)} (ok (tally, r) leaving table) (ok (next, r) leaving after)
-next-is e h = rw (e, h)
 
 module _ (text goals rules : List ℕ) (tally : Tally) (r : Reader) (store stack heap table : List ℕ) where
   pub forms-over : (fuel : ℕ) → 0 < fuel → formDue text r ≡ ok over

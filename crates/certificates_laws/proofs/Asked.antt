@@ -26,7 +26,7 @@ use Rattle.theory_reading.specs.Storing as storing
 use Rattle.asking_laws.proofs.Places.{RestComes, At}
 use Rattle.asking_laws.proofs.Asking.{WordMet, word-met, word-law}
 use Rattle.asking.specs.Asking.{inForm, atomDue}
-use Rattle.certificates.specs.Certificates.{defNamed}
+use Rattle.forms.specs.Forms.{defNamed}
 
 -- What was asked for and tested at once, where the definition does one after the other.
 pub lifted-tested : {S A B C D : Type 0} {Q : A → B → Type 0} {R : C → S → D → Type 0} {o : Outcome A} {s : S} (ts : List Term) (m : Result B) (g : B → Bool)

@@ -37,9 +37,11 @@ use Rattle.tables.proofs.Phases.{next-def}
 use Rattle.asking.specs.Asking.{inForm}
 use Rattle.asking_laws.proofs.Places.{RestComes, Any, At, at-less}
 use Rattle.asking_laws.proofs.Asking.{closing-law}
+use Rattle.nodes.specs.Limits.{defBuckets}
 use Rattle.terms_laws.proofs.Judgments.{lifted, AskedRead}
 use Rattle.terms_laws.proofs.Whole.{certificate-term}
-use Rattle.certificates.specs.Certificates as walk
+use Rattle.forms.specs.Forms as walk
+use Rattle.certificates.specs.Certificates.{AllAreas, around}
 use Rattle.terms_laws.proofs.Following.{tested, bind-before}
 use Rattle.certificates_laws.proofs.Asked.{lifted-tested, def-named}
 use Rattle.certificates_laws.proofs.Standing.{SoFar, Standing, StepRecorded, between-longer}
@@ -60,22 +62,22 @@ data DefRead (es : Entries) (th : Theory) (certificate table : List ℕ) (tally 
       → Stored es th document01 4096 store us
       → Longer ts us
       → length stack ≡ 16384
-      → DefRead es th certificate table tally now K ts (defCounted tally, r) ((store, stack), defAdded 128 certificate s t k tally table)
+      → DefRead es th certificate table tally now K ts (defCounted tally, r) ((store, stack), defAdded defBuckets certificate s t k tally table)
       (defined now (part s t certificate) u, us)
 
 -- "Duplicate 13".
 known : {goalsText certificate table : List ℕ} {Means : ℕ → Term → Type 0} {Recorded : ℕ → ℕ → ℕ → Step → Type 0} {tally : Tally} {goals openGoals : List Goal}
     {defs : List Def}
-    {steps : List Step} {key name : Name} → Tables goalsText certificate table 128 Means Recorded tally goals openGoals defs steps → key ≡ name
-    → present (defFound 128 certificate key table) ≡ someOf (isDef name) defs
+    {steps : List Step} {key name : Name} → Tables goalsText certificate table defBuckets Means Recorded tally goals openGoals defs steps → key ≡ name
+    → present (defFound defBuckets certificate key table) ≡ someOf (isDef name) defs
 known {name} t e = rw e (known-def t name)
 
 -- What leaves the store, the stack and the table, beside the theory's area.
-beside-live : {A B : Type 0} {Q : A → Areas × List ℕ → B → Type 0} {R : A → walk.AllAreas → B → Type 0} {m : Did (Areas × List ℕ) A} {m′ : Result B}
+beside-live : {A B : Type 0} {Q : A → Areas × List ℕ → B → Type 0} {R : A → AllAreas → B → Type 0} {m : Did (Areas × List ℕ) A} {m′ : Result B}
     (live : List ℕ)
     → Simulates Q m m′
     → ((a : A) (areas : Areas × List ℕ) (b : B) → Q a areas b → R a ((areas .0, live), areas .1) b)
-    → Simulates R (walk.around live m) m′
+    → Simulates R (around live m) m′
 beside-live live (refuse e) k = refuse e
 beside-live live (leave q) k = leave (k _ _ _ q)
 
@@ -85,7 +87,7 @@ module _ {rules heap : List ℕ} {es : Entries} {bound : ℕ} {th : Theory} (h :
     (keep : Keeps places.bindings heap live) where
   -- The form is read whole before the table is written.
   reads : {Recorded : ℕ → ℕ → ℕ → Step → Type 0} (K : Stream Token → Type 0) (is : Items) (r : Reader)
-      → Tables goalsText certificate table 128 (Means es th ts) Recorded tally goals (now .openGoals) (now .defs) (now .steps)
+      → Tables goalsText certificate table defBuckets (Means es th ts) Recorded tally goals (now .openGoals) (now .defs) (now .steps)
       → At certificate (RestComes is K) 0 r
       → Simulates (DefRead es th certificate table tally now K ts) (walk.defForm certificate rules live tally r store stack table)
       (definition.defForm document01 th now is ts)
@@ -96,7 +98,7 @@ module _ {rules heap : List ℕ} {es : Entries} {bound : ℕ} {th : Theory} (h :
       (m .reader))
       (λ z areas v k.
       lifted (v .1) _ _
-      (tested (not (present (defFound 128 certificate (part (x .0) (x .1) certificate) table))) 13 duplicate (ap not (known t (m .name))) refl) (λ a b fresh.
+      (tested (not (present (defFound defBuckets certificate (part (x .0) (x .1) certificate) table))) 13 duplicate (ap not (known t (m .name))) refl) (λ a b fresh.
       lifted (v .1) _ _ (closing-law certificate K 4 (v .0 .1) (k .reader)) (λ q c there.
       rw (← m .name)
       (leave (def-read {s = x .0} {t = x .1} {k = z .0} {u = v .0 .0} (let i = m .some in let j = m .inside in omega arith) (let j = m .inside in omega arith)
@@ -108,7 +110,7 @@ module _ {rules heap : List ℕ} {es : Entries} {bound : ℕ} {th : Theory} (h :
       → definition.certificateForm document01 th now item ts ≡ definition.defForm document01 th now is ts
       → At certificate (RestComes is (RestComes rest Any)) 0 r
       → Simulates (Standing rules heap es bound th goalsText certificate goals rest)
-      (walk.around live (walk.defForm certificate rules live tally r store stack table)) (definition.defForm document01 th now is ts)
+      (around live (walk.defForm certificate rules live tally r store stack table)) (definition.defForm document01 th now is ts)
   def-law item rest is r so-far same at-items =
       beside-live live (knowing (reads (RestComes rest Any) is r (so-far .tables) at-items)) (λ x areas y p. by (p .0) (p .1)) where
         by : {x : Tally × Reader} {areas : Areas × List ℕ} {y : Progress × List Term}
@@ -119,7 +121,7 @@ module _ {rules heap : List ℕ} {es : Entries} {bound : ℕ} {th : Theory} (h :
             record {
               reader = there;
               between =
-                  next-def goalsText certificate 8192 32768 128 (Means es th us) (StepRecorded rules heap es bound th us) document01 th ts
+                  next-def goalsText certificate 8192 32768 defBuckets (Means es th us) (StepRecorded rules heap es bound th us) document01 th ts
                   (between-longer g so-far) s t k u (same ∙ e) a b m fresh;
               stored = st;
               long = l;

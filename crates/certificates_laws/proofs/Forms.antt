@@ -31,7 +31,7 @@ use Rattle.terms_laws.proofs.Judgments.{lifted}
 use Rattle.steps_laws.proofs.Whole.{step-law}
 use Rattle.certificates.specs.Certificates as walk
 use Rattle.certificates.specs.Certificates.{AllAreas}
-use Rattle.certificates.specs.declared.Keyword as walk-keyword
+use Rattle.forms.specs.declared.Keyword as walk-keyword
 use Rattle.certificates_laws.proofs.Heads.{Headed, is-step, is-result, is-def, is-other, headed}
 use Rattle.certificates_laws.proofs.Asked.{member-law}
 use Rattle.certificates_laws.proofs.Standing.{StepRecorded, Standing, Finished}

@@ -5,9 +5,9 @@ use Rattle.horn.specs.Certificate as definition
 use Rattle.horn.specs.Certificate.{formWord, stepWord, resultWord, defWord, otherForm}
 use Rattle.outcomes.specs.Outcomes.{pick}
 use Rattle.facts.proofs.Comparing.{same-named}
-use Rattle.certificates.specs.Certificates.{stepName, resultName, defName, keywordOf}
-use Rattle.certificates.specs.declared.Keyword.{Keyword}
-use Rattle.certificates.specs.declared.Keyword.the-variants.{Step, Result, Def, Other}
+use Rattle.forms.specs.Forms.{stepName, resultName, defName, keywordOf}
+use Rattle.forms.specs.declared.Keyword.{Keyword}
+use Rattle.forms.specs.declared.Keyword.the-variants.{Step, Result, Def, Other}
 
 pub data Headed : Keyword → definition.FormWord → Type 0 where
   is-step : Headed Step stepWord

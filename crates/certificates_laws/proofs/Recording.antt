@@ -18,6 +18,7 @@ use Rattle.theory_reading.proofs.Stored.{Means}
 use Rattle.tables.specs.declared.Tally.{Tally}
 use Rattle.tables.proofs.Phases.{next-step}
 use Rattle.asking_laws.proofs.Places.{RestComes, Any}
+use Rattle.nodes.specs.Limits.{defBuckets}
 use Rattle.steps.specs.Steps as steps
 use Rattle.steps_laws.proofs.Whole.{StepRead}
 use Rattle.certificates.specs.Certificates as walk
@@ -46,7 +47,7 @@ module _ {rules heap : List ℕ} {es : Entries} {bound : ℕ} {th : Theory} (goa
         reader = k .reader;
         between =
             rw (k .progress)
-            (next-step goalsText certificate 8192 32768 128 (Means es th (y .1)) (StepRecorded rules heap es bound th (y .1)) document01 th ts
+            (next-step goalsText certificate 8192 32768 defBuckets (Means es th (y .1)) (StepRecorded rules heap es bound th (y .1)) document01 th ts
             (between-longer (k .grown) so-far) (x .0) (x .1) (x .2) (step (k .judgment) (k .rule)) e (k .small)
             record { means = k .means; by-rule = k .by-rule });
         stored = k .stored;

@@ -35,9 +35,10 @@ use Rattle.tables.proofs.Phases.{next-result}
 use Rattle.asking.specs.Asking.{inForm}
 use Rattle.asking_laws.proofs.Places.{RestComes, Any, At, at-less}
 use Rattle.asking_laws.proofs.Asking.{closing-law}
+use Rattle.nodes.specs.Limits.{defBuckets}
 use Rattle.terms_laws.proofs.Judgments.{lifted}
 use Rattle.steps_laws.proofs.Numbers.{number-law}
-use Rattle.certificates.specs.Certificates as walk
+use Rattle.forms.specs.Forms as walk
 use Rattle.terms_laws.proofs.Following.{tested}
 use Rattle.certificates_laws.proofs.Asked.{member-law}
 use Rattle.certificates_laws.proofs.Standing.{SoFar, Standing, StepRecorded}
@@ -62,7 +63,7 @@ unfolding goalJudgment
 open-means a = rw (a .is-goal) (a .means)
 
 module _ {goalsText certificate table : List ℕ} {Means : ℕ → Term → Type 0} {Recorded : ℕ → ℕ → ℕ → Step → Type 0} {tally : Tally} {goals openGoals : List Goal}
-    {defs : List Def} {steps : List Step} (h : Tables goalsText certificate table 128 Means Recorded tally goals openGoals defs steps) where
+    {defs : List Def} {steps : List Step} (h : Tables goalsText certificate table defBuckets Means Recorded tally goals openGoals defs steps) where
   -- "N not a goal still open, 12".
   open-due : {key name : Name} → key ≡ name
       → Answers (λ x g. OpenAt table 256 Means goals name (x .0) (x .1) g) (outcomes.orElse (goalOpen goalsText key table) 12)
@@ -88,7 +89,7 @@ module _ {rules heap : List ℕ} {es : Entries} {bound : ℕ} {th : Theory} (h :
     {ts : List Term} {store live table : List ℕ} (stack : List ℕ) (stored : Stored es th document01 4096 store ts) (long : length stack ≡ 16384)
     (keep : Keeps places.bindings heap live) where
   reads : (K : Stream Token → Type 0) (is : Items) (r : Reader)
-      → Tables goalsText certificate table 128 (Means es th ts) (StepRecorded rules heap es bound th ts) tally goals (now .openGoals) (now .defs) (now .steps)
+      → Tables goalsText certificate table defBuckets (Means es th ts) (StepRecorded rules heap es bound th ts) tally goals (now .openGoals) (now .defs) (now .steps)
       → At certificate (RestComes is K) 0 r
       → Simulates (ResultRead certificate table (Means es th ts) tally goals now K ts) (walk.resultForm certificate goalsText tally r table)
       (definition.resultForm document01 th now is ts)
@@ -118,7 +119,7 @@ module _ {rules heap : List ℕ} {es : Entries} {bound : ℕ} {th : Theory} (h :
             record {
               reader = there;
               between =
-                  next-result goalsText certificate 8192 32768 128 (Means es th ts) (StepRecorded rules heap es bound th ts) document01 th ts so-far key e w g
+                  next-result goalsText certificate 8192 32768 defBuckets (Means es th ts) (StepRecorded rules heap es bound th ts) document01 th ts so-far key e w g
                   (same ∙ f) a;
               stored = stored;
               long = long;

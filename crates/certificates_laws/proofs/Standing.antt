@@ -24,6 +24,7 @@ use Rattle.tables.specs.Representation.{Tables}
 use Rattle.tables.specs.Phases.{Between}
 use Rattle.tables.proofs.Phases.{between-more}
 use Rattle.asking_laws.proofs.Places.{RestComes, Any, At}
+use Rattle.nodes.specs.Limits.{defBuckets}
 use Rattle.certificates.specs.Certificates.{AllAreas}
 
 -- The store's count is the number of its trees.
@@ -39,7 +40,7 @@ module _ (rules heap : List ℕ) (es : Entries) (bound : ℕ) (th : Theory) wher
   module _ (goalsText certificate : List ℕ) (goals : List Goal) where
     -- The table holds what the definition has so far, and what is left of the certificate finds room in it.
     abbrev pub SoFar : List Term → List ℕ → Tally → Progress → Items → Type 0
-    SoFar ts table tally now left = Between goalsText certificate 8192 32768 128 (Means es th ts) (StepRecorded ts) table tally goals now left
+    SoFar ts table tally now left = Between goalsText certificate 8192 32768 defBuckets (Means es th ts) (StepRecorded ts) table tally goals now left
 
     pub record Standing (left : Items) (x : Tally × Reader) (areas : AllAreas) (y : Progress × List Term) : Type 0 where
       pub reader : At certificate (RestComes left Any) 0 (x .1)
@@ -50,7 +51,7 @@ module _ (rules heap : List ℕ) (es : Entries) (bound : ℕ) (th : Theory) wher
 
     -- After the last form.
     pub record Finished (tally : Tally) (areas : AllAreas) (y : Progress × List Term) : Type 0 where
-      pub tables : Tables goalsText certificate (areas .1) 128 (Means es th (y .1)) (StepRecorded (y .1)) tally goals (y .0 .openGoals) (y .0 .defs)
+      pub tables : Tables goalsText certificate (areas .1) defBuckets (Means es th (y .1)) (StepRecorded (y .1)) tally goals (y .0 .openGoals) (y .0 .defs)
           (y .0 .steps)
       pub stored : Stored es th document01 4096 (areas .0 .0 .0) (y .1)
 

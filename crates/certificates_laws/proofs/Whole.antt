@@ -28,6 +28,7 @@ use Rattle.tables.specs.Phases.{Gathering}
 use Rattle.tables.proofs.Laws.{none-left}
 use Rattle.tables.proofs.Phases.{first-form}
 use Rattle.asking_laws.proofs.Places.{at-start}
+use Rattle.nodes.specs.Limits.{defBuckets}
 use Rattle.terms_laws.proofs.Judgments.{lifted}
 use Rattle.certificates.specs.Certificates as walk
 use Rattle.certificates.specs.Certificates.{AllAreas}
@@ -45,7 +46,7 @@ pub record CertificateRead (es : Entries) (th : Theory) (goals : List Goal) (tal
 pub certificate-law : {rules heap : List ℕ} {es : Entries} {bound : ℕ} {th : Theory} → Holds rules heap es bound th → bound ≤ 11948 → WellFormed th
     → (goalsText certificate : List ℕ) → length certificate ≤ 32768
     → {table : List ℕ} {tally : Tally} {goals : List Goal} {left : Items} {ts : List Term}
-    → Gathering goalsText certificate 8192 32768 128 (Means es th ts) (StepRecorded rules heap es bound th ts) table tally goals left
+    → Gathering goalsText certificate 8192 32768 defBuckets (Means es th ts) (StepRecorded rules heap es bound th ts) table tally goals left
     → {store live : List ℕ} (stack : List ℕ) → Stored es th document01 4096 store ts → length stack ≡ 16384 → Keeps places.bindings heap live
     → Simulates (CertificateRead es th goals) (walk.certificate certificate goalsText rules tally store stack live table)
     (definition.certificateOf document01 th goals certificate ts)
@@ -58,7 +59,7 @@ certificate-law {rules} {heap} {es} {bound} {th} h high w goalsText certificate 
     (record { defs = []; openGoals = goals; steps = [] }) ts (omega arith)
     record {
       reader = at-start certificate;
-      between = first-form goalsText certificate 8192 32768 128 (Means es th ts) (StepRecorded rules heap es bound th ts) document01 th short gathered;
+      between = first-form goalsText certificate 8192 32768 defBuckets (Means es th ts) (StepRecorded rules heap es bound th ts) document01 th short gathered;
       stored = stored;
       long = long;
       keeps = keep;

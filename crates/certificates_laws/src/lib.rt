@@ -1,1 +1,1 @@
-// The laws that join crate certificates to the definition are in proofs/. There is no code here.
+// The laws that join crates forms and certificates to the definition are in proofs/. There is no code here.

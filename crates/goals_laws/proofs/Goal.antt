@@ -31,6 +31,7 @@ use Rattle.tables.proofs.Phases.{gathering-more, next-goal}
 use Rattle.asking.specs.Asking.{inForm}
 use Rattle.asking_laws.proofs.Places.{RestComes, At, at-less}
 use Rattle.asking_laws.proofs.Asking.{closing-law}
+use Rattle.nodes.specs.Limits.{defBuckets}
 use borrow.Author.Tests.{not-true}
 use Rattle.terms_laws.proofs.Judgments.{lifted, AskedRead}
 use Rattle.terms_laws.proofs.Whole.{goal-judgment}
@@ -46,7 +47,7 @@ pub record GoalRead (es : Entries) (th : Theory) (goalsText certificate : List �
   pub stored : Stored es th document01 4096 (left .0 .0) (y .1)
   pub grown : Longer ts (y .1)
   pub long : length (left .0 .1) ≡ 16384
-  pub gathering : Gathering goalsText certificate 8192 32768 128 (Means es th (y .1)) (Recorded (y .1)) (left .1) (x .0) (y .0) rest
+  pub gathering : Gathering goalsText certificate 8192 32768 defBuckets (Means es th (y .1)) (Recorded (y .1)) (left .1) (x .0) (y .0) rest
 
 -- The same before it is known that the definition accepts the form: what was added, by its name's bounds and its judgment's number.
 record GoalMet (es : Entries) (th : Theory) (goalsText : List ℕ) (K : Stream Token → Type 0) (ts : List Term) (goals : List Goal) (tally : Tally)
@@ -73,7 +74,7 @@ module _ {rules heap : List ℕ} {es : Entries} {bound : ℕ} {th : Theory} (h :
     (survives : (ts us : List Term) (j r p : ℕ) (s : Step) → Longer ts us → Recorded ts j r p s → Recorded us j r p s)
     (short : length goalsText ≤ 8192)
     {ts : List Term} {goals : List Goal} {tally : Tally} {table : List ℕ} (store stack : List ℕ) {inner rest : Items}
-    (g : Gathering goalsText certificate 8192 32768 128 (Means es th ts) (Recorded ts) table tally goals (group inner then rest))
+    (g : Gathering goalsText certificate 8192 32768 defBuckets (Means es th ts) (Recorded ts) table tally goals (group inner then rest))
     (stored : Stored es th document01 4096 store ts) (long : length stack ≡ 16384) (K : Stream Token → Type 0) {r : Reader}
     (there : At goalsText (RestComes inner K) 0 r) where
   goal-met : Simulates (GoalMet es th goalsText K ts goals tally table) (walk.goal goalsText rules heap tally r store stack table)
@@ -122,7 +123,7 @@ module _ {rules heap : List ℕ} {es : Entries} {bound : ℕ} {th : Theory} (h :
         grown = m .grown;
         long = m .long;
         gathering = rw (m .counted, m .entered, m .one-more)
-            (next-goal goalsText certificate 8192 32768 128 (Means es th (y .1)) (Recorded (y .1)) document01 th ts (m .s) (m .t) (m .w) (m .j)
+            (next-goal goalsText certificate 8192 32768 defBuckets (Means es th (y .1)) (Recorded (y .1)) document01 th ts (m .s) (m .t) (m .w) (m .j)
             (gathering-more (Means es th (y .1)) (Recorded (y .1)) (λ w t d. means-longer (m .grown) d)
             (λ j r p s d. survives ts (y .1) j r p s (m .grown) d) g)
             (k .1 ∙ ap (λ (gs : List Goal). refusals.ok (gs, y .1)) (m .one-more))

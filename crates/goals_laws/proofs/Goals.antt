@@ -36,6 +36,7 @@ use Rattle.tables.proofs.Phases.{first-goal}
 use Rattle.asking.specs.Asking.{Top}
 use Rattle.asking_laws.proofs.Places.{RestComes, Any, At, at-start}
 use Rattle.asking_laws.proofs.Asking.{FormMet, form-over, form-bad, form-closing, form-atom, form-list, form-law}
+use Rattle.nodes.specs.Limits.{defBuckets}
 use Rattle.terms_laws.proofs.Judgments.{lifted}
 use Rattle.goals.specs.Goals as walk
 use Rattle.goals.specs.Goals.{Gathered}
@@ -46,7 +47,7 @@ use Rattle.goals_laws.proofs.Goal.{goal-law}
 pub record GoalsRead (es : Entries) (th : Theory) (goalsText certificate : List ℕ) (Recorded : List Term → ℕ → ℕ → ℕ → Step → Type 0)
     (tally : Tally) (left : Gathered) (y : List Goal × List Term) : Type 0 where
   pub behind : Items
-  pub gathering : Gathering goalsText certificate 8192 32768 128 (Means es th (y .1)) (Recorded (y .1)) (left .1) tally (y .0) behind
+  pub gathering : Gathering goalsText certificate 8192 32768 defBuckets (Means es th (y .1)) (Recorded (y .1)) (left .1) tally (y .0) behind
   pub stored : Stored es th document01 4096 (left .0 .0) (y .1)
   pub long : length (left .0 .1) ≡ 16384
   pub counted : tally .goals ≡ length (y .0)
@@ -64,7 +65,7 @@ module _ {rules heap : List ℕ} {es : Entries} {bound : ℕ} {th : Theory} (h :
   abbrev Reads : ℕ → Type 0
   Reads fuel =
       (is : Items) (goals : List Goal) (ts : List Term) (tally : Tally) (r : Reader) (store stack table : List ℕ) → suc (itemCount is) ≤ fuel
-      → Gathering goalsText certificate 8192 32768 128 (Means es th ts) (Recorded ts) table tally goals is
+      → Gathering goalsText certificate 8192 32768 defBuckets (Means es th ts) (Recorded ts) table tally goals is
       → Stored es th document01 4096 store ts → length stack ≡ 16384 → At goalsText (RestComes is Any) 0 r
       → Simulates (GoalsRead es th goalsText certificate Recorded) (walk.goalsFrom fuel goalsText rules heap tally r store stack table)
       (definition.goalForms document01 th goals is ts)
@@ -72,7 +73,7 @@ module _ {rules heap : List ℕ} {es : Entries} {bound : ℕ} {th : Theory} (h :
   -- One goal more, and those behind it.
   goals-on : (fuel : ℕ) → Reads fuel → (goals : List Goal) (ts : List Term) (tally : Tally) (store stack table : List ℕ) {is : Items} {o : Outcome Top}
       → FormMet goalsText Any 0 is o → suc (itemCount is) ≤ suc fuel
-      → Gathering goalsText certificate 8192 32768 128 (Means es th ts) (Recorded ts) table tally goals is
+      → Gathering goalsText certificate 8192 32768 defBuckets (Means es th ts) (Recorded ts) table tally goals is
       → Stored es th document01 4096 store ts → length stack ≡ 16384
       → Simulates (GoalsRead es th goalsText certificate Recorded)
       (leaving._>>=_ (o leaving ((store, stack), table))
@@ -96,14 +97,14 @@ module _ {rules heap : List ℕ} {es : Entries} {bound : ℕ} {th : Theory} (h :
 
   -- The whole text, from an empty store and a table that holds nothing.
   pub goals-whole : (store stack table : List ℕ) → length table ≡ 16384 → Stored es th document01 4096 store [] → length stack ≡ 16384
-      → Simulates (GoalsRead es th goalsText certificate Recorded) (walk.goals goalsText rules heap (noneYet 128) store stack (cleared 256 table))
+      → Simulates (GoalsRead es th goalsText certificate Recorded) (walk.goals goalsText rules heap (noneYet defBuckets) store stack (cleared 256 table))
       (definition.goalsOf document01 th goalsText [])
   unfolding walk.goals definition.goalsOf definition._>>=_ definition.lift definition.give number document01
   goals-whole store stack table words st long =
       let n = few-items goalsText in
       bind _ _
-      (goals-law (length goalsText + 1) (items (tokens goalsText)) [] [] (noneYet 128) start store stack (cleared 256 table) (omega arith)
-      (first-goal goalsText certificate 8192 32768 128 (Means es th []) (Recorded []) document01 th table (omega arith) (omega arith) (omega arith) short
+      (goals-law (length goalsText + 1) (items (tokens goalsText)) [] [] (noneYet defBuckets) start store stack (cleared 256 table) (omega arith)
+      (first-goal goalsText certificate 8192 32768 defBuckets (Means es th []) (Recorded []) document01 th table (omega arith) (omega arith) (omega arith) short
       (rw words roomy-01))
       st long (at-start goalsText))
       (λ tally left y m.

@@ -4,19 +4,18 @@ use mathlib.Core.Path.{_≡_, refl}
 use mathlib.Core.List.{List}
 use mathlib.Core.Option.{none, some}
 use native.Mathlib.Omega.{arith}
-use borrow.Author.Tests.{lt-ltb, le-ltb}
 use lib.Dec.{leb}
 use lib.ListN.{getD, set}
 use Rattle.arena.specs.Store.{argumentOf}
-use Rattle.outcomes.specs.Outcomes.{ok, refused, pick}
+use Rattle.outcomes.specs.Outcomes.{refused, pick}
 use Rattle.outcomes.specs.Leaving.{Did, _leaving_}
 use Rattle.words.specs.Sums.{sum32}
 use Rattle.theory_reading.specs.Reading.{arityOf}
 use Rattle.theory_reading.specs.Storing.{Areas, before}
-use Rattle.matching.specs.Matching.{Tried, _keeping_, bindingAt, variableMatched, argumentsMatched, symbolMatched, matched}
+use Rattle.matching.specs.Matching.{Tried, _keeping_, variableMatched, argumentsMatched, symbolMatched, matched}
 use Rattle.matching.specs.declared.Built.{Built}
 use Rattle.matching.specs.declared.Built.the-variants.{Term}
-use Rattle.matching.specs.Matching.{built, boundTerm, nodeMade, argumentsBuilt, termBuilt, stepJudgment, premisesMatched, unbound}
+use Rattle.matching.specs.Matching.{built, boundTerm, nodeMade, argumentsBuilt, termBuilt}
 
 module _ (nodes places : ℕ) (store : List ℕ) where
   pub matched-within : (left o t : ℕ) (heap : List ℕ) → (left ≡ 0 → ⊥) → matched nodes places store left o t heap ≡
@@ -75,39 +74,3 @@ module _ (nodes limit places : ℕ) where
         → argumentsBuilt nodes limit places one (n - j) from o p stack store ≡ before stack (nodeMade nodes limit places from p o stack store)
     unfolding argumentsBuilt
     building-end j l = let e : n - j ≡ 0 = omega arith in rw e
-
-module _ (nodes places : ℕ) (store table stack : List ℕ) (steps n : ℕ) (o : ℕ) (heap : List ℕ) where
-  pub premises-first : premisesMatched nodes places store table stack steps n 0 o heap ≡ premisesMatched nodes places store table stack steps (n - 0) 0 o heap
-  premises-first = let e : n - 0 ≡ n = omega arith in rw e
-
-  pub premises-on : (k : ℕ) {o′ : ℕ} {heap′ : List ℕ} → k < n → getD stack k 0 < steps
-      → matched nodes places store 16384 o (stepJudgment table (getD stack k 0)) heap ≡ (some o′ keeping heap′)
-      → premisesMatched nodes places store table stack steps (n - k) k o heap ≡ premisesMatched nodes places store table stack steps (n - (k + 1))
-      (k + 1) o′ heap′
-  unfolding premisesMatched
-  premises-on k l b h = let e : n - k ≡ suc (n - (k + 1)) = omega arith in rw (e, lt-ltb _ _ b, h)
-
-  pub premise-differs : (k : ℕ) {heap′ : List ℕ} → k < n → getD stack k 0 < steps
-      → matched nodes places store 16384 o (stepJudgment table (getD stack k 0)) heap ≡ (none keeping heap′)
-      → premisesMatched nodes places store table stack steps (n - k) k o heap ≡ (refused 25 leaving heap′)
-  unfolding premisesMatched
-  premise-differs k l b h = let e : n - k ≡ suc (n - (k + 1)) = omega arith in rw (e, lt-ltb _ _ b, h)
-
-  pub no-step : (k : ℕ) → k < n → steps ≤ getD stack k 0
-      → premisesMatched nodes places store table stack steps (n - k) k o heap ≡ (refused 24 leaving heap)
-  unfolding premisesMatched
-  no-step k l b = let e : n - k ≡ suc (n - (k + 1)) = omega arith in rw (e, le-ltb _ _ b)
-
-  pub premises-end : (k : ℕ) → n ≤ k → premisesMatched nodes places store table stack steps (n - k) k o heap ≡ (ok o leaving heap)
-  unfolding premisesMatched
-  premises-end k l = let e : n - k ≡ 0 = omega arith in rw e
-
-pub unbound-on : (n : ℕ) (heap : List ℕ) → 0 < n → unbound n heap ≡ unbound (n - 1) (set heap (bindingAt (n - 1)) 0)
-unfolding unbound
-unbound-on zero heap l = absurd (omega arith)
-unbound-on (suc n) heap l = let e : suc n - 1 ≡ n = omega arith in rw e
-
-pub unbound-end : (n : ℕ) (heap : List ℕ) → n ≤ 0 → unbound n heap ≡ heap
-unfolding unbound
-unbound-end zero heap l = refl
-unbound-end (suc n) heap l = absurd (omega arith)

@@ -3,30 +3,21 @@ use Prim.Native.Nat.{ℕ, zero, suc, _+_, _-_}
 use mathlib.Core.Bool.{Bool, true}
 use mathlib.Core.List.{List}
 use mathlib.Core.Option.{Option, none, some}
-use lib.Dec.{eqb, leb, ltb}
-use lib.ListN.{length, getD, set}
+use lib.Dec.{eqb, leb}
+use lib.ListN.{getD, set}
 use Rattle.words.specs.Parts.{part}
-use Rattle.tables.specs.Words.{stepAt}
 use Rattle.arena.specs.Store.{headOf, argumentOf, internAnswer, internArea}
-use Rattle.outcomes.specs.Outcomes.{Outcome, ok, refused, pick, need, orElse}
+use Rattle.outcomes.specs.Outcomes.{Outcome, ok, refused, pick}
 use Rattle.outcomes.specs.Leaving as leaving
-use Rattle.outcomes.specs.Leaving.{Did, _leaving_, beside}
+use Rattle.outcomes.specs.Leaving.{Did, _leaving_}
 use Rattle.words.specs.Sums.{sum32}
 use Rattle.items.specs.Places as layout
-use Rattle.theory_reading.specs.Reading.{arityOf, premiseCount, premisesPlace, conclusionPlace}
+use Rattle.theory_reading.specs.Reading.{arityOf}
 use Rattle.theory_reading.specs.Storing.{numbered, Areas, before}
 use Rattle.matching.specs.declared.Matched.{Matched}
 use Rattle.matching.specs.declared.Matched.the-variants as matches
 use Rattle.matching.specs.declared.Built.{Built}
 use Rattle.matching.specs.declared.Built.the-variants as builds
-use Rattle.matching.specs.declared.Premises.{Premises}
-use Rattle.matching.specs.declared.Premises.the-variants as premises
-use Rattle.matching.specs.declared.Concluded.{Concluded}
-use Rattle.matching.specs.declared.Concluded.the-variants as conclusions
-
--- The levels that a pattern may have: the words of the theory's area.
-abbrev pub levels : ℕ
-levels = 16384
 
 -- What a match answers, with the bindings that it leaves: nothing is refused yet, since 01's number for a mismatch, 23 or 25, is its caller's.
 pub data Tried (A : Type 0) : Type 0 where
@@ -46,14 +37,6 @@ tried matches.Differs heap = none keeping heap
 abbrev pub built : Built → Outcome (ℕ × ℕ)
 built (builds.Term n o) = ok (n, o)
 built (builds.Refused n) = refused n
-
-abbrev pub ended : Premises → Outcome ℕ
-ended (premises.To o) = ok o
-ended (premises.Refused n) = refused n
-
-abbrev pub concluded : Concluded → Outcome ℕ
-concluded (conclusions.Judgment k) = ok k
-concluded (conclusions.Refused n) = refused n
 
 -- The word of a variable's binding: 0, or a term's number plus 1.
 abbrev pub bindingAt : ℕ → ℕ
@@ -94,10 +77,6 @@ module _ (nodes places : ℕ) (store : List ℕ) where
       (λ _. variableMatched heap (getD heap o 0 - layout.variable) t o)
       (λ _. symbolMatched (matched left) (getD heap o 0) o t heap)
 
--- What a mismatch is to the caller: a refusal by 01's number.
-abbrev pub orRefused : {A : Type 0} → Tried A → ℕ → Did (List ℕ) A
-orRefused (o keeping heap) n = orElse o n leaving heap
-
 -- "Unbound variable 26".
 unfoldable pub boundTerm : List ℕ → ℕ → ℕ → Outcome (ℕ × ℕ)
 boundTerm heap v o = pick (eqb (bindingOf heap v) 0) (λ _. refused 26) (λ _. ok (bindingOf heap v - 1, sum32 o 1))
@@ -121,40 +100,3 @@ module _ (nodes limit places : ℕ) where
       pick (leb layout.variable (getD heap o 0))
       (λ _. boundTerm heap (getD heap o 0 - layout.variable) o leaving (store, stack))
       (λ _. argumentsBuilt (termBuilt heap left) (arityOf heap (getD heap o 0)) p (sum32 o 1) (sum32 p 1) (set stack p (getD heap o 0)) store)
-
--- The judgment of step i, the first of its words.
-unfoldable pub stepJudgment : List ℕ → ℕ → ℕ
-stepJudgment table i = getD table (stepAt (length table) i) 0
-
--- "For each premise in order, no earlier step 24, mismatch 25": n premises from the k-th reference on, whose patterns stand from o on.
-unfoldable pub premisesMatched : ℕ → ℕ → List ℕ → List ℕ → List ℕ → ℕ → ℕ → ℕ → ℕ → List ℕ → Did (List ℕ) ℕ
-premisesMatched nodes places store table stack steps zero k o heap = ok o leaving heap
-premisesMatched nodes places store table stack steps (suc n) k o heap =
-    leaving._>>=_ (need (ltb (getD stack k 0) steps) 24 leaving heap) λ _.
-    leaving._>>=_ (orRefused (matched nodes places store levels o (stepJudgment table (getD stack k 0)) heap) 25) λ r.
-    premisesMatched nodes places store table stack steps n (k + 1) (r .0) (r .1)
-
--- The first n bindings taken back.
-unfoldable pub unbound : ℕ → List ℕ → List ℕ
-unbound zero heap = heap
-unbound (suc n) heap = unbound n (set heap (bindingAt n) 0)
-
--- "The stated conclusion (23); for each premise in order, no earlier step 24, mismatch 25".
-unfoldable pub statedConcluded : ℕ → ℕ → List ℕ → List ℕ → List ℕ → ℕ → ℕ → ℕ → List ℕ → Did (List ℕ) ℕ
-statedConcluded nodes places store table stack steps rule t heap =
-    leaving._>>=_ (orRefused (matched nodes places store levels (conclusionPlace heap rule) t heap) 23) λ r.
-    leaving._>>=_ (premisesMatched nodes places store table stack steps (premiseCount heap rule) 0 (premisesPlace rule) (r .1)) λ q.
-    ok t leaving q .1
-
--- "With none stated the conclusion is built".
-unfoldable pub builtConcluded : ℕ → ℕ → ℕ → List ℕ → ℕ → ℕ → List ℕ → List ℕ → List ℕ → Did (Areas × List ℕ) ℕ
-builtConcluded nodes limit places table steps rule stack store heap =
-    leaving._>>=_ (beside (store, stack) (premisesMatched nodes places store table stack steps (premiseCount heap rule) 0 (premisesPlace rule) heap)) λ r.
-    leaving._>>=_ (before (r .1 .1) (termBuilt nodes limit places (r .1 .1) levels (r .0) (premiseCount heap rule) (r .1 .0 .1) (r .1 .0 .0))) λ b.
-    ok (b .0 .0) leaving b .1
-
-unfoldable pub stepConcluded : ℕ → ℕ → ℕ → List ℕ → ℕ → ℕ → ℕ → List ℕ → List ℕ → List ℕ → Did (Areas × List ℕ) ℕ
-stepConcluded nodes limit places table steps rule stated stack store heap =
-    pick (eqb stated 0)
-    (λ _. builtConcluded nodes limit places table steps rule stack store heap)
-    (λ _. beside (store, stack) (statedConcluded nodes places store table stack steps rule (stated - 1) heap))

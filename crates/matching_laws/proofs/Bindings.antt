@@ -20,7 +20,8 @@ use Rattle.theory_laws.proofs.Frames.{Keeps}
 use Rattle.theory_laws.proofs.Ready.{nth-below}
 use Rattle.theory_reading.proofs.Naming.{nth-one, nth-name}
 use Rattle.theory_reading.proofs.Stored.{Longer, Means, means-longer}
-use Rattle.matching.specs.Matching.{bindingOf, bindingAt, unbound}
+use Rattle.matching.specs.Matching.{bindingOf, bindingAt}
+use Rattle.concluding.specs.Concluding.{unbound}
 use Rattle.matching_laws.proofs.Relations.{Bound, not-bound, bound-to, Binds}
 
 -- A new binding touches no other name.

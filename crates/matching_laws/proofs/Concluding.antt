@@ -28,7 +28,7 @@ use Rattle.theory_reading.specs.Addresses.{symbolAt}
 use Rattle.theory_reading.specs.Storing.{Areas}
 use Rattle.theory_reading.proofs.Held.{flat-rises}
 use Rattle.theory_reading.proofs.Stored.{Stored, Means, Longer, longer-none}
-use Rattle.matching.specs.Matching.{statedConcluded, builtConcluded, stepConcluded}
+use Rattle.concluding.specs.Concluding.{statedConcluded, builtConcluded, stepConcluded}
 use Rattle.matching_laws.proofs.Relations.{Bound, not-bound, bound-to, Binds, StepsAt, ReferencesAt}
 use Rattle.matching_laws.proofs.Matching.{pattern-matches}
 use Rattle.matching_laws.proofs.Premises.{found-match, premises-match}

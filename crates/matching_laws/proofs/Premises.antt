@@ -23,7 +23,8 @@ use Rattle.theory_laws.proofs.Frames.{Keeps}
 use Rattle.horn.proofs.SoundnessWords.{Apart}
 use Rattle.theory_reading.proofs.Stored.{Stored}
 use Rattle.facts.proofs.Lists.{beyond}
-use Rattle.matching.specs.Matching.{Tried, orRefused, stepJudgment, premisesMatched}
+use Rattle.matching.specs.Matching.{Tried}
+use Rattle.concluding.specs.Concluding.{orRefused, stepJudgment, premisesMatched}
 use Rattle.matching_laws.proofs.Relations.{Full, Binds, StepsAt, Saturates, as-it-is, at-most, ReferencesAt, no-references, one-reference}
 use Rattle.matching_laws.proofs.Matching.{Matching, both-differ, both-match, pattern-matches}
 

@@ -10,7 +10,8 @@ use Rattle.horn.specs.StoredTerms.{Term}
 use Rattle.horn.specs.Matching.{Bind, lookup, Step, judgmentOf}
 use Rattle.theory_laws.specs.Representation.{Entries, Nth}
 use Rattle.theory_reading.proofs.Stored.{Means}
-use Rattle.matching.specs.Matching.{bindingOf, stepJudgment}
+use Rattle.matching.specs.Matching.{bindingOf}
+use Rattle.concluding.specs.Concluding.{stepJudgment}
 
 -- A pattern has, at each of its nodes, as many arguments as the symbol has inputs.
 unfoldable pub widthOf : Patterns → ℕ

@@ -17,7 +17,7 @@ use Rattle.horn.specs.Matching.{Step, judgmentOf}
 use Rattle.theory_laws.specs.Representation.{Entries}
 use Rattle.theory_reading.proofs.Stored.{Means}
 use Rattle.tables.specs.Representation.{StepAt, Steps}
-use Rattle.matching.specs.Matching.{stepJudgment}
+use Rattle.concluding.specs.Concluding.{stepJudgment}
 use Rattle.matching_laws.proofs.Relations.{StepsAt}
 use Rattle.matching_laws.proofs.Formed.{RuleReady, rule-ready}
 

@@ -19,7 +19,8 @@ use Rattle.theory_laws.proofs.Frames.{Keeps}
 use Rattle.theory_reading.proofs.Stored.{Stored, Means}
 use Rattle.tables.specs.declared.Tally.{Tally}
 use Rattle.tables.specs.Representation.{Tables}
-use Rattle.matching.specs.Matching.{stepConcluded}
+use Rattle.nodes.specs.Limits.{nodeLimit, wordLimit, indexPlaces, defBuckets}
+use Rattle.concluding.specs.Concluding.{stepConcluded}
 use Rattle.matching_laws.proofs.Relations.{Bound, Binds, ReferencesAt}
 use Rattle.matching_laws.proofs.Formed.{RuleReady}
 use Rattle.matching_laws.proofs.Starting.{narrow-01, steps-at}
@@ -29,14 +30,14 @@ use Rattle.matching_laws.proofs.Concluding.{ConcludedTo, step-concluded
 pub step-judged : {rules heap : List ℕ} {es : Entries} {top : ℕ} {th : Theory} → Holds rules heap es top th → top ≤ 11948
     → {goalsText certificate table : List ℕ} {Recorded : ℕ → ℕ → ℕ → Step → Type 0} {tally : Tally} {goals openGoals : List Goal} {defs : List Def}
     {steps : List Step} {ts : List Term}
-    → Tables goalsText certificate table 128 (Means es th ts) Recorded tally goals openGoals defs steps
+    → Tables goalsText certificate table defBuckets (Means es th ts) Recorded tally goals openGoals defs steps
     → ((j r p : ℕ) (s : Step) → Recorded j r p s → Means es th ts j (judgmentOf s))
     → {store stack : List ℕ} → Stored es th document01 4096 store ts → length stack ≡ 16384
     → {e : ℕ} {r : Rule} → RuleAt rules heap es top e r → RuleReady r
     → {refs : List ℕ} → ReferencesAt stack 0 refs → length refs ≡ length (premisesOf r)
     → {now : List ℕ} {binds : List Bind} → Keeps layout.bindings heap now → Binds es th ts (variablesOf r) now binds
     → {word : ℕ} {stated : Option Term} → Bound es th ts word stated
-    → Simulates (ConcludedTo es th heap document01 4096 ts) (stepConcluded 2048 8192 4096 table (tally .steps) e word stack store now)
+    → Simulates (ConcludedTo es th heap document01 4096 ts) (stepConcluded nodeLimit wordLimit indexPlaces table (tally .steps) e word stack store now)
     (conclude document01 th steps r refs (given binds stated) ts)
 unfolding document01
 step-judged h high t judged st long a ready at-refs count keep bs b =

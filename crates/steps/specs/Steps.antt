@@ -6,7 +6,7 @@ use Rattle.outcomes.specs.Outcomes.{Outcome, ok, refused}
 use Rattle.outcomes.specs.Leaving.{Did, _leaving_, _>>=_, beside}
 use Rattle.theory_reading.specs.Reading.{variableCount}
 use Rattle.theory_reading.specs.Storing.{before}
-use Rattle.matching.specs.Matching.{unbound, stepConcluded}
+use Rattle.concluding.specs.Concluding.{unbound, stepConcluded}
 use Rattle.references.specs.References.{ruleDue, countedReferences}
 use Rattle.step_items.specs.StepItems.{Worked, items}
 use Rattle.steps.specs.declared.Stepped.{Stepped}

@@ -3,8 +3,8 @@ ghost use mathlib.Core.Path.{_≡_};
 ghost use Rattle.outcomes.specs.Leaving.{_leaving_};
 ghost use Rattle.nodes.specs.Nodes.{numbered};
 ghost use Rattle.steps.specs.Steps as models;
+use concluding::Concluded;
 use lex::Reader;
-use matching::Concluded;
 use nodes::Numbered;
 use nodes::limits;
 
@@ -32,12 +32,12 @@ pub fn items_judged(
         (now (heap .entry)) ⌝ }
 {
     let variables = theory_reading::variable_count(heap, rule);
-    matching::unbind(heap, variables);
+    concluding::unbind(heap, variables);
     let i = step_items::items(text, rules, table, store, stack, heap, rule, n, reader);
     let Numbered::Got(word, q) = i else {
         return Numbered::Refused(nodes::numbered_refusal(i));
     };
-    let c = matching::conclude(
+    let c = concluding::conclude(
         store,
         table,
         stack,

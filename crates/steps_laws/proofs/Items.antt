@@ -49,6 +49,7 @@ use Rattle.asking.specs.Asking.{Ahead}
 use Rattle.asking_laws.proofs.Places.{RestComes, At, at-less, at-within}
 use Rattle.asking_laws.proofs.Asking.{WordMet, word-met, word-law, GroupMet, closing-law, Looked, look-closed, look-bad, look-ended, look-item, look-law}
 use Rattle.nodes.specs.Nodes.{sortOf}
+use Rattle.nodes.specs.Limits.{nodeLimit, wordLimit, indexPlaces, defBuckets}
 use Rattle.terms_laws.proofs.Following.{bind-before}
 use Rattle.terms_laws.proofs.Reading.{asked-yes, Ready}
 use Rattle.terms_laws.proofs.Judgments.{lifted, AskedRead, ask-term-law, headed-law}
@@ -120,7 +121,7 @@ variable-sort (variable-is e n l a) = (n, a)
 
 module _ {rules heap : List ℕ} {es : Entries} {bound : ℕ} {th : Theory} (h : Holds rules heap es bound th) (high : bound ≤ 11948)
     (text : List ℕ) (short : length text ≤ 32768) (table : List ℕ) (defs : List Def) (ts₀ : List Term) {base : ℕ}
-    (abbreviations : Defs text table 128 base (Means es th ts₀) defs)
+    (abbreviations : Defs text table defBuckets base (Means es th ts₀) defs)
     {e : ℕ} {rule : Rule} (by-rule : RuleAt rules heap es bound e rule) (distinct : Apart (variablesOf rule)) (top : ℕ) (held : List ℕ)
     (long : length held ≡ 16384) where
   abbrev So : ℕ → List ℕ → List ℕ → List ℕ → List Term → List Bind → Option Term → Type 0
@@ -168,7 +169,7 @@ module _ {rules heap : List ℕ} {es : Entries} {bound : ℕ} {th : Theory} (h :
     both-tests v k name s t after us n so st m =
         ap₂ _&&_
         (word-test (g .bindings .each v name n) ∙ ap not (sym (bound-is name binds)))
-        (number-sort (holds-now h high (g .keep)) 2048 8192 4096 (st .trees) k (m .below) so ∙ ap (hasSort s) (m .tree))
+        (number-sort (holds-now h high (g .keep)) nodeLimit wordLimit indexPlaces (st .trees) k (m .below) so ∙ ap (hasSort s) (m .tree))
 
     -- "`(?v T)`: unknown v 12, T, closing 10, bound already or wrong sort 21."
     pub binding-law : (s t spent : ℕ) {name : Name} (K : Stream Token → Type 0) (is : Items) (r : Reader) → part s t text ≡ name → 2 * top ≤ spent

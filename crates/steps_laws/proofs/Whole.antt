@@ -43,7 +43,8 @@ use Rattle.tables.proofs.Laws.{means-more}
 use Rattle.asking.specs.Asking.{inForm}
 use Rattle.asking_laws.proofs.Places.{RestComes, At}
 use Rattle.asking_laws.proofs.Asking.{WordMet, word-met, word-law, GroupMet, group-met, group-law}
-use Rattle.matching.specs.Matching.{unbound, stepConcluded}
+use Rattle.nodes.specs.Limits.{nodeLimit, wordLimit, indexPlaces, defBuckets}
+use Rattle.concluding.specs.Concluding.{unbound, stepConcluded}
 use Rattle.matching_laws.proofs.Relations.{ReferencesAt, no-references, not-bound}
 use Rattle.matching_laws.proofs.References.{references-kept}
 use Rattle.matching_laws.proofs.Bindings.{binds-none, keeps-unbound}
@@ -108,7 +109,7 @@ module _ {rules heap : List ℕ} {es : Entries} {bound : ℕ} {th : Theory} (h :
     (goalsText certificate : List ℕ) (short : length certificate ≤ 32768)
     {table : List ℕ} {tally : Tally} {goals : List Goal} {ts : List Term} (now : Progress)
     (Recorded : ℕ → ℕ → ℕ → Step → Type 0) (judged : (j r p : ℕ) (s : Step) → Recorded j r p s → Means es th ts j (judgmentOf s))
-    (t : Tables goalsText certificate table 128 (Means es th ts) Recorded tally goals (now .openGoals) (now .defs) (now .steps))
+    (t : Tables goalsText certificate table defBuckets (Means es th ts) Recorded tally goals (now .openGoals) (now .defs) (now .steps))
     (K : Stream Token → Type 0) where
   -- "List of references, each 18; their count 20".
   counted-law : {live : List ℕ} → Holds rules live es bound th → {e : ℕ} {c : Rule} → RuleAt rules live es bound e c
@@ -135,7 +136,7 @@ module _ {rules heap : List ℕ} {es : Entries} {bound : ℕ} {th : Theory} (h :
       (small : place < 4294967296) where
     concluded : (x : ℕ × Reader) (areas : Worked) (y : Given × List Term) → ItemRead es th heap (variablesOf rule) ts n held (At certificate K 0) x areas y
         → Simulates (λ (p : ℕ × Reader) after z. Read (p .0, e, place, p .1) after z)
-        (leaving._>>=_ (stepConcluded 2048 8192 4096 table (tally .steps) e (x .0) (areas .0 .1) (areas .0 .0) (areas .1))
+        (leaving._>>=_ (stepConcluded nodeLimit wordLimit indexPlaces table (tally .steps) e (x .0) (areas .0 .1) (areas .0 .0) (areas .1))
         (λ p. outcomes.ok (p .0, x .1) leaving (p .1)))
         (refusals._>>=_ {A = Term × List Term} (certificates.conclude document01 th (now .steps) rule refs (y .0) (y .1))
         (λ p. refusals.ok (record { defs = now .defs; openGoals = now .openGoals; steps = now .steps ++ (step (p .0) rule ∷ []) }, p .1)))

@@ -34,6 +34,7 @@ use Rattle.theory_reading.proofs.Stored.{Longer, longer-none, Stored, Means, me
 use Rattle.tables.specs.Representation.{Defs}
 use Rattle.tables.proofs.Defs.{meaning-agrees}
 use Rattle.nodes.specs.Nodes.{make, constructorDue, predicateDue, atomTerm}
+use Rattle.nodes.specs.Limits.{defBuckets}
 use Rattle.terms_laws.proofs.Rows.{no-words}
 use Rattle.terms_laws.proofs.Making.{TermRead, make-law}
 
@@ -42,7 +43,7 @@ pub data SymbolMet (heap : List ℕ) (es : Entries) (bound : ℕ) (P : Reader �
   symbol-met : {a : ℕ} {q : Reader} {c : Symbol} → SymbolAt heap es bound a c → P q → SymbolMet heap es bound P (a, q) c
 
 module _ (text : List ℕ) (table : List ℕ) {rules heap : List ℕ} {es : Entries} {bound : ℕ} {th : Theory} (h : Holds rules heap es bound th)
-    (defs : List Def) (ts₀ : List Term) {base : ℕ} (abbreviations : Defs text table 128 base (Means es th ts₀) defs) where
+    (defs : List Def) (ts₀ : List Term) {base : ℕ} (abbreviations : Defs text table defBuckets base (Means es th ts₀) defs) where
   module _ (P : Reader → Type 0) (s t : ℕ) (q : Reader) {name : Name} (n : part s t text ≡ name) (there : P q) where
     met : {o : Outcome ℕ} {m : Result Symbol} → Answers (SymbolAt heap es bound) o m
         → Answers (SymbolMet heap es bound P) (outcomes._>>=_ o (λ c. outcomes.ok (c, q))) m

@@ -34,6 +34,7 @@ use Rattle.terms.specs.Terms as walk
 use Rattle.theory_reading.specs.Storing.{Areas}
 use Rattle.nodes.specs.Nodes.{make}
 use Rattle.terms.specs.Terms.{termOf}
+use Rattle.nodes.specs.Limits.{defBuckets}
 use Rattle.terms_laws.proofs.Making.{TermRead}
 use Rattle.terms_laws.proofs.Atoms.{SymbolMet, symbol-met, predicate-law}
 use Rattle.terms_laws.proofs.Reading.{asked-no, asked-yes, Ready, made-of, term-law, arguments-law}
@@ -68,7 +69,7 @@ unfoldable pub AskedRead : Entries → Theory → List ℕ → (Stream Token →
 AskedRead es th text K top spent stack ts x left y = TermRead es th (At text (RestComes (y .0 .1) K) (spent + 2)) top stack ts x left (y .0 .0, y .1)
 
 module _ (text : List ℕ) (table : List ℕ) {rules heap : List ℕ} {es : Entries} {bound : ℕ} {th : Theory} (h : Holds rules heap es bound th)
-    (defs : List Def) (ts₀ : List Term) {base : ℕ} (abbreviations : Defs text table 128 base (Means es th ts₀) defs) (short : length text ≤ 32768) where
+    (defs : List Def) (ts₀ : List Term) {base : ℕ} (abbreviations : Defs text table defBuckets base (Means es th ts₀) defs) (short : length text ≤ 32768) where
   -- "Judgment: list, head a predicate (12), arguments, 15, store." Its head was asked for.
   pub headed-law : (left depth top spent s t : ℕ) {name : Name} (K : Stream Token → Type 0) (rest : Items) (ts : List Term) (r : Reader) (store stack : List ℕ)
       → depth + left ≡ 257 → part s t text ≡ name → 2 * top ≤ spent

@@ -30,6 +30,7 @@ use Rattle.theory_reading.proofs.Terms.{accepts-numbers}
 use Rattle.theory_reading.proofs.Stored.{Sized, accepted-sized, Longer, Stored, Means, Numbers, stored-law}
 use Rattle.theory_reading.specs.Storing.{Areas}
 use Rattle.nodes.specs.Nodes.{headOn, interned, make}
+use Rattle.nodes.specs.Limits.{nodeLimit, wordLimit, indexPlaces}
 use Rattle.terms_laws.proofs.Rows.{Row, row-part, row-first, row-at}
 
 -- A term was read on top of the stack: its number stands for the definition's tree in the store afterwards, and what the stack held below
@@ -60,7 +61,7 @@ module _ {rules heap : List ℕ} {es : Entries} {bound : ℕ} {th : Theory} (h :
         → accepted (headOn store stack from) heap c n ≡ definition.accepts (inputs d) (lookups (symbolAt es th) ts ms)
     unfolding document01
     accepted-law {from} n x row b e =
-        rw e (accepts-numbers h 2048 8192 4096 (kept .trees) (λ (i : ℕ). getD stack (from + i) 0) x (λ j l. row-at j row l) b)
+        rw e (accepts-numbers h nodeLimit wordLimit indexPlaces (kept .trees) (λ (i : ℕ). getD stack (from + i) 0) x (λ j l. row-at j row l) b)
 
     pub make-law : {c : ℕ} {d : Symbol} (n : ℕ) {ms : List ℕ} → SymbolAt heap es bound c d → Row stack (top + 1) ms → Below (length ts) ms → n ≡ length ms
         → top + 1 + n ≤ length stack → length stack < 4294967296

@@ -42,6 +42,7 @@ use Rattle.terms.specs.Terms as walk
 use Rattle.theory_reading.specs.Storing.{Areas}
 use Rattle.nodes.specs.Nodes.{make, constructorDue, headDue}
 use Rattle.terms.specs.Terms.{argumentsFrom, termOf}
+use Rattle.nodes.specs.Limits.{defBuckets}
 pub use Rattle.terms_laws.proofs.Asked.{asked-then, asked-no, asked-yes}
 use Rattle.terms_laws.proofs.Rows.{Row, no-words, one-word}
 use Rattle.terms_laws.proofs.Making.{TermRead, make-law}
@@ -70,7 +71,7 @@ pub record ArgumentsRead (es : Entries) (th : Theory) (text : List ℕ) (K : Str
   pub keeps : Keeps place stack (left .1)
 
 module _ (text : List ℕ) (table : List ℕ) {rules heap : List ℕ} {es : Entries} {bound : ℕ} {th : Theory} (h : Holds rules heap es bound th)
-    (defs : List Def) (ts₀ : List Term) {base : ℕ} (abbreviations : Defs text table 128 base (Means es th ts₀) defs) (short : length text ≤ 32768) where
+    (defs : List Def) (ts₀ : List Term) {base : ℕ} (abbreviations : Defs text table defBuckets base (Means es th ts₀) defs) (short : length text ≤ 32768) where
   abbrev pub TermLaw : Item → Type 1
   TermLaw item = (left depth top spent : ℕ) (K : Stream Token → Type 0) (rest : Items) (ts : List Term) (r : Reader) (store stack : List ℕ) → depth + left ≡ 257
       → Ready es th text ts₀ (RestComes (item then rest) K) top spent ts r store stack

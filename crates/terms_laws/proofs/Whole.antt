@@ -20,6 +20,7 @@ use Rattle.tables.specs.Representation.{Tables}
 use Rattle.tables.proofs.Defs.{defs-elsewhere}
 use Rattle.asking_laws.proofs.Places.{RestComes, At}
 use Rattle.terms.specs.Terms as walk
+use Rattle.nodes.specs.Limits.{defBuckets}
 use Rattle.terms_laws.proofs.Reading.{Ready}
 use Rattle.terms_laws.proofs.Judgments.{AskedRead, ask-term-law, judgment-law}
 
@@ -30,7 +31,7 @@ module _ {rules heap : List ℕ} {es : Entries} {bound : ℕ} {th : Theory} (h :
   ready text at-items = record { reader = at-items; room = room; stored = stored; grown = longer-none; long = long }
 
   module _ {goalsText certificate table : List ℕ} {Recorded : ℕ → ℕ → ℕ → Step → Type 0} {tally : Tally} {goals openGoals : List Goal} {steps : List Step} where
-    module _ {defs : List Def} (t : Tables goalsText certificate table 128 (Means es th ts) Recorded tally goals openGoals defs steps)
+    module _ {defs : List Def} (t : Tables goalsText certificate table defBuckets (Means es th ts) Recorded tally goals openGoals defs steps)
         (short : length certificate ≤ 32768) (at-items : At certificate (RestComes is K) spent r) where
       -- A term of the certificate.
       pub certificate-term : Simulates (AskedRead es th certificate K top spent stack ts) (walk.term left certificate rules heap table top r store stack)
@@ -39,7 +40,7 @@ module _ {rules heap : List ℕ} {es : Entries} {bound : ℕ} {th : Theory} (h :
           ask-term-law certificate table h defs ts (t .def-part) short is left depth top spent K ts r store stack deep (ready certificate at-items)
 
     -- A judgment of the goals, where there is no abbreviation.
-    pub goal-judgment : Tables goalsText certificate table 128 (Means es th ts) Recorded tally goals openGoals [] steps → length goalsText ≤ 32768
+    pub goal-judgment : Tables goalsText certificate table defBuckets (Means es th ts) Recorded tally goals openGoals [] steps → length goalsText ≤ 32768
         → At goalsText (RestComes is K) spent r
         → Simulates (AskedRead es th goalsText K top spent stack ts) (walk.judgment left goalsText rules heap table top r store stack)
         (definition.askJudgment document01 th [] depth is ts)

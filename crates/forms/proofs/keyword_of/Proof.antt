@@ -1,9 +1,9 @@
--- `certificates::keyword_of` meets its contract. Assumes nothing.
+-- `forms::keyword_of` meets its contract. Assumes nothing.
 use Rattle.words.specs.Parts.{part}
-use Rattle.certificates.specs.Certificates.{keywordOf}
+use Rattle.forms.specs.Forms.{keywordOf}
 use borrow.Author.Needs.{needs}
-use Rattle.certificates.proofs.keyword_of.Statement.{statement}
-use Rattle.certificates.proofs.keyword_of.Tie as tie
+use Rattle.forms.proofs.keyword_of.Statement.{statement}
+use Rattle.forms.proofs.keyword_of.Tie as tie
 
 returns : tie.Need-returns
 unfolding keywordOf part

@@ -1,8 +1,8 @@
--- `certificates::def_form` meets its contract. Assumes nothing.
+-- `forms::def_form` meets its contract. Assumes nothing.
 use mathlib.Core.Path.{refl}
-use Rattle.certificates.specs.Certificates.{defForm}
-use Rattle.certificates.proofs.def_form.Statement.{statement}
-use Rattle.certificates.proofs.def_form.Tie as tie
+use Rattle.forms.specs.Forms.{defForm}
+use Rattle.forms.proofs.def_form.Statement.{statement}
+use Rattle.forms.proofs.def_form.Tie as tie
 
 returns : tie.Need-returns
 unfolding defForm

@@ -1,10 +1,10 @@
--- `matching::conclude` meets its contract. Assumes nothing.
+-- `concluding::conclude` meets its contract. Assumes nothing.
 use mathlib.Core.Path.{refl}
 use borrow.Author.Tests.{eq-eqb, ne-eqb}
-use Rattle.matching.specs.Matching.{stepConcluded}
+use Rattle.concluding.specs.Concluding.{stepConcluded}
 use borrow.Author.Needs.{needs}
-use Rattle.matching.proofs.conclude.Statement.{statement}
-use Rattle.matching.proofs.conclude.Tie as tie
+use Rattle.concluding.proofs.conclude.Statement.{statement}
+use Rattle.concluding.proofs.conclude.Tie as tie
 
 same-length : tie.Need-same-length
 same-length c = c .before .before .before .before .before .store .given

@@ -1,8 +1,8 @@
--- `matching::conclude_stated` meets its contract. Assumes nothing.
+-- `concluding::conclude_stated` meets its contract. Assumes nothing.
 use mathlib.Core.Path.{_∙_}
-use Rattle.matching.specs.Matching.{statedConcluded}
-use Rattle.matching.proofs.conclude_stated.Statement.{statement}
-use Rattle.matching.proofs.conclude_stated.Tie as tie
+use Rattle.concluding.specs.Concluding.{statedConcluded}
+use Rattle.concluding.proofs.conclude_stated.Statement.{statement}
+use Rattle.concluding.proofs.conclude_stated.Tie as tie
 
 same-length : tie.Need-same-length
 same-length c = c .before .before .before .heap .given

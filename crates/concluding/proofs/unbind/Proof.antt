@@ -1,11 +1,11 @@
--- `matching::unbind` meets its contract. Assumes nothing.
+-- `concluding::unbind` meets its contract. Assumes nothing.
 use mathlib.Core.Path.{_≡_, refl, sym, _∙_}
 use lib.ListN.{length}
-use Rattle.matching.specs.Matching.{unbound}
-use Rattle.matching.proofs.Turns.{unbound-on, unbound-end}
+use Rattle.concluding.specs.Concluding.{unbound}
+use Rattle.concluding.proofs.Turns.{unbound-on, unbound-end}
 use borrow.Author.Needs.{needs}
-use Rattle.matching.proofs.unbind.Statement.{statement}
-use Rattle.matching.proofs.unbind.Tie as tie
+use Rattle.concluding.proofs.unbind.Statement.{statement}
+use Rattle.concluding.proofs.unbind.Tie as tie
 
 abbrev Inv-loop : tie.InvT-loop
 Inv-loop heap₀ n v₀ heap v = (unbound n heap₀ ≡ unbound v heap) × (length heap ≡ length heap₀)

@@ -1,10 +1,20 @@
--- `certificates::result_form` meets its contract. Assumes nothing.
-use mathlib.Core.Path.{refl}
+-- `forms::result_form` meets its contract. Assumes nothing.
+use mathlib.Core.Path.{_≡_, refl}
+use mathlib.Core.List.{List}
+use Prim.Native.Nat.{ℕ}
 use borrow.Author.Tests.{eq-eqb, ne-eqb}
-use Rattle.certificates.specs.Certificates.{resultForm}
-use Rattle.certificates.proofs.Turns.{next-is}
-use Rattle.certificates.proofs.result_form.Statement.{statement}
-use Rattle.certificates.proofs.result_form.Tie as tie
+use Rattle.lex.specs.declared.Reader.{Reader}
+use Rattle.outcomes.specs.Outcomes.{ok}
+use Rattle.outcomes.specs.Leaving.{Did, _leaving_}
+use Rattle.tables.specs.declared.Tally.{Tally}
+use Rattle.forms.specs.Forms.{resultForm}
+use Rattle.forms.proofs.result_form.Statement.{statement}
+use Rattle.forms.proofs.result_form.Tie as tie
+
+-- The form as its two parts: what is counted, and what the table becomes.
+next-is : {tally next : Tally} {r : Reader} {table after : List ℕ} → tally ≡ next → table ≡ after
+    → _≡_ {A = Did (List ℕ) (Tally × Reader)} (ok (tally, r) leaving table) (ok (next, r) leaving after)
+next-is e h = rw (e, h)
 
 returns : tie.Need-returns
 unfolding resultForm

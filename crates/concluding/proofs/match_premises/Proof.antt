@@ -1,12 +1,12 @@
--- `matching::match_premises` meets its contract. Assumes nothing.
+-- `concluding::match_premises` meets its contract. Assumes nothing.
 use Prim.Native.Nat.{_≤_, _-_}
 use mathlib.Core.Path.{_≡_, sym, _∙_, refl}
 use lib.ListN.{length}
-use Rattle.matching.specs.Matching.{premisesMatched}
-use Rattle.matching.proofs.Turns.{premises-first, premises-on, premise-differs, no-step, premises-end}
+use Rattle.concluding.specs.Concluding.{premisesMatched}
+use Rattle.concluding.proofs.Turns.{premises-first, premises-on, premise-differs, no-step, premises-end}
 use borrow.Author.Needs.{needs}
-use Rattle.matching.proofs.match_premises.Statement.{statement}
-use Rattle.matching.proofs.match_premises.Tie as tie
+use Rattle.concluding.proofs.match_premises.Statement.{statement}
+use Rattle.concluding.proofs.match_premises.Tie as tie
 
 abbrev Inv-loop : tie.InvT-loop
 Inv-loop store table stack heap₀ nodes places steps premises o place₀ k₀ heap place k = (k ≤ premises) × (premisesMatched nodes places store table stack steps premises 0 o heap₀ ≡ premisesMatched nodes places store table stack steps (premises - k) k place heap) × (length heap ≡ length heap₀)

@@ -1,8 +1,8 @@
--- `matching::conclude_built` meets its contract. Assumes nothing.
+-- `concluding::conclude_built` meets its contract. Assumes nothing.
 use mathlib.Core.Path.{refl}
-use Rattle.matching.specs.Matching.{builtConcluded}
-use Rattle.matching.proofs.conclude_built.Statement.{statement}
-use Rattle.matching.proofs.conclude_built.Tie as tie
+use Rattle.concluding.specs.Concluding.{builtConcluded}
+use Rattle.concluding.proofs.conclude_built.Statement.{statement}
+use Rattle.concluding.proofs.conclude_built.Tie as tie
 
 same-length-3 : tie.Need-same-length-3
 same-length-3 c = c .before .before .before .before .heap .given

@@ -1,9 +1,9 @@
--- `certificates::def_name` meets its contract. Assumes nothing.
+-- `forms::def_name` meets its contract. Assumes nothing.
 use mathlib.Core.Path.{sym, _∙_}
-use Rattle.certificates.specs.Certificates.{defNamed}
+use Rattle.forms.specs.Forms.{defNamed}
 use borrow.Author.Tests.{not-true, not-false}
-use Rattle.certificates.proofs.def_name.Statement.{statement}
-use Rattle.certificates.proofs.def_name.Tie as tie
+use Rattle.forms.proofs.def_name.Statement.{statement}
+use Rattle.forms.proofs.def_name.Tie as tie
 
 returns : tie.Need-returns
 unfolding defNamed
