@@ -47,7 +47,10 @@ module _ (c : ℕ) (bs : List ℕ) (e : c ≡ 8) where
   no-second d = by-bytes ∙ no-later _ _ d
 
   no-third : (getD bs 2 0 / 64 ≡ 2 → ⊥) → byClass c bs ≡ broken
-  no-third d = by-bytes ∙ rw (no-later (getD bs 2 0) (found 3 ((getD bs 0 0 % 16 * 64 + getD bs 1 0 % 64) * 64 + getD bs 2 0 % 64)) d) (still-broken (getD bs 1 0))
+  no-third d =
+      by-bytes
+      ∙ rw (no-later (getD bs 2 0) (found 3 ((getD bs 0 0 % 16 * 64 + getD bs 1 0 % 64) * 64 + getD bs 2 0 % 64)) d)
+      (still-broken (getD bs 1 0))
 
   all-three : getD bs 1 0 / 64 ≡ 2 → getD bs 2 0 / 64 ≡ 2
       → byClass c bs ≡ found 3 ((getD bs 0 0 % 16 * 64 + getD bs 1 0 % 64) * 64 + getD bs 2 0 % 64)
