@@ -98,6 +98,11 @@ fn atom_end(text: &[u8], end: usize, p: usize) -> usize
         if c < classes::NEVER {
             return q;
         }
+        let plain = utf8::plain_three(&text[q..], c);
+        if utf8::LAST_WHITE < plain {
+            q += 3;
+            continue;
+        }
         let seen = utf8::look_longer(text, q, c);
         let kind = seen.kind;
         if kind != classes::ORDINARY {
@@ -120,6 +125,11 @@ fn line_end(text: &[u8], p: usize) -> Line
         }
         if b < 0x80 {
             q += 1;
+            continue;
+        }
+        let plain = utf8::plain_three(&text[q..], classes::class(b));
+        if 0 < plain {
+            q += 3;
             continue;
         }
         let found = utf8::first_of(&text[q..]);

@@ -2,3 +2,4 @@ pub mod Table
 pub mod Grammar
 pub mod Whiteness
 pub mod Looks
+pub mod Plain

@@ -63,3 +63,8 @@ longerBy c b bs =
 -- The same for the classes from 5 on: a byte of class 5 begins no character.
 unfoldable pub byClass : ℕ → List ℕ → First
 byClass c bs = elim (eqb c never) [ true ↦ broken | false ↦ longerBy c (getD bs 0 0) bs ]
+
+-- The value of the first character where its first byte is of class 8, whose later bytes have no range of their own; 0
+-- for any other class.
+unfoldable pub plainValue : ℕ → List ℕ → ℕ
+plainValue c bs = elim (eqb c 8) [ true ↦ value (byClass c bs) | false ↦ 0 ]

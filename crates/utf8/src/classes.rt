@@ -22,6 +22,8 @@ pub const LEADS_TWO: u8 = 6;
 
 pub const LEADS_E0: u8 = 7;
 
+pub const LEADS_PLAIN: u8 = 8;
+
 pub const LEADS_ED: u8 = 9;
 
 pub const LEADS_F0: u8 = 10;
@@ -29,7 +31,7 @@ pub const LEADS_F0: u8 = 10;
 pub const LEADS_F4: u8 = 12;
 
 // The table of 256 classes: a row for each high half of a byte, in it a digit for each low half, that of 0 last.
-// The digits are those above, 8 for E1 to EC, EE and EF, and B for F1 to F3.
+// The digits are those above, and B for F1 to F3.
 // It is a match because the compiler keeps that as a table of constants; an array of constants it builds anew at each read.
 fn row(high: u8) -> u64
     ensures { λ r. ⌜ r ≡ getD rows high 0 ⌝ }

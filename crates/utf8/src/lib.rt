@@ -5,7 +5,7 @@ ghost use lib.ListN.{drop};
 ghost use Rattle.horn.specs.Tokens.{white, kind};
 ghost use Rattle.horn.specs.Utf8.{within, range};
 ghost use Rattle.utf8.specs.Classes.{kindNumber};
-ghost use Rattle.utf8.specs.Characters.{first, longerBy, byClass, width, value, kindAt};
+ghost use Rattle.utf8.specs.Characters.{first, longerBy, byClass, plainValue, width, value, kindAt};
 
 pub mod classes;
 
@@ -31,11 +31,14 @@ pub fn between(low: u32, v: u32, high: u32) -> bool
     v <= high
 }
 
+// The last character that is white space.
+pub const LAST_WHITE: u32 = 0x3000;
+
 // Whether a character is white space, by its value.
 pub fn is_white(v: u32) -> bool
     ensures { λ r. ⌜ r ≡ white v ⌝ }
 {
-    if 0x3000 < v {
+    if LAST_WHITE < v {
         return false;
     }
     if between(0x9, v, 0xD) {
@@ -221,4 +224,24 @@ pub fn look_longer(text: &[u8], p: usize, c: u8) -> Seen
         kind,
         width: found.width,
     }
+}
+
+// The value of the first character where its first byte, of class c, is one of E1 to EC, EE and EF; 0 for any other, and where there is none.
+// Their second and third bytes are of one range, so that these few tests pass over most characters of three bytes.
+pub fn plain_three(s: &[u8], c: u8) -> u32
+    ensures { λ r. ⌜ r ≡ plainValue c (now (s .entry)) ⌝ }
+{
+    if c != classes::LEADS_PLAIN {
+        return 0;
+    }
+    if s.len() < 3 {
+        return 0;
+    }
+    if s[1] / 64 != 2 {
+        return 0;
+    }
+    if s[2] / 64 != 2 {
+        return 0;
+    }
+    three(s[0], s[1], s[2])
 }

@@ -1,0 +1,115 @@
+-- What `plain_three` answers: above 0 it is the value of the character there, which has three bytes. Assumes nothing.
+use mathlib.Core.Path.{_≡_, _∙_, ap, sym}
+use mathlib.Core.List.{List}
+use Prim.Native.Nat.{ℕ, _+_, _*_, _-_, _/_, _%_, _<_}
+use native.Mathlib.Omega.{arith}
+use borrow.Author.Tests.{eq-eqb, ne-eqb, eqb-true, eqb-false, ltb-true, ltb-false}
+use lib.Dec.{eqb, ltb}
+use lib.ListN.{length, getD, take, drop, List·getD-eq-default}
+use Rattle.horn.specs.Tokens.{kind, ordinary}
+use Rattle.horn.proofs.Equality.{case}
+use Rattle.utf8.specs.Classes.{kindNumber, classOf, lowOf, highOf}
+use Rattle.utf8.specs.Characters.{First, broken, found, first, width, value, kindAt, inRange, longerBy, byClass, plainValue}
+use Rattle.utf8.proofs.Grammar.{below-range, above-range, in-range}
+use Rattle.utf8.proofs.Whiteness.{white-above}
+use Rattle.utf8.proofs.Looks.{rest-of, longer-is}
+
+-- A later byte is one of 80 to BF.
+later : (b : ℕ) (f : First) → b / 64 ≡ 2 → inRange 0x80 0xBF b f ≡ f
+later b f e = in-range {lo = 0x80} {hi = 0xBF} {b = b} (omega arith) (omega arith) f
+
+no-later : (b : ℕ) (f : First) → (b / 64 ≡ 2 → ⊥) → inRange 0x80 0xBF b f ≡ broken
+no-later b f d =
+    case (ltb b 0x80)
+    (λ t. below-range (ltb-true b 0x80 t) 0xBF f)
+    (λ n. case (ltb 0xBF b)
+    (λ t. above-range (ltb-false b 0x80 n) (ltb-true 0xBF b t) f)
+    (λ m.
+    let p = ltb-false b 0x80 n in
+    let q = ltb-false 0xBF b m in
+    absurd (d (omega arith))))
+
+still-broken : (b : ℕ) → inRange 0x80 0xBF b broken ≡ broken
+still-broken b = case (eqb (b / 64) 2) (λ t. later b broken (eqb-true _ _ t)) (λ n. no-later b broken (eqb-false _ _ n))
+
+module _ (c : ℕ) (bs : List ℕ) (e : c ≡ 8) where
+  by-bytes : byClass c bs
+      ≡ inRange 0x80 0xBF (getD bs 1 0)
+      (inRange 0x80 0xBF (getD bs 2 0) (found 3 ((getD bs 0 0 % 16 * 64 + getD bs 1 0 % 64) * 64 + getD bs 2 0 % 64)))
+  unfolding byClass longerBy lowOf highOf
+  by-bytes = rw e
+
+  valued : plainValue c bs ≡ value (byClass c bs)
+  unfolding plainValue
+  valued = rw (eq-eqb c 8 e, plainValue)
+
+  no-second : (getD bs 1 0 / 64 ≡ 2 → ⊥) → byClass c bs ≡ broken
+  no-second d = by-bytes ∙ no-later _ _ d
+
+  no-third : (getD bs 2 0 / 64 ≡ 2 → ⊥) → byClass c bs ≡ broken
+  no-third d =
+      by-bytes
+      ∙ rw (no-later (getD bs 2 0) (found 3 ((getD bs 0 0 % 16 * 64 + getD bs 1 0 % 64) * 64 + getD bs 2 0 % 64)) d)
+      (still-broken (getD bs 1 0))
+
+  all-three : getD bs 1 0 / 64 ≡ 2 → getD bs 2 0 / 64 ≡ 2
+      → byClass c bs ≡ found 3 ((getD bs 0 0 % 16 * 64 + getD bs 1 0 % 64) * 64 + getD bs 2 0 % 64)
+  all-three h k = by-bytes ∙ later _ _ h ∙ later _ _ k
+
+  nothing : byClass c bs ≡ broken → 0 ≡ plainValue c bs
+  unfolding value
+  nothing b = sym (valued ∙ rw b)
+
+  pub plain-second : (getD bs 1 0 / 64 ≡ 2 → ⊥) → 0 ≡ plainValue c bs
+  plain-second d = nothing (no-second d)
+
+  pub plain-third : (getD bs 2 0 / 64 ≡ 2 → ⊥) → 0 ≡ plainValue c bs
+  plain-third d = nothing (no-third d)
+
+  pub plain-short : length bs < 3 → 0 ≡ plainValue c bs
+  plain-short l =
+      let z : getD bs 2 0 ≡ 0 = List·getD-eq-default bs 0 {n = 2} (omega arith) in
+      plain-third (λ k. omega (arith, z, k))
+
+  pub plain-here : getD bs 1 0 / 64 ≡ 2 → getD bs 2 0 / 64 ≡ 2
+      → (getD bs 0 0 % 16 * 64 + getD bs 1 0 % 64) * 64 + getD bs 2 0 % 64 ≡ plainValue c bs
+  unfolding value
+  plain-here h k = sym (valued ∙ ap value (all-three h k))
+
+  found-by : (v : ℕ) → v ≡ plainValue c bs → 0 < v → byClass c bs ≡ found 3 v
+  found-by v ev pos =
+      case (eqb (getD bs 1 0 / 64) 2)
+      (λ t. case (eqb (getD bs 2 0 / 64) 2)
+      (λ u.
+      let w = plain-here (eqb-true _ _ t) (eqb-true _ _ u) in
+      all-three (eqb-true _ _ t) (eqb-true _ _ u) ∙ ap (λ (x : ℕ). found 3 x) (w ∙ sym ev))
+      (λ n. let z = plain-third (eqb-false _ _ n) in absurd (omega arith)))
+      (λ n. let z = plain-second (eqb-false _ _ n) in absurd (omega arith))
+
+pub plain-other : (c : ℕ) (bs : List ℕ) → (c ≡ 8 → ⊥) → 0 ≡ plainValue c bs
+unfolding plainValue
+plain-other c bs d = rw (ne-eqb c 8 d, plainValue)
+
+kind-above : (v : ℕ) → 0x3000 < v → kind v ≡ ordinary
+unfolding kind
+kind-above v h =
+    rw (white-above v h, ne-eqb v 0x28 (λ z. omega arith), ne-eqb v 0x29 (λ z. omega arith), ne-eqb v 0x3B (λ z. omega arith), kind)
+
+-- At a place of a text, by the class of the byte there.
+module _ (text : List ℕ) (q c : ℕ) (h : q < length text) (u : getD text q 0 < 256) (e : c ≡ classOf (getD text q 0)) (v : ℕ)
+    (ev : v ≡ plainValue c (take (length text - q) (drop q text))) where
+  plain-first : 0 < v → first (drop q text) ≡ found 3 v
+  plain-first pos =
+      case (eqb c 8)
+      (λ t.
+      let k : c ≡ 8 = eqb-true _ _ t in
+      sym (longer-is text q c h u e (omega arith)) ∙ found-by c (drop q text) k v (rw (rest-of text q) at ev) pos)
+      (λ n. let z = plain-other c (take (length text - q) (drop q text)) (eqb-false _ _ n) in absurd (omega arith))
+
+  pub plain-wide : 0 < v → 3 ≡ width (first (drop q text))
+  unfolding width
+  plain-wide pos = rw (plain-first pos)
+
+  pub plain-ordinary : 0x3000 < v → 0 ≡ kindAt (first (drop q text))
+  unfolding kindAt kindNumber
+  plain-ordinary l = rw (plain-first (omega arith), kind-above v l)
