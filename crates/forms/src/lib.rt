@@ -1,5 +1,5 @@
-// Two forms of the certificate, `def` and `result`, and which form a head names. Names of goals stand in the goals text, those of rules and
-// symbols in the rulebook, those of abbreviations in the certificate itself. A form reads whole before it writes to the table (crate tables).
+// Two forms of the certificate, `def` and `result`, and which form a head names. Names of goals stand in the goals text, those of symbols in
+// the rulebook, those of abbreviations in the certificate itself. A form reads whole before it writes to the table (crate tables).
 ghost use mathlib.Core.Path.{_≡_};
 ghost use Rattle.words.specs.Parts.{part};
 ghost use Rattle.outcomes.specs.Leaving.{_leaving_};
