@@ -37,7 +37,7 @@ use Rattle.tables.proofs.Phases.{next-def}
 use Rattle.asking.specs.Asking.{inForm}
 use Rattle.asking_laws.proofs.Places.{RestComes, Any, At, at-less}
 use Rattle.asking_laws.proofs.Asking.{closing-law}
-use Rattle.nodes.specs.Limits.{defBuckets}
+use Rattle.nodes.specs.Limits.{indexPlaces, defBuckets}
 use Rattle.terms_laws.proofs.Judgments.{lifted, AskedRead}
 use Rattle.terms_laws.proofs.Whole.{certificate-term}
 use Rattle.forms.specs.Forms as walk
@@ -59,7 +59,7 @@ data DefRead (es : Entries) (th : Theory) (certificate table : List ℕ) (tally 
       → Means es th us k u
       → someOf (isDef (part s t certificate)) (now .defs) ≡ false
       → At certificate K 0 r
-      → Stored es th document01 4096 store us
+      → Stored es th document01 indexPlaces store us
       → Longer ts us
       → length stack ≡ 16384
       → DefRead es th certificate table tally now K ts (defCounted tally, r) ((store, stack), defAdded defBuckets certificate s t k tally table)
@@ -83,7 +83,7 @@ beside-live live (leave q) k = leave (k _ _ _ q)
 
 module _ {rules heap : List ℕ} {es : Entries} {bound : ℕ} {th : Theory} (h : Holds rules heap es bound th) (high : bound ≤ 11948)
     (goalsText certificate : List ℕ) (short : length certificate ≤ 32768) {goals : List Goal} {tally : Tally} (now : Progress)
-    {ts : List Term} {store live table : List ℕ} (stack : List ℕ) (stored : Stored es th document01 4096 store ts) (long : length stack ≡ 16384)
+    {ts : List Term} {store live table : List ℕ} (stack : List ℕ) (stored : Stored es th document01 indexPlaces store ts) (long : length stack ≡ 16384)
     (keep : Keeps places.bindings heap live) where
   -- The form is read whole before the table is written.
   reads : {Recorded : ℕ → ℕ → ℕ → Step → Type 0} (K : Stream Token → Type 0) (is : Items) (r : Reader)
@@ -98,7 +98,8 @@ module _ {rules heap : List ℕ} {es : Entries} {bound : ℕ} {th : Theory} (h :
       (m .reader))
       (λ z areas v k.
       lifted (v .1) _ _
-      (tested (not (present (defFound defBuckets certificate (part (x .0) (x .1) certificate) table))) 13 duplicate (ap not (known t (m .name))) refl) (λ a b fresh.
+      (tested (not (present (defFound defBuckets certificate (part (x .0) (x .1) certificate) table))) 13 duplicate (ap not (known t (m .name))) refl)
+      (λ a b fresh.
       lifted (v .1) _ _ (closing-law certificate K 4 (v .0 .1) (k .reader)) (λ q c there.
       rw (← m .name)
       (leave (def-read {s = x .0} {t = x .1} {k = z .0} {u = v .0 .0} (let i = m .some in let j = m .inside in omega arith) (let j = m .inside in omega arith)

@@ -35,7 +35,7 @@ use Rattle.tables.proofs.Phases.{next-result}
 use Rattle.asking.specs.Asking.{inForm}
 use Rattle.asking_laws.proofs.Places.{RestComes, Any, At, at-less}
 use Rattle.asking_laws.proofs.Asking.{closing-law}
-use Rattle.nodes.specs.Limits.{defBuckets}
+use Rattle.nodes.specs.Limits.{indexPlaces, defBuckets}
 use Rattle.terms_laws.proofs.Judgments.{lifted}
 use Rattle.steps_laws.proofs.Numbers.{number-law}
 use Rattle.forms.specs.Forms as walk
@@ -86,10 +86,11 @@ module _ {goalsText certificate table : List ℕ} {Means : ℕ → Term → Type
 
 module _ {rules heap : List ℕ} {es : Entries} {bound : ℕ} {th : Theory} (h : Holds rules heap es bound th)
     (goalsText certificate : List ℕ) {goals : List Goal} {tally : Tally} (now : Progress)
-    {ts : List Term} {store live table : List ℕ} (stack : List ℕ) (stored : Stored es th document01 4096 store ts) (long : length stack ≡ 16384)
+    {ts : List Term} {store live table : List ℕ} (stack : List ℕ) (stored : Stored es th document01 indexPlaces store ts) (long : length stack ≡ 16384)
     (keep : Keeps places.bindings heap live) where
   reads : (K : Stream Token → Type 0) (is : Items) (r : Reader)
-      → Tables goalsText certificate table defBuckets (Means es th ts) (StepRecorded rules heap es bound th ts) tally goals (now .openGoals) (now .defs) (now .steps)
+      → Tables goalsText certificate table defBuckets (Means es th ts) (StepRecorded rules heap es bound th ts) tally goals (now .openGoals)
+      (now .defs) (now .steps)
       → At certificate (RestComes is K) 0 r
       → Simulates (ResultRead certificate table (Means es th ts) tally goals now K ts) (walk.resultForm certificate goalsText tally r table)
       (definition.resultForm document01 th now is ts)
@@ -119,7 +120,8 @@ module _ {rules heap : List ℕ} {es : Entries} {bound : ℕ} {th : Theory} (h :
             record {
               reader = there;
               between =
-                  next-result goalsText certificate 8192 32768 defBuckets (Means es th ts) (StepRecorded rules heap es bound th ts) document01 th ts so-far key e w g
+                  next-result goalsText certificate 8192 32768 defBuckets (Means es th ts) (StepRecorded rules heap es bound th ts) document01 th ts so-far
+                  key e w g
                   (same ∙ f) a;
               stored = stored;
               long = long;

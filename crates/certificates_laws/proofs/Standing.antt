@@ -24,12 +24,12 @@ use Rattle.tables.specs.Representation.{Tables}
 use Rattle.tables.specs.Phases.{Between}
 use Rattle.tables.proofs.Phases.{between-more}
 use Rattle.asking_laws.proofs.Places.{RestComes, Any, At}
-use Rattle.nodes.specs.Limits.{defBuckets}
+use Rattle.nodes.specs.Limits.{indexPlaces, defBuckets}
 use Rattle.certificates.specs.Certificates.{AllAreas}
 
 -- The store's count is the number of its trees.
-pub terms-counted : {es : Entries} {th : Theory} {store : List ℕ} {ts : List Term} → Stored es th document01 4096 store ts → count store ≡ length ts
-terms-counted {es} {th} {store} {ts} st = trees-counted (symbolAt es th) (Used es) (document01 .nodes) (document01 .nodeWords) 4096 store ts (st .trees)
+pub terms-counted : {es : Entries} {th : Theory} {store : List ℕ} {ts : List Term} → Stored es th document01 indexPlaces store ts → count store ≡ length ts
+terms-counted {es} {th} {store} {ts} st = trees-counted (symbolAt es th) (Used es) (document01 .nodes) (document01 .nodeWords) indexPlaces store ts (st .trees)
 
 module _ (rules heap : List ℕ) (es : Entries) (bound : ℕ) (th : Theory) where
   -- What the three words of a step say of it.
@@ -45,7 +45,7 @@ module _ (rules heap : List ℕ) (es : Entries) (bound : ℕ) (th : Theory) wher
     pub record Standing (left : Items) (x : Tally × Reader) (areas : AllAreas) (y : Progress × List Term) : Type 0 where
       pub reader : At certificate (RestComes left Any) 0 (x .1)
       pub between : SoFar (y .1) (areas .1) (x .0) (y .0) left
-      pub stored : Stored es th document01 4096 (areas .0 .0 .0) (y .1)
+      pub stored : Stored es th document01 indexPlaces (areas .0 .0 .0) (y .1)
       pub long : length (areas .0 .0 .1) ≡ 16384
       pub keeps : Keeps places.bindings heap (areas .0 .1)
 
@@ -53,7 +53,7 @@ module _ (rules heap : List ℕ) (es : Entries) (bound : ℕ) (th : Theory) wher
     pub record Finished (tally : Tally) (areas : AllAreas) (y : Progress × List Term) : Type 0 where
       pub tables : Tables goalsText certificate (areas .1) defBuckets (Means es th (y .1)) (StepRecorded (y .1)) tally goals (y .0 .openGoals) (y .0 .defs)
           (y .0 .steps)
-      pub stored : Stored es th document01 4096 (areas .0 .0 .0) (y .1)
+      pub stored : Stored es th document01 indexPlaces (areas .0 .0 .0) (y .1)
 
 -- The store grew.
 pub between-longer : {rules heap : List ℕ} {es : Entries} {bound : ℕ} {th : Theory} {goalsText certificate : List ℕ} {goals : List Goal} {ts us : List Term}

@@ -28,7 +28,7 @@ use Rattle.tables.specs.Phases.{Gathering}
 use Rattle.tables.proofs.Laws.{none-left}
 use Rattle.tables.proofs.Phases.{first-form}
 use Rattle.asking_laws.proofs.Places.{at-start}
-use Rattle.nodes.specs.Limits.{defBuckets}
+use Rattle.nodes.specs.Limits.{indexPlaces, defBuckets}
 use Rattle.terms_laws.proofs.Judgments.{lifted}
 use Rattle.certificates.specs.Certificates as walk
 use Rattle.certificates.specs.Certificates.{AllAreas}
@@ -40,14 +40,14 @@ use Rattle.certificates_laws.proofs.Forms.{forms-law}
 pub record CertificateRead (es : Entries) (th : Theory) (goals : List Goal) (tally : Tally) (areas : AllAreas) (y : List Step × List Term) : Type 0 where
   pub steps-are : tally .steps ≡ length (y .0)
   pub goals-are : tally .goals ≡ length goals
-  pub stored : Stored es th document01 4096 (areas .0 .0 .0) (y .1)
+  pub stored : Stored es th document01 indexPlaces (areas .0 .0 .0) (y .1)
 
 -- From where the goals were read.
 pub certificate-law : {rules heap : List ℕ} {es : Entries} {bound : ℕ} {th : Theory} → Holds rules heap es bound th → bound ≤ 11948 → WellFormed th
     → (goalsText certificate : List ℕ) → length certificate ≤ 32768
     → {table : List ℕ} {tally : Tally} {goals : List Goal} {left : Items} {ts : List Term}
     → Gathering goalsText certificate 8192 32768 defBuckets (Means es th ts) (StepRecorded rules heap es bound th ts) table tally goals left
-    → {store live : List ℕ} (stack : List ℕ) → Stored es th document01 4096 store ts → length stack ≡ 16384 → Keeps places.bindings heap live
+    → {store live : List ℕ} (stack : List ℕ) → Stored es th document01 indexPlaces store ts → length stack ≡ 16384 → Keeps places.bindings heap live
     → Simulates (CertificateRead es th goals) (walk.certificate certificate goalsText rules tally store stack live table)
     (definition.certificateOf document01 th goals certificate ts)
 unfolding walk.certificate definition.certificateOf checker._>>=_ checker.lift checker.give number

@@ -83,7 +83,7 @@ module _ (rulebook text certificateText : List ℕ) (short-rulebook : length rul
       (goals-whole (j .holds) text certificateText (StepRecorded rulebook heap (j .entries) (j .top) th)
       (λ ts us k r p s g m. record { means = means-longer g (m .means); by-rule = m .by-rule })
       short-text (emptied store nodeLimit indexPlaces) stack table (j .vars-long)
-      (nothing-stored (j .entries) th document01 4096 limits-01 store (omega arith)) (j .counts-long)))
+      (nothing-stored (j .entries) th document01 indexPlaces limits-01 store (omega arith)) (j .counts-long)))
       (λ tally s y g.
       bind _ _
       (certificate-law (j .holds) (j .high) (theory-formed rulebook e) text certificateText short (g .1 .gathering) (s .0 .0 .1) (g .1 .stored) (g .1 .long)

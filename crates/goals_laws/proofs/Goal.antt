@@ -31,7 +31,7 @@ use Rattle.tables.proofs.Phases.{gathering-more, next-goal}
 use Rattle.asking.specs.Asking.{inForm}
 use Rattle.asking_laws.proofs.Places.{RestComes, At, at-less}
 use Rattle.asking_laws.proofs.Asking.{closing-law}
-use Rattle.nodes.specs.Limits.{defBuckets}
+use Rattle.nodes.specs.Limits.{indexPlaces, defBuckets}
 use borrow.Author.Tests.{not-true}
 use Rattle.terms_laws.proofs.Judgments.{lifted, AskedRead}
 use Rattle.terms_laws.proofs.Whole.{goal-judgment}
@@ -44,7 +44,7 @@ use Rattle.goals_laws.proofs.Following.{word-first}
 pub record GoalRead (es : Entries) (th : Theory) (goalsText certificate : List ℕ) (Recorded : List Term → ℕ → ℕ → ℕ → Step → Type 0)
     (K : Stream Token → Type 0) (rest : Items) (ts : List Term) (x : Tally × Reader) (left : Gathered) (y : List Goal × List Term) : Type 0 where
   pub reader : At goalsText K 0 (x .1)
-  pub stored : Stored es th document01 4096 (left .0 .0) (y .1)
+  pub stored : Stored es th document01 indexPlaces (left .0 .0) (y .1)
   pub grown : Longer ts (y .1)
   pub long : length (left .0 .1) ≡ 16384
   pub gathering : Gathering goalsText certificate 8192 32768 defBuckets (Means es th (y .1)) (Recorded (y .1)) (left .1) (x .0) (y .0) rest
@@ -54,7 +54,7 @@ record GoalMet (es : Entries) (th : Theory) (goalsText : List ℕ) (K : Stream T
     (table : List ℕ)
     (x : Tally × Reader) (left : Gathered) (y : List Goal × List Term) : Type 0 where
   pub reader : At goalsText K 0 (x .1)
-  pub stored : Stored es th document01 4096 (left .0 .0) (y .1)
+  pub stored : Stored es th document01 indexPlaces (left .0 .0) (y .1)
   pub grown : Longer ts (y .1)
   pub long : length (left .0 .1) ≡ 16384
   pub s : ℕ
@@ -75,7 +75,7 @@ module _ {rules heap : List ℕ} {es : Entries} {bound : ℕ} {th : Theory} (h :
     (short : length goalsText ≤ 8192)
     {ts : List Term} {goals : List Goal} {tally : Tally} {table : List ℕ} (store stack : List ℕ) {inner rest : Items}
     (g : Gathering goalsText certificate 8192 32768 defBuckets (Means es th ts) (Recorded ts) table tally goals (group inner then rest))
-    (stored : Stored es th document01 4096 store ts) (long : length stack ≡ 16384) (K : Stream Token → Type 0) {r : Reader}
+    (stored : Stored es th document01 indexPlaces store ts) (long : length stack ≡ 16384) (K : Stream Token → Type 0) {r : Reader}
     (there : At goalsText (RestComes inner K) 0 r) where
   goal-met : Simulates (GoalMet es th goalsText K ts goals tally table) (walk.goal goalsText rules heap tally r store stack table)
       (definition.goalForm document01 th goals (group inner) ts)

@@ -36,7 +36,7 @@ use Rattle.tables.proofs.Phases.{first-goal}
 use Rattle.asking.specs.Asking.{Top}
 use Rattle.asking_laws.proofs.Places.{RestComes, Any, At, at-start}
 use Rattle.asking_laws.proofs.Asking.{FormMet, form-over, form-bad, form-closing, form-atom, form-list, form-law}
-use Rattle.nodes.specs.Limits.{defBuckets}
+use Rattle.nodes.specs.Limits.{indexPlaces, defBuckets}
 use Rattle.terms_laws.proofs.Judgments.{lifted}
 use Rattle.goals.specs.Goals as walk
 use Rattle.goals.specs.Goals.{Gathered}
@@ -48,7 +48,7 @@ pub record GoalsRead (es : Entries) (th : Theory) (goalsText certificate : List 
     (tally : Tally) (left : Gathered) (y : List Goal × List Term) : Type 0 where
   pub behind : Items
   pub gathering : Gathering goalsText certificate 8192 32768 defBuckets (Means es th (y .1)) (Recorded (y .1)) (left .1) tally (y .0) behind
-  pub stored : Stored es th document01 4096 (left .0 .0) (y .1)
+  pub stored : Stored es th document01 indexPlaces (left .0 .0) (y .1)
   pub long : length (left .0 .1) ≡ 16384
   pub counted : tally .goals ≡ length (y .0)
 
@@ -66,7 +66,7 @@ module _ {rules heap : List ℕ} {es : Entries} {bound : ℕ} {th : Theory} (h :
   Reads fuel =
       (is : Items) (goals : List Goal) (ts : List Term) (tally : Tally) (r : Reader) (store stack table : List ℕ) → suc (itemCount is) ≤ fuel
       → Gathering goalsText certificate 8192 32768 defBuckets (Means es th ts) (Recorded ts) table tally goals is
-      → Stored es th document01 4096 store ts → length stack ≡ 16384 → At goalsText (RestComes is Any) 0 r
+      → Stored es th document01 indexPlaces store ts → length stack ≡ 16384 → At goalsText (RestComes is Any) 0 r
       → Simulates (GoalsRead es th goalsText certificate Recorded) (walk.goalsFrom fuel goalsText rules heap tally r store stack table)
       (definition.goalForms document01 th goals is ts)
 
@@ -74,7 +74,7 @@ module _ {rules heap : List ℕ} {es : Entries} {bound : ℕ} {th : Theory} (h :
   goals-on : (fuel : ℕ) → Reads fuel → (goals : List Goal) (ts : List Term) (tally : Tally) (store stack table : List ℕ) {is : Items} {o : Outcome Top}
       → FormMet goalsText Any 0 is o → suc (itemCount is) ≤ suc fuel
       → Gathering goalsText certificate 8192 32768 defBuckets (Means es th ts) (Recorded ts) table tally goals is
-      → Stored es th document01 4096 store ts → length stack ≡ 16384
+      → Stored es th document01 indexPlaces store ts → length stack ≡ 16384
       → Simulates (GoalsRead es th goalsText certificate Recorded)
       (leaving._>>=_ (o leaving ((store, stack), table))
       (λ p. walk.oneGoal (walk.goalsFrom fuel goalsText rules heap) goalsText rules heap tally (p .0) store stack table))
@@ -96,7 +96,7 @@ module _ {rules heap : List ℕ} {es : Entries} {bound : ℕ} {th : Theory} (h :
       goals-on fuel (goals-law fuel) goals ts tally store stack table (form-law goalsText Any 0 is there) f g st long
 
   -- The whole text, from an empty store and a table that holds nothing.
-  pub goals-whole : (store stack table : List ℕ) → length table ≡ 16384 → Stored es th document01 4096 store [] → length stack ≡ 16384
+  pub goals-whole : (store stack table : List ℕ) → length table ≡ 16384 → Stored es th document01 indexPlaces store [] → length stack ≡ 16384
       → Simulates (GoalsRead es th goalsText certificate Recorded) (walk.goals goalsText rules heap (noneYet defBuckets) store stack (cleared 256 table))
       (definition.goalsOf document01 th goalsText [])
   unfolding walk.goals definition.goalsOf definition._>>=_ definition.lift definition.give number document01

@@ -48,7 +48,8 @@ module _ (nodes limit places : ℕ) where
   pub built-within : (heap : List ℕ) (left o p : ℕ) (stack store : List ℕ) → (left ≡ 0 → ⊥) → termBuilt nodes limit places heap left o p stack store ≡
       pick (leb 16384 (getD heap o 0))
       (λ _. boundTerm heap (getD heap o 0 - 16384) o leaving (store, stack))
-      (λ _. argumentsBuilt nodes limit places (termBuilt nodes limit places heap (left - 1)) (arityOf heap (getD heap o 0)) p (sum32 o 1) (sum32 p 1) (set stack p (getD heap o 0)) store)
+      (λ _. argumentsBuilt nodes limit places (termBuilt nodes limit places heap (left - 1)) (arityOf heap (getD heap o 0)) p (sum32 o 1)
+      (sum32 p 1) (set stack p (getD heap o 0)) store)
   unfolding termBuilt
   built-within heap zero o p stack store n = absurd (n refl)
   built-within heap (suc left) o p stack store n = let e : suc left - 1 ≡ left = omega arith in rw e

@@ -32,12 +32,12 @@ pub step-judged : {rules heap : List ℕ} {es : Entries} {top : ℕ} {th : Theor
     {steps : List Step} {ts : List Term}
     → Tables goalsText certificate table defBuckets (Means es th ts) Recorded tally goals openGoals defs steps
     → ((j r p : ℕ) (s : Step) → Recorded j r p s → Means es th ts j (judgmentOf s))
-    → {store stack : List ℕ} → Stored es th document01 4096 store ts → length stack ≡ 16384
+    → {store stack : List ℕ} → Stored es th document01 indexPlaces store ts → length stack ≡ 16384
     → {e : ℕ} {r : Rule} → RuleAt rules heap es top e r → RuleReady r
     → {refs : List ℕ} → ReferencesAt stack 0 refs → length refs ≡ length (premisesOf r)
     → {now : List ℕ} {binds : List Bind} → Keeps layout.bindings heap now → Binds es th ts (variablesOf r) now binds
     → {word : ℕ} {stated : Option Term} → Bound es th ts word stated
-    → Simulates (ConcludedTo es th heap document01 4096 ts) (stepConcluded nodeLimit wordLimit indexPlaces table (tally .steps) e word stack store now)
+    → Simulates (ConcludedTo es th heap document01 indexPlaces ts) (stepConcluded nodeLimit wordLimit indexPlaces table (tally .steps) e word stack store now)
     (conclude document01 th steps r refs (given binds stated) ts)
 unfolding document01
 step-judged h high t judged st long a ready at-refs count keep bs b =

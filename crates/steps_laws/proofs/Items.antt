@@ -63,7 +63,7 @@ use Rattle.steps_laws.proofs.Numbers.{list-ended, list-member}
 -- What the items so far have given, beside the areas: `heap` is the theory's area as the rulebook left it, `held` the stack with the step's references.
 pub record Gathered (es : Entries) (th : Theory) (heap : List ℕ) (vs : List Variable) (ts₀ : List Term) (top : ℕ) (held : List ℕ)
     (word : ℕ) (store stack live : List ℕ) (ts : List Term) (binds : List Bind) (stated : Option Term) : Type 0 where
-  pub stored : Stored es th document01 4096 store ts
+  pub stored : Stored es th document01 indexPlaces store ts
   pub grown : Longer ts₀ ts
   pub kept : Keeps top held stack
   pub keep : Keeps places.bindings heap live
@@ -142,7 +142,7 @@ module _ {rules heap : List ℕ} {es : Entries} {bound : ℕ} {th : Theory} (h :
 
     -- A variable that was not bound is bound to a term that was read.
     bound-now : (v k : ℕ) (name : Name) (t : Term) (after : Areas) (us : List Term) → Nth (variablesOf rule) v name → lookup name binds ≡ none
-        → Stored es th document01 4096 (after .0) us → Means es th us k t → Longer ts us → Keeps top stack (after .1)
+        → Stored es th document01 indexPlaces (after .0) us → Means es th us k t → Longer ts us → Keeps top stack (after .1)
         → So word (after .0) (after .1) (set live (bindingAt v) (sum32 k 1)) us (binds ++ (bind name t ∷ [])) stated
     unfolding document01
     bound-now v k name t after us n free st m more keeps =
@@ -163,7 +163,7 @@ module _ {rules heap : List ℕ} {es : Entries} {bound : ℕ} {th : Theory} (h :
 
     -- "Bound already or wrong sort 21": two tests with one refusal here, one there.
     both-tests : (v k : ℕ) (name s : Name) (t : Term) (after : Areas) (us : List Term) → Nth (variablesOf rule) v name → SortAt es (sortOfVariable live e v) s
-        → Stored es th document01 4096 (after .0) us → Means es th us k t
+        → Stored es th document01 indexPlaces (after .0) us → Means es th us k t
         → (eqb (bindingOf live v) 0 && eqb (sortOf live (after .0) k) (sortOfVariable live e v)) ≡ (not (isBound name binds) && hasSort s t)
     unfolding sortOf document01
     both-tests v k name s t after us n so st m =
@@ -191,7 +191,7 @@ module _ {rules heap : List ℕ} {es : Entries} {bound : ℕ} {th : Theory} (h :
         (k .keeps) a))))) where
           judged : (v k : ℕ) (sort : Name) (u : Term) (after : Areas) (us : List Term) (q : Reader) → Nth (variablesOf rule) v name
               → SortAt es (sortOfVariable live e v) sort
-              → Stored es th document01 4096 (after .0) us → Means es th us k u → Longer ts us → Keeps top stack (after .1) → At text K (spent + 2) q
+              → Stored es th document01 indexPlaces (after .0) us → Means es th us k u → Longer ts us → Keeps top stack (after .1) → At text K (spent + 2) q
               → Simulates (λ q areas y. Read (At text K (spent + 2)) (word, q) areas y)
               (leaving._>>=_ (outcomes.need (eqb (bindingOf live v) 0) 21 leaving (after, live))
               (λ _. leaving._>>=_ (outcomes.need (eqb (sortOf live (after .0) k) (sortOfVariable live e v)) 21 leaving (after, live))
@@ -206,7 +206,7 @@ module _ {rules heap : List ℕ} {es : Entries} {bound : ℕ} {th : Theory} (h :
               leave (item-read a (bound-now v k name u after us nth (not-stated _ (sym (bound-is name binds) ∙ not-true _ free)) st m more keeps)))
 
     -- A conclusion that was read is stated.
-    stated-now : (k : ℕ) (j : Term) (after : Areas) (us : List Term) → Stored es th document01 4096 (after .0) us → Means es th us k j → Longer ts us
+    stated-now : (k : ℕ) (j : Term) (after : Areas) (us : List Term) → Stored es th document01 indexPlaces (after .0) us → Means es th us k j → Longer ts us
         → Keeps top stack (after .1)
         → So (sum32 k 1) (after .0) (after .1) live us binds (some j)
     unfolding document01

@@ -71,7 +71,7 @@ pub record StepRead (rules heap : List ℕ) (es : Entries) (bound : ℕ) (th : T
   pub by-rule : RuleAt rules heap es bound (x .1) rule
   pub small : x .2 < 4294967296
   pub reader : At certificate K 0 (x .3)
-  pub stored : Stored es th document01 4096 (areas .0 .0) (y .1)
+  pub stored : Stored es th document01 indexPlaces (areas .0 .0) (y .1)
   pub grown : Longer ts (y .1)
   pub long : length (areas .0 .1) ≡ 16384
   pub keeps : Keeps places.bindings heap (areas .1)
@@ -160,7 +160,7 @@ module _ {rules heap : List ℕ} {es : Entries} {bound : ℕ} {th : Theory} (h :
           keeps = k .keeps;
         })
 
-    judged-law : (is : Items) (spent : ℕ) (r : Reader) (store live : List ℕ) → 2 * n ≤ spent → 1 ≤ spent → Stored es th document01 4096 store ts
+    judged-law : (is : Items) (spent : ℕ) (r : Reader) (store live : List ℕ) → 2 * n ≤ spent → 1 ≤ spent → Stored es th document01 indexPlaces store ts
         → Keeps places.bindings heap live
         → RuleAt rules live es bound e rule → At certificate (RestComes is K) spent r
         → Simulates (λ (p : ℕ × Reader) after z. Read (p .0, e, place, p .1) after z)
@@ -187,8 +187,8 @@ module _ {rules heap : List ℕ} {es : Entries} {bound : ℕ} {th : Theory} (h :
         concluded)
 
   -- "`(step I R (I...) item...)`", behind its head.
-  module _ (is : Items) (r : Reader) {store live : List ℕ} (stack : List ℕ) (stored : Stored es th document01 4096 store ts) (long : length stack ≡ 16384)
-      (keep : Keeps places.bindings heap live)
+  module _ (is : Items) (r : Reader) {store live : List ℕ} (stack : List ℕ) (stored : Stored es th document01 indexPlaces store ts)
+      (long : length stack ≡ 16384) (keep : Keeps places.bindings heap live)
       (at-items : At certificate (RestComes is K) 0 r) where
     -- The rule's words are where they were.
     rule-back : {e : ℕ} {c : Rule} → RuleAt rules live es bound e c → RuleAt rules heap es bound e c

@@ -34,7 +34,7 @@ use Rattle.theory_reading.proofs.Stored.{Longer, longer-none, Stored, Means, me
 use Rattle.tables.specs.Representation.{Defs}
 use Rattle.tables.proofs.Defs.{meaning-agrees}
 use Rattle.nodes.specs.Nodes.{make, constructorDue, predicateDue, atomTerm}
-use Rattle.nodes.specs.Limits.{defBuckets}
+use Rattle.nodes.specs.Limits.{indexPlaces, defBuckets}
 use Rattle.terms_laws.proofs.Rows.{no-words}
 use Rattle.terms_laws.proofs.Making.{TermRead, make-law}
 
@@ -59,7 +59,7 @@ module _ (text : List ℕ) (table : List ℕ) {rules heap : List ℕ} {es : Entr
     predicate-law = rw n (met (predicate-due h name))
 
     -- "An atom with a leading `?`, `?` alone too, is an earlier abbreviation (12). An atom or head is a constructor (12)."
-    pub atom-law : {store : List ℕ} {ts : List Term} (top : ℕ) (stack : List ℕ) → s < t → t ≤ length text → Stored es th document01 4096 store ts
+    pub atom-law : {store : List ℕ} {ts : List Term} (top : ℕ) (stack : List ℕ) → s < t → t ≤ length text → Stored es th document01 indexPlaces store ts
         → Longer ts₀ ts
         → top + 1 ≤ length stack → length stack < 4294967296
         → Simulates (TermRead es th P top stack ts) (atomTerm text rules heap table top s t q store stack) (definition.atomTerm document01 th defs name ts)

@@ -38,20 +38,20 @@ use Rattle.terms_laws.proofs.Rows.{Row, row-part, row-first, row-at}
 pub record TermRead (es : Entries) (th : Theory) (P : Reader → Type 0) (top : ℕ) (stack : List ℕ) (ts : List Term) (x : ℕ × Reader) (left : Areas)
     (y : Term × List Term) : Type 0 where
   pub reader : P (x .1)
-  pub stored : Stored es th document01 4096 (left .0) (y .1)
+  pub stored : Stored es th document01 indexPlaces (left .0) (y .1)
   pub means : Means es th (y .1) (x .0) (y .0)
   pub grown : Longer ts (y .1)
   pub keeps : Keeps top stack (left .1)
 
 module _ {rules heap : List ℕ} {es : Entries} {bound : ℕ} {th : Theory} (h : Holds rules heap es bound th) where
-  module _ (P : Reader → Type 0) (top : ℕ) (stack : List ℕ) {store : List ℕ} {ts : List Term} (kept : Stored es th document01 4096 store ts) (r : Reader)
+  module _ (P : Reader → Type 0) (top : ℕ) (stack : List ℕ) {store : List ℕ} {ts : List Term} (kept : Stored es th document01 indexPlaces store ts) (r : Reader)
       (there : P r) where
     interned-law : (x : Node) (after : List ℕ) (t : Term) → Formed (Used es) (length ts) x → build (symbolAt es th) ts x ≡ t → Sized t → Keeps top stack after
         → Simulates (TermRead es th P top stack ts) (interned x r store after) (definition.stored document01 t ts)
     unfolding interned document01
     interned-law x after t f e z k = by (stored-law kept h limits-01 r x f e z) where
       by : {o : Outcome (ℕ × Reader)} {area : List ℕ} {m : Result (Term × List Term)}
-          → Simulates (λ q left y. (q .1 ≡ r) × Numbers es th document01 4096 ts (q .0) left y) (o leaving area) m
+          → Simulates (λ q left y. (q .1 ≡ r) × Numbers es th document01 indexPlaces ts (q .0) left y) (o leaving area) m
           → Simulates (TermRead es th P top stack ts) (o leaving (area, after)) m
       by (refuse q) = refuse q
       by (leave {a = a} (q, n)) = leave {a = a} (record { reader = subst P (sym q) there; stored = n .holds; means = n .means; grown = n .grown; keeps = k })

@@ -42,7 +42,7 @@ use Rattle.terms.specs.Terms as walk
 use Rattle.theory_reading.specs.Storing.{Areas}
 use Rattle.nodes.specs.Nodes.{make, constructorDue, headDue}
 use Rattle.terms.specs.Terms.{argumentsFrom, termOf}
-use Rattle.nodes.specs.Limits.{defBuckets}
+use Rattle.nodes.specs.Limits.{indexPlaces, defBuckets}
 pub use Rattle.terms_laws.proofs.Asked.{asked-then, asked-no, asked-yes}
 use Rattle.terms_laws.proofs.Rows.{Row, no-words, one-word}
 use Rattle.terms_laws.proofs.Making.{TermRead, make-law}
@@ -53,7 +53,7 @@ pub record Ready (es : Entries) (th : Theory) (text : List ℕ) (ts₀ : List Te
     (store stack : List ℕ) : Type 0 where
   pub reader : At text K spent r
   pub room : 2 * top ≤ spent
-  pub stored : Stored es th document01 4096 store ts
+  pub stored : Stored es th document01 indexPlaces store ts
   pub grown : Longer ts₀ ts
   pub long : length stack ≡ 16384
 
@@ -63,7 +63,7 @@ pub record ArgumentsRead (es : Entries) (th : Theory) (text : List ℕ) (K : Str
   pub ms : List ℕ
   pub count : x .0 ≡ n + length ms
   pub reader : At text K (spent + 2 * length ms) (x .1)
-  pub stored : Stored es th document01 4096 (left .0) (y .1)
+  pub stored : Stored es th document01 indexPlaces (left .0) (y .1)
   pub below : Below (length (y .1)) ms
   pub terms : lookups (symbolAt es th) (y .1) ms ≡ y .0
   pub grown : Longer ts (y .1)

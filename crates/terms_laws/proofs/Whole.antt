@@ -20,13 +20,13 @@ use Rattle.tables.specs.Representation.{Tables}
 use Rattle.tables.proofs.Defs.{defs-elsewhere}
 use Rattle.asking_laws.proofs.Places.{RestComes, At}
 use Rattle.terms.specs.Terms as walk
-use Rattle.nodes.specs.Limits.{defBuckets}
+use Rattle.nodes.specs.Limits.{indexPlaces, defBuckets}
 use Rattle.terms_laws.proofs.Reading.{Ready}
 use Rattle.terms_laws.proofs.Judgments.{AskedRead, ask-term-law, judgment-law}
 
 module _ {rules heap : List ℕ} {es : Entries} {bound : ℕ} {th : Theory} (h : Holds rules heap es bound th) {ts : List Term}
     (left depth top spent : ℕ) (deep : depth + left ≡ 257) (is : Items) (K : Stream Token → Type 0) (r : Reader) (store stack : List ℕ)
-    (stored : Stored es th document01 4096 store ts) (room : 2 * top ≤ spent) (long : length stack ≡ 16384) where
+    (stored : Stored es th document01 indexPlaces store ts) (room : 2 * top ≤ spent) (long : length stack ≡ 16384) where
   ready : (text : List ℕ) → At text (RestComes is K) spent r → Ready es th text ts (RestComes is K) top spent ts r store stack
   ready text at-items = record { reader = at-items; room = room; stored = stored; grown = longer-none; long = long }
 
