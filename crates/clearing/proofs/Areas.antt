@@ -12,27 +12,27 @@ use Rattle.horn.specs.Refusals.{need, _>>=_, areaShort}
 use Rattle.horn.specs.Setting.{document01}
 use Rattle.horn.specs.Calls.{areasLong, areaAfter, called, leaving}
 use Rattle.horn.proofs.Equality.{case, both}
-use Rattle.clearing.specs.Lengths.{longEnough}
+use Rattle.clearing.specs.Lengths.{areaWords, longEnough}
 
 -- Four tests with one refusal are one.
 pub areas-long : (a b c d : ℕ) → areasLong document01 a b c d ≡ need (longEnough a b c d) areaShort
 unfolding areasLong longEnough document01 need _>>=_
 areas-long a b c d =
-    case (leb 16384 a) (λ p. case (leb 16384 b) (λ q. case (leb 16384 c) (λ r. rw (p, q, r)) (λ r. rw (p, q, r))) (λ q. rw (p, q))) (λ p. rw p)
+    case (leb areaWords a) (λ p. case (leb areaWords b) (λ q. case (leb areaWords c) (λ r. rw (p, q, r)) (λ r. rw (p, q, r))) (λ q. rw (p, q))) (λ p. rw p)
 
 -- What the test says of each area.
 pub record Long (a b c d : ℕ) : Type 0 where
-  pub first : 16384 ≤ a
-  pub second : 16384 ≤ b
-  pub third : 16384 ≤ c
-  pub fourth : 16384 ≤ d
+  pub first : areaWords ≤ a
+  pub second : areaWords ≤ b
+  pub third : areaWords ≤ c
+  pub fourth : areaWords ≤ d
 
 pub long : (a b c d : ℕ) → longEnough a b c d ≡ true → Long a b c d
 unfolding longEnough
 long a b c d e =
-    let (p, q) = both (leb 16384 a) _ e in
-    let (r, s) = both (leb 16384 b) _ q in
-    let (t, u) = both (leb 16384 c) _ s in
+    let (p, q) = both (leb areaWords a) _ e in
+    let (r, s) = both (leb areaWords b) _ q in
+    let (t, u) = both (leb areaWords c) _ s in
     record { first = leb-true _ _ p; second = leb-true _ _ r; third = leb-true _ _ t; fourth = leb-true _ _ u }
 
 -- "Refusals 1 and 2 leave the areas untouched."
@@ -45,17 +45,17 @@ unfolding leaving areaAfter document01
 untouched-long q a b c d = refl
 
 -- "Every other answer leaves the first 16,384 words of each area zero and later words untouched."
-area-after : (n : ℕ) (s first : List ℕ) → n ≢ 1 → n ≢ 2 → 16384 ≤ length s → first ≡ replicate (length (take 16384 s)) 0
-    → first ++ drop 16384 s ≡ areaAfter 16384 n s
+area-after : (n : ℕ) (s first : List ℕ) → n ≢ 1 → n ≢ 2 → areaWords ≤ length s → first ≡ replicate (length (take areaWords s)) 0
+    → first ++ drop areaWords s ≡ areaAfter areaWords n s
 unfolding areaAfter
-area-after n s first p q l e = rw (e, length-take-le 16384 s l, ne-eqb n 1 p, ne-eqb n 2 q, areaAfter)
+area-after n s first p q l e = rw (e, length-take-le areaWords s l, ne-eqb n 1 p, ne-eqb n 2 q, areaAfter)
 
 pub all-cleared : {R : Type 0} (q : R) (n : ℕ) (a b c d a′ b′ c′ d′ : List ℕ) → n ≢ 1 → n ≢ 2 → Long (length a) (length b) (length c) (length d)
-    → a′ ≡ replicate (length (take 16384 a)) 0
-    → b′ ≡ replicate (length (take 16384 b)) 0
-    → c′ ≡ replicate (length (take 16384 c)) 0
-    → d′ ≡ replicate (length (take 16384 d)) 0
-    → called q (a′ ++ drop 16384 a) (b′ ++ drop 16384 b) (c′ ++ drop 16384 c) (d′ ++ drop 16384 d) ≡ leaving document01 q n a b c d
+    → a′ ≡ replicate (length (take areaWords a)) 0
+    → b′ ≡ replicate (length (take areaWords b)) 0
+    → c′ ≡ replicate (length (take areaWords c)) 0
+    → d′ ≡ replicate (length (take areaWords d)) 0
+    → called q (a′ ++ drop areaWords a) (b′ ++ drop areaWords b) (c′ ++ drop areaWords c) (d′ ++ drop areaWords d) ≡ leaving document01 q n a b c d
 unfolding leaving document01
 all-cleared q n a b c d a′ b′ c′ d′ not-1 not-2 l ea eb ec ed =
     rw (

@@ -9,21 +9,21 @@ use lib.ListN.{getD, set}
 use Rattle.outcomes.specs.Outcomes.{ok, refused}
 use Rattle.outcomes.specs.Leaving.{_leaving_}
 use Rattle.matching.specs.Matching.{_keeping_, bindingAt, matched}
-use Rattle.concluding.specs.Concluding.{stepJudgment, premisesMatched, unbound}
+use Rattle.concluding.specs.Concluding.{levels, stepJudgment, premisesMatched, unbound}
 
 module _ (nodes places : ℕ) (store table stack : List ℕ) (steps n : ℕ) (o : ℕ) (heap : List ℕ) where
   pub premises-first : premisesMatched nodes places store table stack steps n 0 o heap ≡ premisesMatched nodes places store table stack steps (n - 0) 0 o heap
   premises-first = let e : n - 0 ≡ n = omega arith in rw e
 
   pub premises-on : (k : ℕ) {o′ : ℕ} {heap′ : List ℕ} → k < n → getD stack k 0 < steps
-      → matched nodes places store 16384 o (stepJudgment table (getD stack k 0)) heap ≡ (some o′ keeping heap′)
+      → matched nodes places store levels o (stepJudgment table (getD stack k 0)) heap ≡ (some o′ keeping heap′)
       → premisesMatched nodes places store table stack steps (n - k) k o heap ≡ premisesMatched nodes places store table stack steps (n - (k + 1))
       (k + 1) o′ heap′
   unfolding premisesMatched
   premises-on k l b h = let e : n - k ≡ suc (n - (k + 1)) = omega arith in rw (e, lt-ltb _ _ b, h)
 
   pub premise-differs : (k : ℕ) {heap′ : List ℕ} → k < n → getD stack k 0 < steps
-      → matched nodes places store 16384 o (stepJudgment table (getD stack k 0)) heap ≡ (none keeping heap′)
+      → matched nodes places store levels o (stepJudgment table (getD stack k 0)) heap ≡ (none keeping heap′)
       → premisesMatched nodes places store table stack steps (n - k) k o heap ≡ (refused 25 leaving heap′)
   unfolding premisesMatched
   premise-differs k l b h = let e : n - k ≡ suc (n - (k + 1)) = omega arith in rw (e, lt-ltb _ _ b, h)

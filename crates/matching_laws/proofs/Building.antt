@@ -166,9 +166,9 @@ module _ {text heap : List ℕ} {es : Entries} {top : ℕ} {th : Theory} (h : Ho
           (build limits binds p ts)
       pattern-built (flat-variable l u e n x) full-variable zero q le fits short st bs = absurd (omega arith)
       pattern-built {o} (flat-variable {v} {name} y u e n x) full-variable (suc left) q le {ts = ts} fits short st bs =
-          let w : getD now o 0 ≡ 16384 + v = keep .words o (omega arith) ∙ e in
-          let m : 16384 + v - 16384 ≡ v = omega arith in
-          rw (x, w, le-leb 16384 (16384 + v) (omega arith), m, build-variable limits binds name ts)
+          let w : getD now o 0 ≡ layout.variable + v = keep .words o (omega arith) ∙ e in
+          let m : layout.variable + v - layout.variable ≡ v = omega arith in
+          rw (x, w, le-leb layout.variable (layout.variable + v) (omega arith), m, build-variable limits binds name ts)
           (variable-built now v o q (omega arith) st (bs .each v name n))
       pattern-built (flat-symbol y u a r) (full-symbol w f) zero q le fits short st bs = absurd (omega arith)
       pattern-built {o} {o′} (flat-symbol {c} {ps} y u a r) (full-symbol wide f) (suc left) q le {stack} {store} {ts} fits short st bs =
@@ -178,7 +178,7 @@ module _ {text heap : List ℕ} {es : Entries} {top : ℕ} {th : Theory} (h : Ho
           let z : sum32 o 1 ≡ o + 1 = sum-small o 1 (omega arith) in
           let x : sum32 q 1 ≡ q + 1 = sum-small q 1 (omega arith) in
           let m = length-set stack q (getD heap o 0) in
-          rw (w, lt-leb 16384 (getD heap o 0) (omega arith), n, z, x, build-symbol limits binds c ps ts)
+          rw (w, lt-leb layout.variable (getD heap o 0) (omega arith), n, z, x, build-symbol limits binds c ps ts)
           (patterns-built r f left q (q + 1) (omega arith) (omega arith) (omega arith) (omega arith) st bs (λ us. checker.stored limits (node c us))
           (node-made {count = widthOf ps} a wide (omega arith)))
 

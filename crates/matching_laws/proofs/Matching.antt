@@ -117,9 +117,9 @@ module _ {text heap : List ℕ} {es : Entries} {top : ℕ} {th : Theory} (h : Ho
           → Matching es th heap ts vs o′ (matched (limits .nodes) places store left o t now) (match p (treeOf (symbolAt es th) ts t) binds)
       pattern-matches (flat-variable l u e n q) full-variable zero t le b k bs = absurd (omega arith)
       pattern-matches {o} (flat-variable {v} {name} l u e n q) full-variable (suc left) t le b {now} {binds} k bs =
-          let w : getD now o 0 ≡ 16384 + v = k .words o (omega arith) ∙ e in
-          let m : 16384 + v - 16384 ≡ v = omega arith in
-          rw (q, w, le-leb 16384 (16384 + v) (omega arith), m, match-variable name (treeOf (symbolAt es th) ts t) binds)
+          let w : getD now o 0 ≡ layout.variable + v = k .words o (omega arith) ∙ e in
+          let m : layout.variable + v - layout.variable ≡ v = omega arith in
+          rw (q, w, le-leb layout.variable (layout.variable + v) (omega arith), m, match-variable name (treeOf (symbolAt es th) ts t) binds)
           (variable-matches k bs v t o name n b (omega arith) refl (bs .each v name n))
       pattern-matches (flat-symbol l u a r) (full-symbol w f) zero t le b k bs = absurd (omega arith)
       pattern-matches {o} (flat-symbol {c} {ps} l u a r) (full-symbol wide f) (suc left) t le b {now} {binds} k bs =
@@ -129,7 +129,7 @@ module _ {text heap : List ℕ} {es : Entries} {top : ℕ} {th : Theory} (h : Ho
           let y : arityOf now (getD heap o 0) ≡ widthOf ps = k .words (getD heap o 0 + layout.arity) (omega arith) ∙ symbol-arity h a ∙ sym wide in
           let z : sum32 o 1 ≡ o + 1 = sum-small o 1 (omega arith) in
           let same : eqb (getD heap o 0) (n .head) ≡ sameSymbol c (symbolAt es th (n .head)) = same-symbol h a (stands-at h (n .in-use)) in
-          rw (w, lt-leb 16384 (getD heap o 0) (omega arith), n .read-head, n .tree)
+          rw (w, lt-leb layout.variable (getD heap o 0) (omega arith), n .read-head, n .tree)
           (case (sameSymbol c (symbolAt es th (n .head)))
           (λ e.
           let s : c ≡ symbolAt es th (n .head) = sameSymbol-decides .equal c (symbolAt es th (n .head)) e in

@@ -33,6 +33,10 @@ pub bucket-some : (count : ℕ) (name : List ℕ) → 0 < count → bucketOf cou
 unfolding bucketOf
 bucket-some count name p = rw (ne-eqb count 0 (λ (e : count ≡ 0). omega arith), bucketOf)
 
+-- The place of a bucket, where the count is n.
+pub bucket-place : (first count n h : ℕ) (name : List ℕ) → count ≡ n → 0 < n → h ≡ hashOf name → first + h % n ≡ first + bucketOf count name
+bucket-place first count n h name e p k = rw (e, bucket-some n name p, k)
+
 pub bucket-below : (count : ℕ) (name : List ℕ) → 0 < count → bucketOf count name < count
 bucket-below count name p = rw (bucket-some count name p) (mod-lt (hashOf name) p)
 

@@ -23,7 +23,7 @@ fn hash(name: &[u8]) -> u64
     h
 }
 
-// The place of a name's bucket.
+// The place of a name's bucket. The counts in use, said as constants, cost no division.
 fn bucket(buckets: u32, count: u32, name: &[u8]) -> usize
     ensures { λ r. ⌜ r ≡ buckets + bucketOf count (now (name .entry)) ⌝ }
 {
@@ -32,6 +32,12 @@ fn bucket(buckets: u32, count: u32, name: &[u8]) -> usize
         return first;
     }
     let h = hash(name);
+    if count == 128 {
+        return first + (h % 128) as usize;
+    }
+    if count == 256 {
+        return first + (h % 256) as usize;
+    }
     first + (h % count as u64) as usize
 }
 

@@ -17,7 +17,7 @@ use Rattle.horn.proofs.Complete.{complete-01}
 use Rattle.checker.specs.Checker as walk
 use Rattle.checker_laws.proofs.Whole.{judged}
 use Rattle.reports.proofs.ReleaseReported.{release-reported}
-use Rattle.clearing.specs.Lengths.{longEnough}
+use Rattle.clearing.specs.Lengths.{areaWords, longEnough}
 use Rattle.reports.specs.Release.{releasedBy, told}
 use Rattle.reports.specs.declared.Report.{Report}
 use Rattle.clearing.proofs.Areas.{areas-long, Long, untouched-short, untouched-long, all-cleared}
@@ -101,17 +101,17 @@ module _ (rulebook goals certificate a b c d : List ℕ) where
 pub release-judged : (rulebook goals certificate a b c d : List ℕ) (r : Report) (a′ b′ c′ d′ : List ℕ)
     → longEnough (length a) (length b) (length c) (length d) ≡ true → Long (length a) (length b) (length c) (length d)
     → length rulebook ≤ 8192 → length goals ≤ 8192 → length certificate ≤ 32768
-    → r ≡ releasedBy (length certificate) (walk.check rulebook goals certificate (take 16384 a) (take 16384 b) (take 16384 c) (take 16384 d))
-    → a′ ≡ replicate (length (take 16384 a)) 0
-    → b′ ≡ replicate (length (take 16384 b)) 0
-    → c′ ≡ replicate (length (take 16384 c)) 0
-    → d′ ≡ replicate (length (take 16384 d)) 0
-    → Ensured (told r) rulebook goals certificate a b c d (a′ ++ drop 16384 a) (b′ ++ drop 16384 b) (c′ ++ drop 16384 c) (d′ ++ drop 16384 d)
+    → r ≡ releasedBy (length certificate) (walk.check rulebook goals certificate (take areaWords a) (take areaWords b) (take areaWords c) (take areaWords d))
+    → a′ ≡ replicate (length (take areaWords a)) 0
+    → b′ ≡ replicate (length (take areaWords b)) 0
+    → c′ ≡ replicate (length (take areaWords c)) 0
+    → d′ ≡ replicate (length (take areaWords d)) 0
+    → Ensured (told r) rulebook goals certificate a b c d (a′ ++ drop areaWords a) (b′ ++ drop areaWords b) (c′ ++ drop areaWords c) (d′ ++ drop areaWords d)
 release-judged rulebook goals certificate a b c d r a′ b′ c′ d′ enough l short-rulebook short-goals short is ea eb ec ed =
     let z =
-    release-reported rulebook goals certificate short-rulebook short-goals short (take 16384 a) (take 16384 b) (take 16384 c) (take 16384 d)
-    (length-take-le 16384 a (l .first)) (length-take-le 16384 b (l .second)) (length-take-le 16384 c (l .third)) (length-take-le 16384 d (l .fourth)) in
+    release-reported rulebook goals certificate short-rulebook short-goals short (take areaWords a) (take areaWords b) (take areaWords c) (take areaWords d)
+    (length-take-le areaWords a (l .first)) (length-take-le areaWords b (l .second)) (length-take-le areaWords c (l .third)) (length-take-le areaWords d (l .fourth)) in
     let n = ap (λ (q : Report). q .number) is in
-    is-called rulebook goals certificate a b c d (told r) (a′ ++ drop 16384 a) (b′ ++ drop 16384 b) (c′ ++ drop 16384 c) (d′ ++ drop 16384 d)
+    is-called rulebook goals certificate a b c d (told r) (a′ ++ drop areaWords a) (b′ ++ drop areaWords b) (c′ ++ drop areaWords c) (d′ ++ drop areaWords d)
     (judged-texts rulebook goals certificate a b c d enough short-rulebook short-goals short ∙ z .same ∙ ap (λ (q : Report). told q) (sym is))
     (all-cleared (told r) (r .number) a b c d a′ b′ c′ d′ (λ h. z .not-1 (sym n ∙ h)) (λ h. z .not-2 (sym n ∙ h)) l ea eb ec ed)

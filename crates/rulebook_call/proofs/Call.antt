@@ -14,7 +14,7 @@ use Rattle.horn.specs.Calls as calls
 use Rattle.horn.specs.Calls.{rulebookReport, rulebookJudged, rulebookAnswer, rulebookCall, called, rulebookLeft}
 use Rattle.theory.specs.Walks as walks
 use Rattle.reports.proofs.RulebookReported.{rulebook-reported}
-use Rattle.clearing.specs.Lengths.{longEnough}
+use Rattle.clearing.specs.Lengths.{areaWords, longEnough}
 use Rattle.reports.specs.Rulebook.{reportedBy, answered}
 use Rattle.reports.specs.declared.RulebookReport.{RulebookReport}
 use Rattle.clearing.proofs.Areas.{areas-long, Long, untouched-short, untouched-long, all-cleared}
@@ -52,17 +52,17 @@ module _ (text a b c d : List ℕ) where
 -- Every other answer: the first 16,384 words of each area were lent to both walks, then cleared.
 pub rulebook-judged : (text a b c d : List ℕ) (r : RulebookReport) (a′ b′ c′ d′ : List ℕ)
     → longEnough (length a) (length b) (length c) (length d) ≡ true → Long (length a) (length b) (length c) (length d) → length text ≤ 8192
-    → r ≡ reportedBy (walks.theory text (take 16384 b) (take 16384 c) (take 16384 d))
-    → a′ ≡ replicate (length (take 16384 a)) 0
-    → b′ ≡ replicate (length (take 16384 b)) 0
-    → c′ ≡ replicate (length (take 16384 c)) 0
-    → d′ ≡ replicate (length (take 16384 d)) 0
-    → called (answered r) (a′ ++ drop 16384 a) (b′ ++ drop 16384 b) (c′ ++ drop 16384 c) (d′ ++ drop 16384 d) ≡ rulebookLeft document01 a b c d text
+    → r ≡ reportedBy (walks.theory text (take areaWords b) (take areaWords c) (take areaWords d))
+    → a′ ≡ replicate (length (take areaWords a)) 0
+    → b′ ≡ replicate (length (take areaWords b)) 0
+    → c′ ≡ replicate (length (take areaWords c)) 0
+    → d′ ≡ replicate (length (take areaWords d)) 0
+    → called (answered r) (a′ ++ drop areaWords a) (b′ ++ drop areaWords b) (c′ ++ drop areaWords c) (d′ ++ drop areaWords d) ≡ rulebookLeft document01 a b c d text
 rulebook-judged text a b c d r a′ b′ c′ d′ enough l short is ea eb ec ed =
     let z =
-    rulebook-reported text (take 16384 b) (take 16384 c) (take 16384 d) short
-    (length-take-le 16384 b (l .second)) (length-take-le 16384 c (l .third)) (length-take-le 16384 d (l .fourth)) in
+    rulebook-reported text (take areaWords b) (take areaWords c) (take areaWords d) short
+    (length-take-le areaWords b (l .second)) (length-take-le areaWords c (l .third)) (length-take-le areaWords d (l .fourth)) in
     let n = ap (λ (q : RulebookReport). q .number) is in
-    is-called text a b c d (answered r) (a′ ++ drop 16384 a) (b′ ++ drop 16384 b) (c′ ++ drop 16384 c) (d′ ++ drop 16384 d)
+    is-called text a b c d (answered r) (a′ ++ drop areaWords a) (b′ ++ drop areaWords b) (c′ ++ drop areaWords c) (d′ ++ drop areaWords d)
     (judged-text text a b c d enough short ∙ z .same ∙ ap (λ (q : RulebookReport). answered q) (sym is))
     (all-cleared (answered r) (r .number) a b c d a′ b′ c′ d′ (λ h. z .not-1 (sym n ∙ h)) (λ h. z .not-2 (sym n ∙ h)) l ea eb ec ed)
