@@ -16,12 +16,12 @@ use Rattle.matching.specs.Matching.{Tried, _keeping_, variableMatched, a
 use Rattle.matching.specs.declared.Built.{Built}
 use Rattle.matching.specs.declared.Built.the-variants.{Term}
 use Rattle.matching.specs.Matching.{built, boundTerm, nodeMade, argumentsBuilt, termBuilt}
-use Rattle.items.specs.Places as places
+use Rattle.items.specs.Places as layout
 
 module _ (nodes places : ℕ) (store : List ℕ) where
   pub matched-within : (left o t : ℕ) (heap : List ℕ) → (left ≡ 0 → ⊥) → matched nodes places store left o t heap ≡
-      pick (leb places.variable (getD heap o 0))
-      (λ _. variableMatched heap (getD heap o 0 - places.variable) t o)
+      pick (leb layout.variable (getD heap o 0))
+      (λ _. variableMatched heap (getD heap o 0 - layout.variable) t o)
       (λ _. symbolMatched nodes places store (matched nodes places store (left - 1)) (getD heap o 0) o t heap)
   unfolding matched
   matched-within zero o t heap n = absurd (n refl)
@@ -47,8 +47,8 @@ module _ (nodes places : ℕ) (store : List ℕ) where
 
 module _ (nodes limit places : ℕ) where
   pub built-within : (heap : List ℕ) (left o p : ℕ) (stack store : List ℕ) → (left ≡ 0 → ⊥) → termBuilt nodes limit places heap left o p stack store ≡
-      pick (leb places.variable (getD heap o 0))
-      (λ _. boundTerm heap (getD heap o 0 - places.variable) o leaving (store, stack))
+      pick (leb layout.variable (getD heap o 0))
+      (λ _. boundTerm heap (getD heap o 0 - layout.variable) o leaving (store, stack))
       (λ _. argumentsBuilt nodes limit places (termBuilt nodes limit places heap (left - 1)) (arityOf heap (getD heap o 0)) p (sum32 o 1)
       (sum32 p 1) (set stack p (getD heap o 0)) store)
   unfolding termBuilt
