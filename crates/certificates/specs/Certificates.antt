@@ -12,7 +12,7 @@ use Rattle.theory_reading.specs.Storing.{Areas, before}
 use Rattle.tables.specs.declared.Tally.{Tally}
 use Rattle.tables.specs.Words.{stepAdded, stepCounted}
 use Rattle.asking.specs.Asking.{inForm, Top, over, form, atomDue, formDue}
-use Rattle.step_items.specs.StepItems.{Worked}
+use Rattle.step_bindings.specs.StepBindings.{Worked}
 use Rattle.steps.specs.Steps as steps
 use Rattle.forms.specs.Forms.{keywordOf, defForm, resultForm}
 use Rattle.forms.specs.declared.Keyword.{Keyword}

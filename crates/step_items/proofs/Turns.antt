@@ -7,7 +7,8 @@ use Rattle.lex.specs.declared.Reader.{Reader}
 use Rattle.outcomes.specs.Outcomes.{Outcome, ok, refused}
 use Rattle.outcomes.specs.Leaving.{_leaving_}
 use Rattle.asking.specs.Asking.{closing, member, closingNext}
-use Rattle.step_items.specs.StepItems.{Worked, item, itemsFrom}
+use Rattle.step_bindings.specs.StepBindings.{Worked}
+use Rattle.step_items.specs.StepItems.{item, itemsFrom}
 
 module _ (text rules table : List ℕ) (rule top word : ℕ) (r : Reader) (store stack heap : List ℕ) where
   pub items-closed : (fuel : ℕ) {q : Reader} → 0 < fuel → closingNext text r ≡ ok (closing q)

@@ -2,33 +2,16 @@
 use Prim.Native.Nat.{ℕ, zero, suc, _+_}
 use mathlib.Core.List.{List}
 use lib.Dec.{eqb}
-use lib.ListN.{length, set}
-use Rattle.words.specs.Parts.{part}
+use lib.ListN.{length}
 use Rattle.words.specs.Sums.{sum32}
 use Rattle.lex.specs.declared.Reader.{Reader}
-use Rattle.outcomes.specs.Outcomes.{ok, refused, need, orElse, pick}
+use Rattle.outcomes.specs.Outcomes.{ok, refused, need, pick}
 use Rattle.outcomes.specs.Leaving.{Did, _leaving_, _>>=_}
 use Rattle.items.specs.Items.{question}
-use Rattle.theory_reading.specs.Reading.{variableFound, sortOfVariable}
-use Rattle.theory_reading.specs.Storing.{Areas, before}
-use Rattle.asking.specs.Asking.{inForm, Ahead, closing, member, atomDue, listDue, closingDue, closingNext}
-use Rattle.nodes.specs.Nodes.{sortOf}
-use Rattle.terms.specs.Terms.{term, headedJudgment}
-use Rattle.matching.specs.Matching.{bindingOf, bindingAt}
-
--- The store and the stack, then the theory's area with its bindings.
-abbrev pub Worked : Type 0
-Worked = Areas × List ℕ
-
--- "`(?v T)`: unknown v 12, T, closing 10, bound already or wrong sort 21." The name v was asked for.
-unfoldable pub binding : List ℕ → List ℕ → List ℕ → ℕ → ℕ → ℕ → ℕ → Reader → List ℕ → List ℕ → List ℕ → Did Worked Reader
-binding text rules table rule top s t r store stack heap = do
-  (v, _) ← orElse (variableFound heap rules rule (part s t text)) 12 leaving ((store, stack), heap)
-  ((k, r), ((store, stack), heap)) ← before heap (term 255 text rules heap table top r store stack)
-  (r, _) ← closingDue text r leaving ((store, stack), heap)
-  _ ← need (eqb (bindingOf heap v) 0) 21 leaving ((store, stack), heap)
-  _ ← need (eqb (sortOf heap store k) (sortOfVariable heap rule v)) 21 leaving ((store, stack), heap)
-  ok r leaving ((store, stack), set heap (bindingAt v) (sum32 k 1))
+use Rattle.theory_reading.specs.Storing.{before}
+use Rattle.asking.specs.Asking.{inForm, Ahead, closing, member, atomDue, listDue, closingNext}
+use Rattle.terms.specs.Terms.{headedJudgment}
+use Rattle.step_bindings.specs.StepBindings.{Worked, binding}
 
 -- "Otherwise a judgment; a second, once read, is 22." Its head was asked for. A stated conclusion is kept as its number plus 1.
 unfoldable pub stated : List ℕ → List ℕ → List ℕ → ℕ → ℕ → ℕ → ℕ → Reader → List ℕ → List ℕ → List ℕ → Did Worked (ℕ × Reader)

@@ -8,7 +8,8 @@ use Rattle.theory_reading.specs.Reading.{variableCount}
 use Rattle.theory_reading.specs.Storing.{before}
 use Rattle.concluding.specs.Concluding.{unbound, stepConcluded}
 use Rattle.references.specs.References.{ruleDue, countedReferences}
-use Rattle.step_items.specs.StepItems.{Worked, items}
+use Rattle.step_bindings.specs.StepBindings.{Worked}
+use Rattle.step_items.specs.StepItems.{items}
 use Rattle.steps.specs.declared.Stepped.{Stepped}
 use Rattle.steps.specs.declared.Stepped.the-variants as stepped
 use Rattle.nodes.specs.Limits.{nodeLimit, wordLimit, indexPlaces}

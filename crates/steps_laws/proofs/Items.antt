@@ -57,7 +57,7 @@ use Rattle.matching.specs.Matching.{bindingOf, bindingAt}
 use Rattle.matching_laws.proofs.Relations.{Bound, not-bound, bound-to, Binds}
 use Rattle.matching_laws.proofs.Bindings.{bound-longer, binds-longer, binds-more}
 use Rattle.step_items.specs.StepItems as walk
-use Rattle.step_items.specs.StepItems.{Worked}
+use Rattle.step_bindings.specs.StepBindings.{Worked, binding}
 use Rattle.steps_laws.proofs.Numbers.{list-ended, list-member}
 
 -- What the items so far have given, beside the areas: `heap` is the theory's area as the rulebook left it, `held` the stack with the step's references.
@@ -174,9 +174,9 @@ module _ {rules heap : List ℕ} {es : Entries} {bound : ℕ} {th : Theory} (h :
     -- "`(?v T)`: unknown v 12, T, closing 10, bound already or wrong sort 21."
     pub binding-law : (s t spent : ℕ) {name : Name} (K : Stream Token → Type 0) (is : Items) (r : Reader) → part s t text ≡ name → 2 * top ≤ spent
         → At text (RestComes is K) spent r
-        → Simulates (λ q areas y. Read (At text K (spent + 2)) (word, q) areas y) (walk.binding text rules table e top s t r store stack live)
+        → Simulates (λ q areas y. Read (At text K (spent + 2)) (word, q) areas y) (binding text rules table e top s t r store stack live)
         (certificates.bindingItem document01 th defs rule name is (given binds stated) ts)
-    unfolding walk.binding certificates.bindingItem definition._>>=_ definition.lift definition.give AskedRead number
+    unfolding binding certificates.bindingItem definition._>>=_ definition.lift definition.give AskedRead number
     binding-law s t spent {name} K is r n room there =
         rw n
         (lifted ts _ _ (sought (variable-found (holds-now h high (g .keep)) name rule-now))

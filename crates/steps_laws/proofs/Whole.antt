@@ -55,7 +55,7 @@ use Rattle.terms_laws.proofs.Following.{tested, first-of}
 use Rattle.references.specs.References as referring
 use Rattle.step_items.specs.StepItems as stating
 use Rattle.steps.specs.Steps as walk
-use Rattle.step_items.specs.StepItems.{Worked}
+use Rattle.step_bindings.specs.StepBindings.{Worked}
 use Rattle.steps_laws.proofs.Numbers.{number-law}
 use Rattle.steps_laws.proofs.References.{ReferencesRead, references-from}
 use Rattle.steps_laws.proofs.Items.{ItemRead, item-read, items-from}

@@ -1,11 +1,11 @@
--- `step_items::binding` meets its contract. Assumes nothing.
+-- `step_bindings::binding` meets its contract. Assumes nothing.
 use mathlib.Core.Path.{refl}
 use borrow.Author.Tests.{eq-eqb, ne-eqb}
 use Rattle.matching.specs.Matching.{bindingOf}
-use Rattle.step_items.specs.StepItems.{binding}
+use Rattle.step_bindings.specs.StepBindings.{binding}
 use borrow.Author.Needs.{needs}
-use Rattle.step_items.proofs.binding.Statement.{statement}
-use Rattle.step_items.proofs.binding.Tie as tie
+use Rattle.step_bindings.proofs.binding.Statement.{statement}
+use Rattle.step_bindings.proofs.binding.Tie as tie
 
 returns : tie.Need-returns
 unfolding binding bindingOf
