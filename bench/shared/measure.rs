@@ -42,8 +42,7 @@ struct Timespec {
 unsafe extern "C" {
     fn clock_gettime(clock: i32, time: *mut Timespec) -> i32;
     // A slice is lent as its pointer and its length.
-    #[rustfmt::skip]
-    fn bench_clear(a: *mut u32, a_words: usize, b: *mut u32, b_words: usize, c: *mut u32, c_words: usize, d: *mut u32, d_words: usize);
+    fn clear_words(s: *mut u32, len: usize, n: usize);
 }
 
 pub fn areas() -> Areas {
@@ -52,8 +51,9 @@ pub fn areas() -> Areas {
 
 /// The port's clearing at the end of a call, alone.
 pub fn clear(areas: &mut Areas) {
-    let [a, b, c, d] = black_box(areas).each_mut().map(|w| w.as_mut_ptr());
-    unsafe { bench_clear(a, AREA, b, AREA, c, AREA, d, AREA) }
+    for area in black_box(areas) {
+        unsafe { clear_words(area.as_mut_ptr(), AREA, AREA) }
+    }
 }
 
 /// The same bytes by `memset`.

@@ -37,6 +37,7 @@ impl Run {
             Mode::Repeat { rust, load: wanted } => {
                 if load.starts_with(wanted.as_str()) {
                     let work = whole();
+                    let answer = work.answer(&mut self.areas);
                     let (start, rust, mut turns) = (now(), *rust, 0);
                     while now() - start < 3e6 {
                         if rust {
@@ -46,7 +47,7 @@ impl Run {
                         }
                         turns += 1;
                     }
-                    println!("{load}: {turns} calls, {:.2} us each", (now() - start) / f64::from(turns));
+                    println!("{load}: answer {answer}, {turns} calls, {:.2} us each", (now() - start) / f64::from(turns));
                 }
                 false
             }

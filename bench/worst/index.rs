@@ -111,12 +111,12 @@ pub fn loads(run: &mut Run) {
     let hostile = hostile();
     run.worst(
         "nodes in one run of the index, the last asked for",
-        "a request looks at no more than 2,048 places and an atom takes 2 bytes of 40,960: below 42 million places",
+        "a request looks at no more than 2,049 places and an atom takes 2 bytes of 40,960: below 42 million places",
         |q| hostile.asked_again(q),
     );
     run.worst(
         "the same by 8 steps of a rule of most nodes",
-        "below 9.6 million requests (steps by a rule of most nodes) of 2,048 places each: below 20,000 million places",
+        "below 9.6 million requests (steps by a rule of most nodes) of 2,049 places each: below 20,000 million places",
         |q| hostile.built_again(2 * q),
     );
     // This takes too long to be measured in every run.

@@ -99,6 +99,19 @@ fn steps_by_a_large_rule(quarters: usize, premise: bool) -> Release {
     Release::new(rulebook, GOALS, as_many(part(LONGEST_CERTIFICATE, quarters), &format!("{CERTIFICATE}{fact}"), form))
 }
 
+/// A rule whose conclusion has as many nodes with a variable as fit, and steps by it from two facts in turns.
+fn steps_by_a_large_open_rule(quarters: usize) -> Release {
+    const WIDTH: usize = 40;
+    let facts = "(ctor c()t)(ctor f(t)t)(pred h(t))(rule l()(h a))(rule m()(h c))";
+    let start = format!("{START}{facts}{}{}", declared("ctor w", WIDTH, "t"), declared("pred p", WIDTH, ""));
+    let term = format!("(w{})", "(f ?x)".repeat(WIDTH));
+    let with = |terms: usize| format!("{start}(rule r((h ?x))(p{}{}))", term.repeat(terms), " a".repeat(WIDTH - terms));
+    let rulebook = (0..=WIDTH).rev().map(with).find(|r| r.len() <= part(LONGEST_RULEBOOK, quarters)).expect("a rulebook that fits");
+    let form = |n: usize| format!("(step {} r({}))", n + 3, 1 + n % 2);
+    let certificate = as_many(part(LONGEST_CERTIFICATE, quarters), &format!("{CERTIFICATE}(step 1 l())(step 2 m())"), form);
+    Release::new(rulebook, GOALS, certificate)
+}
+
 /// A rule of as many premises as fit, and steps by it.
 fn most_premises(quarters: usize) -> Release {
     let premises = (part(LONGEST_RULEBOOK, quarters) - START.len() - 20) / 3;
@@ -135,7 +148,7 @@ fn blanks(quarters: usize) -> Release {
 pub fn loads(run: &mut Run) {
     run.worst(
         "variables of one rule",
-        "v variables take 4v bytes, so v is below 2,048; each is looked for among those before it: v(v-1)/2, below 2.1 million comparisons",
+        "all but some hundred variables take 4 bytes, so v is below 2,100; each is looked for among those before it: v(v-1)/2, below 2.2 million comparisons",
         most_variables,
     );
     run.worst(
@@ -145,7 +158,7 @@ pub fn loads(run: &mut Run) {
     );
     run.worst(
         "variables bound again and again",
-        "a binding takes 6 bytes, so there are below 5,462; each looks at most at 2,048 variables: below 11.2 million comparisons",
+        "a binding takes 6 bytes, so there are below 5,462; each looks at fewer than 2,100 variables: below 11.5 million comparisons",
         bound_again,
     );
     run.worst(
@@ -160,7 +173,7 @@ pub fn loads(run: &mut Run) {
     );
     run.worst(
         "abbreviations in one bucket, long common prefixes",
-        "with names of l bytes a comparison looks at l bytes and both counts fall with l: below 2 to the 28 over l bytes looked at",
+        "with names of l bytes there are up to 32,768/l, each looked for among those before it: below 2 to the 29 over l bytes looked at",
         |q| abbreviations_in_one_bucket(q, "abcdefghijklmnopqrstuvwxyz"),
     );
     run.worst(
@@ -174,6 +187,11 @@ pub fn loads(run: &mut Run) {
         |q| steps_by_a_large_rule(q, false),
     );
     run.worst("steps by a rule of most nodes, matched", "the same product: below 9.6 million nodes matched", |q| steps_by_a_large_rule(q, true));
+    run.worst(
+        "steps by a rule of most nodes with a variable",
+        "a step takes 15 bytes and a node with a variable 6: below 2,185 steps of below 1,366 nodes, below 3.0 million requests to the store",
+        steps_by_a_large_open_rule,
+    );
     run.worst("most premises", "a premise takes 3 bytes and its reference 2: each reference is matched once, linear", most_premises);
     run.worst("bad references", "each is read once, linear", bad_references);
     run.worst("deepest terms in rulebook and certificate", "256 levels are a frame each, each token is read once, linear", deep);
