@@ -35,6 +35,13 @@ mod worst;
 
 use run::{Mode, Run};
 
+// So many bytes before the code of both sides: where code stands moves some loads by a third, so each run is built with another number.
+std::arch::global_asm!(concat!(".section .text.bench_pad,\"ax\",@progbits\n.globl bench_pad\nbench_pad: .skip ", env!("BENCH_PAD"), "\n.text"));
+
+unsafe extern "C" {
+    static bench_pad: u8;
+}
+
 fn main() {
     let words: Vec<String> = std::env::args().skip(1).collect();
     let words: Vec<&str> = words.iter().map(String::as_str).collect();
@@ -46,6 +53,7 @@ fn main() {
         ["repeat", side, load] => Mode::Repeat { rust: side == "rust", load: load.into() },
         _ => panic!("see bench/run"),
     };
+    std::hint::black_box(&raw const bench_pad);
     let run = &mut Run::new(mode);
     lexing::loads(run);
     arena::loads(run);
