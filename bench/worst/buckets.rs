@@ -1,0 +1,27 @@
+//! Names that fall into one bucket of a table of names: the hash of crate `names`, h * 31 + byte.
+use crate::texts::DIGITS;
+
+/// Buckets of each kind of a rulebook's names (crate `items`), and of goals and abbreviations (crate `tables`).
+pub const SYMBOLS: u32 = 256;
+pub const ABBREVIATIONS: u32 = 128;
+
+fn bucket(name: &str, buckets: u32) -> u32 {
+    name.bytes().fold(0u32, |h, b| h.wrapping_mul(31).wrapping_add(b.into())) % buckets
+}
+
+/// Other names in the bucket of `name`: a prefix and three bytes each.
+pub fn mates(name: &str, prefix: &str, buckets: u32) -> Vec<String> {
+    let wanted = bucket(name, buckets);
+    let mut out = Vec::new();
+    for a in DIGITS {
+        for b in DIGITS {
+            for c in DIGITS {
+                let other = format!("{prefix}{}{}{}", *a as char, *b as char, *c as char);
+                if other != name && bucket(&other, buckets) == wanted {
+                    out.push(other);
+                }
+            }
+        }
+    }
+    out
+}
