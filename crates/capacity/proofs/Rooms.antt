@@ -83,7 +83,7 @@ pub roomy-01 : Roomy 256 (document01 .goalsBytes) (document01 .certificateBytes)
 unfolding document01
 roomy-01 = record { fits = omega arith }
 
-pub roomy-large : Roomy (128 + 65536) 8192 2097152 2097152
+pub roomy-large : Roomy (64 + 65536) 8192 2097152 2097152
 roomy-large = record { fits = omega arith }
 
 pub stack-large : 2097152 ≤ 2 * 2097152

@@ -22,6 +22,7 @@ pub fn lend(reader: Reader) -> [usize; 5]
     }
 }
 
+// The reader that the words stand for.
 pub fn reader_in(r: &[usize; 5]) -> Reader
     ensures { λ a. ⌜ a ≡ readerIn (now (r .entry)) ⌝ }
 {

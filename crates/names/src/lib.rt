@@ -32,11 +32,14 @@ fn bucket(buckets: u32, count: u32, name: &[u8]) -> usize
         return first;
     }
     let h = hash(name);
-    if count == 128 {
-        return first + (h % 128) as usize;
-    }
     if count == 256 {
         return first + (h % 256) as usize;
+    }
+    if count == 192 {
+        return first + (h % 192) as usize;
+    }
+    if count == 64 {
+        return first + (h % 64) as usize;
     }
     first + (h % count as u64) as usize
 }

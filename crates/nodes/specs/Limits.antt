@@ -11,6 +11,6 @@ wordLimit = 8192
 abbrev pub indexPlaces : ℕ
 indexPlaces = 4096
 
--- Buckets of abbreviations.
+-- Buckets of abbreviations: with those of goals as many as the table has room for (crate capacity).
 abbrev pub defBuckets : ℕ
-defBuckets = 128
+defBuckets = 192

@@ -7,5 +7,5 @@ pub const WORDS: u32 = 8192;
 
 pub const PLACES: u32 = 4096;
 
-// Buckets of abbreviations.
-pub const DEF_BUCKETS: u32 = 128;
+// Buckets of abbreviations: with those of goals as many as the table has room for (crate capacity).
+pub const DEF_BUCKETS: u32 = 192;

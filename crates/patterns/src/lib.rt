@@ -50,6 +50,7 @@ fn lent_walk(place: &[usize; 5], tally: &[u32; 3]) -> Walk
     }
 }
 
+// Where a walk stands, into the words that are lent for it.
 fn keep(place: &mut [usize; 5], tally: &mut [u32; 3], w: Walk)
     ensures { λ _. ⌜ lentWalk (now (place .exit)) (now (tally .exit)) ≡ w ⌝ }
 {
@@ -57,6 +58,7 @@ fn keep(place: &mut [usize; 5], tally: &mut [u32; 3], w: Walk)
     *tally = [w.opened, w.top, w.variables];
 }
 
+// The same of what an atom or a closing answers.
 fn keep_whole(place: &mut [usize; 5], tally: &mut [u32; 3], w: Walked) -> Taken
     ensures { λ r. ⌜ takenPart r (now (place .exit)) (now (tally .exit)) ≡ mapped whole (walked w) ⌝ }
 {
@@ -69,6 +71,7 @@ fn keep_whole(place: &mut [usize; 5], tally: &mut [u32; 3], w: Walked) -> Taken
     }
 }
 
+// The same of a list's head, which stays in the answer.
 fn keep_head(place: &mut [usize; 5], tally: &mut [u32; 3], h: Numbered) -> Taken
     ensures { λ r. ⌜ takenPart r (now (place .exit)) (now (tally .exit)) ≡ mapped head (numbered h) ⌝ }
 {
@@ -118,6 +121,7 @@ fn take(
     }
 }
 
+// What the closing of a list answers to its caller.
 fn ended(t: Taken) -> Done
     ensures { λ r. ⌜ ((p q : List ℕ) → done r p q ≡ mapped after (takenPart t p q)) ⌝ }
 {

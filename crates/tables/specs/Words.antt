@@ -15,7 +15,7 @@ use Rattle.tables.specs.declared.Kept.the-variants as kept
 
 -- Buckets of goals; those of abbreviations stand behind them.
 abbrev pub goalBuckets : ℕ
-goalBuckets = 128
+goalBuckets = 64
 
 -- What the cases of an answer say: a word, or that there is none;
 abbrev pub told : Kept → Option ℕ

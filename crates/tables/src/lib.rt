@@ -1,4 +1,4 @@
-// The goals, abbreviations and steps of a release in one lent area, and how many there are. Words 0 to 127 are buckets of goals, from 128
+// The goals, abbreviations and steps of a release in one lent area, and how many there are. Words 0 to 63 are buckets of goals, from 64
 // on stand `buckets` buckets of abbreviations, then entries of 4 words, first all goals, then abbreviations: three as crate `names` has
 // them, and a value. Of an abbreviation that is its term's number, of a goal its judgment's number plus 1, or 0 once it is closed. Steps
 // stand downward from the end of the area, 3 words each: judgment, rule, and the place of its references in the certificate.
@@ -32,7 +32,7 @@ pub enum Kept {
 }
 
 // Buckets of goals; those of abbreviations stand behind them.
-pub const GOAL_BUCKETS: u32 = 128;
+pub const GOAL_BUCKETS: u32 = 64;
 
 // No goal, no abbreviation, no step: zero buckets.
 pub fn begin(table: &mut [u32], buckets: u32) -> Tally
