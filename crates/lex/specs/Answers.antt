@@ -30,8 +30,38 @@ answer (Got t r) = token t r
 answer End = ended
 answer Bad = refused (number notUtf8)
 
+-- What a reader looked at, by its words: 0 is nothing, 1 an opening, 2 a closing, all else an atom with its bounds.
+abbrev pub ahead : Reader → Ahead
+ahead r =
+    elim (eqb (r .held) 0) [
+      | true ↦ Nothing
+      | false ↦ elim (eqb (r .held) 1) [
+        | true ↦ Held Opening
+        | false ↦ elim (eqb (r .held) 2) [ true ↦ Held Closing | false ↦ Held (Atom (r .from) (r .to)) ]
+      ]
+    ]
+
+abbrev pub heldWord : Ahead → ℕ
+heldWord Nothing = 0
+heldWord (Held Opening) = 1
+heldWord (Held Closing) = 2
+heldWord (Held (Atom s t)) = 3
+
+abbrev pub fromWord : Ahead → ℕ
+fromWord Nothing = 0
+fromWord (Held Opening) = 0
+fromWord (Held Closing) = 0
+fromWord (Held (Atom s t)) = s
+
+abbrev pub toWord : Ahead → ℕ
+toWord Nothing = 0
+toWord (Held Opening) = 0
+toWord (Held Closing) = 0
+toWord (Held (Atom s t)) = t
+
+-- A reader at a place, in a line that is tested up to `end`, that looked at this.
 abbrev pub after : ℕ → ℕ → Ahead → Reader
-after at end ahead = record { at = at; end = end; ahead = ahead }
+after at end a = record { at = at; end = end; held = heldWord a; from = fromWord a; to = toWord a }
 
 -- The token at a place where a character stands that is neither white nor `;`.
 unfoldable pub tokenAt : List ℕ → ℕ → ℕ → Answer
@@ -82,10 +112,10 @@ takenBy text r Nothing = scanned (suc (length text)) text (r .end) (r .at)
 
 -- What a look at the next token answers, and what taking it answers.
 unfoldable pub peeked : List ℕ → Reader → Answer
-peeked text r = peekedBy text r (r .ahead)
+peeked text r = peekedBy text r (ahead r)
 
 unfoldable pub taken : List ℕ → Reader → Answer
-taken text r = takenBy text r (r .ahead)
+taken text r = takenBy text r (ahead r)
 
 -- The reader before a text's first token.
 unfoldable pub start : Reader

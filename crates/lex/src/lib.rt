@@ -3,7 +3,8 @@ ghost use mathlib.Core.Path.{_≡_};
 ghost use Prim.Native.Nat.{suc, _≤_, _<_};
 ghost use lib.ListN.{length};
 ghost use Rattle.lex.specs.Scan.{stopped, blanks, atomEnd, lineEnd};
-ghost use Rattle.lex.specs.Answers.{answer, tokenAt, scanned, peeked, taken, start};
+ghost use Rattle.lex.specs.declared.Ahead.the-variants.{Held};
+ghost use Rattle.lex.specs.Answers.{answer, ahead, after, tokenAt, scanned, peeked, taken, start};
 use utf8::classes;
 
 pub mod lent;
@@ -21,11 +22,15 @@ pub enum Ahead {
     Held(Token),
 }
 
-// Where the reader stands, up to where the text is tested, and the token that it looked at.
+// Where the reader stands, up to where the text is tested, and the token that it looked at, in words: 0 for none, 1 for an opening, 2 for a
+// closing, 3 for an atom with its bounds. A reader goes by value through all that is read: of words alone it is copied in registers, where
+// an enum within it is copied through memory, by bytes, and each copy waits for the stores before it.
 pub struct Reader {
     pub at: usize,
     pub end: usize,
-    pub ahead: Ahead,
+    pub held: usize,
+    pub from: usize,
+    pub to: usize,
 }
 
 // A token with the reader after it; the end of the text; a line that is not UTF-8.
@@ -156,7 +161,9 @@ fn token_at(text: &[u8], end: usize, p: usize) -> Read
             Reader {
                 at: q,
                 end,
-                ahead: Ahead::Nothing,
+                held: 0,
+                from: 0,
+                to: 0,
             },
         );
     }
@@ -166,7 +173,9 @@ fn token_at(text: &[u8], end: usize, p: usize) -> Read
             Reader {
                 at: p + width,
                 end,
-                ahead: Ahead::Nothing,
+                held: 0,
+                from: 0,
+                to: 0,
             },
         );
     }
@@ -176,7 +185,9 @@ fn token_at(text: &[u8], end: usize, p: usize) -> Read
             Reader {
                 at: p + width,
                 end,
-                ahead: Ahead::Nothing,
+                held: 0,
+                from: 0,
+                to: 0,
             },
         );
     }
@@ -211,7 +222,54 @@ impl Reader {
         Reader {
             at: 0,
             end: 0,
-            ahead: Ahead::Nothing,
+            held: 0,
+            from: 0,
+            to: 0,
+        }
+    }
+
+    // The token that it looked at.
+    fn ahead(self) -> Ahead
+        ensures { λ r. ⌜ r ≡ ahead self ⌝ }
+    {
+        if self.held == 0 {
+            return Ahead::Nothing;
+        }
+        if self.held == 1 {
+            return Ahead::Held(Token::Opening);
+        }
+        if self.held == 2 {
+            return Ahead::Held(Token::Closing);
+        }
+        Ahead::Held(Token::Atom(self.from, self.to))
+    }
+
+    // A reader that looked at this token.
+    fn holding(at: usize, end: usize, token: Token) -> Self
+        ensures { λ r. ⌜ r ≡ after at end (Held token) ⌝ }
+    {
+        match token {
+            Token::Opening => Reader {
+                at,
+                end,
+                held: 1,
+                from: 0,
+                to: 0,
+            },
+            Token::Closing => Reader {
+                at,
+                end,
+                held: 2,
+                from: 0,
+                to: 0,
+            },
+            Token::Atom(from, to) => Reader {
+                at,
+                end,
+                held: 3,
+                from,
+                to,
+            },
         }
     }
 
@@ -219,22 +277,13 @@ impl Reader {
     pub fn peek(self, text: &[u8]) -> Read
         ensures { λ r. ⌜ answer r ≡ peeked (now (text .entry)) self ⌝ }
     {
-        let ahead = self.ahead;
+        let ahead = self.ahead();
         if let Ahead::Held(t) = ahead {
             return Read::Got(t, self);
         }
-        let at = self.at;
-        let end = self.end;
-        let read = scan(text, end, at);
+        let read = scan(text, self.end, self.at);
         match read {
-            Read::Got(t, r) => Read::Got(
-                t,
-                Reader {
-                    at: r.at,
-                    end: r.end,
-                    ahead: Ahead::Held(t),
-                },
-            ),
+            Read::Got(t, r) => Read::Got(t, Reader::holding(r.at, r.end, t)),
             Read::End => Read::End,
             Read::Bad => Read::Bad,
         }
@@ -244,7 +293,7 @@ impl Reader {
     pub fn token(self, text: &[u8]) -> Read
         ensures { λ r. ⌜ answer r ≡ taken (now (text .entry)) self ⌝ }
     {
-        let ahead = self.ahead;
+        let ahead = self.ahead();
         let at = self.at;
         let end = self.end;
         if let Ahead::Held(t) = ahead {
@@ -253,7 +302,9 @@ impl Reader {
                 Reader {
                     at,
                     end,
-                    ahead: Ahead::Nothing,
+                    held: 0,
+                    from: 0,
+                    to: 0,
                 },
             );
         }

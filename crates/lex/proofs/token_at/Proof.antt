@@ -11,15 +11,15 @@ returns : tie.Need-returns
 unfolding answer
 returns c = at-atom (c .before .before .before .before .args .text .now) (c .before .before .before .before .args .end) (c .before .before .before .before .args .p) (c .before .before .look .result .kind) (c .before .before .look .ensures .0) (c .atom-end .result) (c .before .if1 .taken) (c .atom-end .ensures)
 
-add-t13 : tie.Need-add-t13
-add-t13 c = let s = kind-steps (c .before .before .before .before .args .text .now) (c .before .before .before .before .args .p) (c .before .before .look .result .width) (c .before .before .look .ensures .1) (c .before .before .look .result .kind) (c .before .before .look .ensures .0) (λ z. omega (arith, z, c .if2 .taken)) in record { fits = omega arith }
+add-t12 : tie.Need-add-t12
+add-t12 c = let s = kind-steps (c .before .before .before .before .args .text .now) (c .before .before .before .before .args .p) (c .before .before .look .result .width) (c .before .before .look .ensures .1) (c .before .before .look .result .kind) (c .before .before .look .ensures .0) (λ z. omega (arith, z, c .if2 .taken)) in record { fits = omega arith }
 
 returns-2 : tie.Need-returns-2
 unfolding answer
 returns-2 c = at-opening (c .before .before .before .before .args .text .now) (c .before .before .before .before .args .end) (c .before .before .before .before .args .p) (c .before .before .look .result .kind) (c .before .before .look .ensures .0) (c .before .before .look .result .width) (c .before .before .look .ensures .1) (c .if2 .taken)
 
-add-t17 : tie.Need-add-t17
-add-t17 c = let s = kind-steps (c .before .before .before .before .before .args .text .now) (c .before .before .before .before .before .args .p) (c .before .before .before .look .result .width) (c .before .before .before .look .ensures .1) (c .before .before .before .look .result .kind) (c .before .before .before .look .ensures .0) (λ z. omega (arith, z, c .if3 .taken)) in record { fits = omega arith }
+add-t15 : tie.Need-add-t15
+add-t15 c = let s = kind-steps (c .before .before .before .before .before .args .text .now) (c .before .before .before .before .before .args .p) (c .before .before .before .look .result .width) (c .before .before .before .look .ensures .1) (c .before .before .before .look .result .kind) (c .before .before .before .look .ensures .0) (λ z. omega (arith, z, c .if3 .taken)) in record { fits = omega arith }
 
 returns-3 : tie.Need-returns-3
 unfolding answer
@@ -30,4 +30,4 @@ unfolding answer
 returns-4 c = at-none (c .before .before .before .before .before .args .text .now) (c .before .before .before .before .before .args .end) (c .before .before .before .before .before .args .p) (c .before .before .before .look .result .kind) (c .before .before .before .look .ensures .0) (c .before .before .if1 .left) (c .before .if2 .left) (c .if3 .left)
 
 pub token-at-spec : {M : Type 1} → statement M
-token-at-spec = tie.close (tie.spec (λ c κs. tt) (λ c κs. tt) returns add-t13 returns-2 add-t17 returns-3 returns-4)
+token-at-spec = tie.close (tie.spec (λ c κs. tt) (λ c κs. tt) returns add-t12 returns-2 add-t15 returns-3 returns-4)
