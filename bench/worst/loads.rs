@@ -2,7 +2,7 @@
 use crate::calls::{LONGEST_CERTIFICATE, LONGEST_GOALS, LONGEST_RULEBOOK, Release, Rulebook};
 use crate::run::Run;
 use crate::texts::{BENCH, BENCH_GOALS, applied, as_many, declared, name, numeral};
-use crate::worst::buckets::{ABBREVIATIONS, SYMBOLS, mates};
+use crate::worst::buckets::{self, ABBREVIATIONS, SYMBOLS, mates};
 use crate::worst::index;
 
 /// What rulebooks begin with whose certificates need one goal.
@@ -76,7 +76,7 @@ fn abbreviations_in_one_bucket(quarters: usize, prefix: &str) -> Release {
 
 /// As many goals as fit, all in one bucket, and their results, the oldest first.
 fn goals_in_one_bucket(quarters: usize) -> Release {
-    let others = mates("a", "", ABBREVIATIONS);
+    let others = mates("a", "", buckets::GOALS);
     let goals = as_many(part(LONGEST_GOALS, quarters), "", |n| format!("(goal {}(q))", others[n]));
     let count = goals.matches("(goal").count();
     let results: String = (0..count).map(|n| format!("(result {} 0)", others[n])).collect();
