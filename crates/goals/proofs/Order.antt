@@ -11,7 +11,7 @@ use Rattle.outcomes.specs.Leaving.{Did, _leaving_, _>>=_}
 use Rattle.tables.specs.declared.Tally.{Tally}
 use Rattle.tables.specs.Words.{goalFound, goalAdded, goalCounted}
 use Rattle.asking.specs.Asking.{inForm, closingDue}
-use Rattle.terms.specs.Terms.{judgment}
+use Rattle.judgments.specs.Judgments.{judgment}
 use Rattle.goals.specs.Goals.{Gathered, goalName, goal}
 
 module _ (text : List ℕ) (tally : Tally) (s t k : ℕ) (store stack table : List ℕ) where

@@ -16,7 +16,7 @@ use Rattle.theory_reading.specs.Storing.{Areas, before}
 use Rattle.tables.specs.declared.Tally.{Tally}
 use Rattle.tables.specs.Words.{goalFound, goalAdded, goalCounted}
 use Rattle.asking.specs.Asking.{inForm, Top, over, form, atomDue, closingDue, formDue}
-use Rattle.terms.specs.Terms.{judgment}
+use Rattle.judgments.specs.Judgments.{judgment}
 use Rattle.goals.specs.declared.Form.{Form}
 use Rattle.goals.specs.declared.Form.the-variants as forms
 use Rattle.goals.specs.declared.Forms.{Forms}

@@ -85,7 +85,7 @@ pub fn goal(
     let Named::Atom(s, t, q) = n else {
         return Form::Refused(asking::named_refusal(n));
     };
-    let j = terms::judgment(
+    let j = judgments::judgment(
         text,
         rules,
         heap,

@@ -1,4 +1,5 @@
-// Either call over lent areas that held other words, whether the areas are afterwards as the paper says, and how programs write answers.
+// Either call over lent areas that held other words, and whether the areas are afterwards as the paper says.
+use answers::Answer;
 
 // What the areas hold before a call: word i is first + i * step, in 32 bits.
 pub struct Before {
@@ -17,15 +18,6 @@ pub fn garbage() -> Before {
 // Ones.
 pub fn ones() -> Before {
     Before { first: 1, step: 0 }
-}
-
-// A report of either call, or one that is stated.
-pub struct Answer {
-    pub number: u32,
-    pub first: u32,
-    pub second: u32,
-    pub third: u32,
-    pub fourth: u32,
 }
 
 // How many words of each area are lent.
@@ -58,20 +50,9 @@ fn release_answer(r: reports::Report) -> Answer {
     }
 }
 
-// How many words of each area are 0 after an answer.
-fn cleared(number: u32) -> usize {
-    if number == 1 {
-        return 0;
-    }
-    if number == 2 {
-        return 0;
-    }
-    16384
-}
-
 // The answer, or 99 where the areas are not as they must be afterwards.
 fn with_areas(p: Before, x: Answer, a: &[u32], b: &[u32], c: &[u32], d: &[u32]) -> Answer {
-    if areas::all_hold(cleared(x.number), p.first, p.step, a, b, c, d) {
+    if areas::all_hold(answers::cleared(x.number), p.first, p.step, a, b, c, d) {
         return x;
     }
     io::write_all(1, b"areas wrong\n");
@@ -186,102 +167,4 @@ pub fn answered(
         &mut c,
         &mut d,
     )
-}
-
-// Whether two answers are equal.
-pub fn same(x: Answer, y: Answer) -> bool {
-    if x.number != y.number {
-        return false;
-    }
-    if x.first != y.first {
-        return false;
-    }
-    if x.second != y.second {
-        return false;
-    }
-    if x.third != y.third {
-        return false;
-    }
-    x.fourth == y.fourth
-}
-
-// Writes a number behind a space.
-pub fn number(n: u32) {
-    io::write_all(1, b" ");
-    io::print_decimal(1, n as u64);
-}
-
-// Writes an answer.
-pub fn show(x: Answer) {
-    number(x.number);
-    number(x.first);
-    number(x.second);
-    number(x.third);
-    number(x.fourth);
-}
-
-// Writes what an example answers, and what it did to the areas.
-pub fn show_example(label: &[u8], x: Answer) {
-    io::write_all(1, label);
-    io::write_all(1, b":");
-    show(x);
-    if cleared(x.number) == 0 {
-        io::write_all(1, b" untouched\n");
-        return;
-    }
-    io::write_all(1, b" cleared\n");
-}
-
-// What became of a kept case.
-pub enum Case {
-    End,
-    Agrees,
-    Differs,
-}
-
-// The answer of a kept case beside the one that is kept. Where they differ, it says so.
-pub fn compare(label: &[u8], kept: Answer, x: Answer) -> Case {
-    if same(kept, x) {
-        return Case::Agrees;
-    }
-    io::write_all(1, label);
-    io::write_all(1, b": kept");
-    show(kept);
-    io::write_all(1, b", answered");
-    show(x);
-    io::write_all(1, b"\n");
-    Case::Differs
-}
-
-// How many cases there were, and how many of them differed.
-pub struct Tally {
-    pub cases: u32,
-    pub differences: u32,
-}
-
-impl Tally {
-    // None yet.
-    pub fn new() -> Tally {
-        Tally {
-            cases: 0,
-            differences: 0,
-        }
-    }
-
-    // One case more.
-    pub fn and(self, different: u32) -> Tally {
-        Tally {
-            cases: std::num::wrapping_add_u32(self.cases, 1),
-            differences: std::num::wrapping_add_u32(self.differences, different),
-        }
-    }
-}
-
-// Writes the counts.
-pub fn finish(t: Tally) {
-    io::write_all(1, b"cases");
-    number(t.cases);
-    io::write_all(1, b"\ndifferences");
-    number(t.differences);
-    io::write_all(1, b"\n");
 }

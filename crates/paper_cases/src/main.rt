@@ -1,11 +1,11 @@
 // Runs both calls on the cases of the paper, docs/paper/cases.txt (docs/paper/cases.md has its form), over areas that held other words,
 // and compares number, counts and areas with what the paper states. That list is this program's own data, so that neither can differ
 // from the other.
-use lent_calls::Answer;
+use answers::Answer;
+use answers::number;
+use answers::same;
+use answers::show;
 use lent_calls::Lengths;
-use lent_calls::number;
-use lent_calls::same;
-use lent_calls::show;
 
 // The case at hand: the lengths of its three texts and of its four areas; and what was counted so far.
 struct State {

@@ -10,7 +10,7 @@ use Rattle.outcomes.specs.Leaving.{Did, _leaving_, _>>=_}
 use Rattle.items.specs.Items.{question}
 use Rattle.theory_reading.specs.Storing.{before}
 use Rattle.asking.specs.Asking.{inForm, Ahead, closing, member, atomDue, listDue, closingNext}
-use Rattle.terms.specs.Terms.{headedJudgment}
+use Rattle.judgments.specs.Judgments.{headedJudgment}
 use Rattle.step_bindings.specs.StepBindings.{Worked, binding}
 
 -- "Otherwise a judgment; a second, once read, is 22." Its head was asked for. A stated conclusion is kept as its number plus 1.

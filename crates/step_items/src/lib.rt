@@ -27,7 +27,7 @@ pub fn stated(
         ≡ models.stated (now (text .entry)) (now (rules .entry)) (now (table .entry)) top word s t reader (now (store .entry)) (now (stack .entry))
         (now (heap .entry)) ⌝ }
 {
-    let j = terms::headed_judgment(
+    let j = judgments::headed_judgment(
         text,
         rules,
         heap,

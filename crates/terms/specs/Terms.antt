@@ -1,4 +1,4 @@
--- Terms and judgments that are read: what each function answers, and what it leaves of the store and of the stack.
+-- Terms that are read: what each function answers, and what it leaves of the store and of the stack.
 use Prim.Native.Nat.{ℕ, zero, suc, _+_}
 use mathlib.Core.Bool.{not}
 use mathlib.Core.List.{List}
@@ -9,8 +9,8 @@ use Rattle.lex.specs.declared.Reader.{Reader}
 use Rattle.outcomes.specs.Outcomes.{ok, refused, need}
 use Rattle.outcomes.specs.Leaving.{Did, _leaving_, _>>=_}
 use Rattle.theory_reading.specs.Storing.{Areas}
-use Rattle.asking.specs.Asking.{Met, atom, list, Ahead, closing, member, itemDue, atomDue, listDue, closingNext}
-use Rattle.nodes.specs.Nodes.{make, predicateDue, atomTerm, headDue}
+use Rattle.asking.specs.Asking.{Met, atom, list, Ahead, closing, member, itemDue, closingNext}
+use Rattle.nodes.specs.Nodes.{make, atomTerm, headDue}
 
 -- What reads a term on top of the stack.
 abbrev pub Reading : Type 0
@@ -50,18 +50,3 @@ term (suc left) text rules heap table top r store stack = do
 unfoldable pub arguments : ℕ → List ℕ → List ℕ → List ℕ → List ℕ → ℕ → Reader → List ℕ → List ℕ → Did Areas (ℕ × Reader)
 arguments left text rules heap table top r store stack =
     argumentsFrom (term left text rules heap table) (length text + 1) text top 0 r store stack
-
--- "Judgment: list, head a predicate (12), arguments, 15, store." Here its head was asked for.
-unfoldable pub headedJudgment : ℕ → List ℕ → List ℕ → List ℕ → List ℕ → ℕ → ℕ → ℕ → Reader → List ℕ → List ℕ → Did Areas (ℕ × Reader)
-headedJudgment left text rules heap table top s t r store stack = do
-  ((c, r), (store, stack)) ← predicateDue text rules heap s t r leaving (store, stack)
-  ((n, r), (store, stack)) ← arguments left text rules heap table (sum32 top 1) r store stack
-  make heap c top n r store stack
-
--- A judgment, asked for with that much depth left.
-unfoldable pub judgment : ℕ → List ℕ → List ℕ → List ℕ → List ℕ → ℕ → Reader → List ℕ → List ℕ → Did Areas (ℕ × Reader)
-judgment zero text rules heap table top r store stack = refused 4 leaving (store, stack)
-judgment (suc left) text rules heap table top r store stack = do
-  (r, (store, stack)) ← listDue text (suc left) r leaving (store, stack)
-  ((s, t, r), (store, stack)) ← atomDue text left r leaving (store, stack)
-  headedJudgment left text rules heap table top s t r store stack

@@ -31,6 +31,7 @@ use Rattle.asking.specs.Asking.{Met, atomDue}
 use Rattle.asking_laws.proofs.Places.{RestComes, At, at-within}
 use Rattle.asking_laws.proofs.Asking.{ItemMet, item-law, WordMet, word-met, word-law, GroupMet, group-met, group-law}
 use Rattle.terms.specs.Terms as walk
+use Rattle.judgments.specs.Judgments as judgments
 use Rattle.theory_reading.specs.Storing.{Areas}
 use Rattle.nodes.specs.Nodes.{make}
 use Rattle.terms.specs.Terms.{termOf}
@@ -74,9 +75,9 @@ module _ (text : List ℕ) (table : List ℕ) {rules heap : List ℕ} {es : Entr
   pub headed-law : (left depth top spent s t : ℕ) {name : Name} (K : Stream Token → Type 0) (rest : Items) (ts : List Term) (r : Reader) (store stack : List ℕ)
       → depth + left ≡ 257 → part s t text ≡ name → 2 * top ≤ spent
       → Ready es th text ts₀ (RestComes rest K) (top + 1) (spent + 2) ts r store stack
-      → Simulates (TermRead es th (At text K (spent + 2)) top stack ts) (walk.headedJudgment left text rules heap table top s t r store stack)
+      → Simulates (TermRead es th (At text K (spent + 2)) top stack ts) (judgments.headedJudgment left text rules heap table top s t r store stack)
       (definition.headedJudgment document01 th defs depth name rest ts)
-  unfolding walk.headedJudgment walk.arguments definition.headedJudgment definition._>>=_ definition.lift
+  unfolding judgments.headedJudgment walk.arguments definition.headedJudgment definition._>>=_ definition.lift
   headed-law left depth top spent s t K rest ts r store stack e n l ready =
       lifted ts _ _ (predicate-law text table h defs ts₀ abbreviations (At text (RestComes rest K) (spent + 2)) s t r n (ready .reader))
       (λ x d m. by x d m) where
@@ -98,14 +99,14 @@ module _ (text : List ℕ) (table : List ℕ) {rules heap : List ℕ} {es : Entr
   pub judgment-law : (is : Items) (left depth top spent : ℕ) (K : Stream Token → Type 0) (ts : List Term) (r : Reader) (store stack : List ℕ)
       → depth + left ≡ 257
       → Ready es th text ts₀ (RestComes is K) top spent ts r store stack
-      → Simulates (AskedRead es th text K top spent stack ts) (walk.judgment left text rules heap table top r store stack)
+      → Simulates (AskedRead es th text K top spent stack ts) (judgments.judgment left text rules heap table top r store stack)
       (definition.askJudgment document01 th defs depth is ts)
-  unfolding walk.judgment definition.askJudgment definition._>>=_ definition.lift definition.give definition.askGroup refusals._>>=_ number AskedRead
+  unfolding judgments.judgment definition.askJudgment definition._>>=_ definition.lift definition.give definition.askGroup refusals._>>=_ number AskedRead
   judgment-law is zero depth top spent K ts r store stack e ready = rw (ask-no depth is e) (refuse refl)
   judgment-law is (suc l) depth top spent K ts r store stack e ready =
       lifted ts _ _ (group-law text K spent is (suc l) depth e (ready .reader)) (λ q g m. opened q g m) where
         headed : (rest : Items) (x : ℕ × ℕ × Reader) (y : Name × Items) → WordMet text (RestComes rest K) spent x y
-            → Simulates (AskedRead es th text K top spent stack ts) (walk.headedJudgment l text rules heap table top (x .0) (x .1) (x .2) store stack)
+            → Simulates (AskedRead es th text K top spent stack ts) (judgments.headedJudgment l text rules heap table top (x .0) (x .1) (x .2) store stack)
             (refusals._>>=_ {A = Term × List Term} (definition.headedJudgment document01 th defs (suc depth) (y .0) (y .1) ts)
             (λ p. refusals.ok ((p .0, rest), p .1)))
         headed rest x y (word-met {s} {t} {r = q} {rest = operands} n a b there) =
@@ -118,7 +119,7 @@ module _ (text : List ℕ) (table : List ℕ) {rules heap : List ℕ} {es : Entr
         opened : (q : Reader) (g : Items × Items) → GroupMet text K spent q g
             → Simulates (AskedRead es th text K top spent stack ts)
             (leaving._>>=_ (atomDue text l q leaving (store, stack))
-            (λ p. walk.headedJudgment l text rules heap table top (p .0 .0) (p .0 .1) (p .0 .2) (p .1 .0) (p .1 .1)))
+            (λ p. judgments.headedJudgment l text rules heap table top (p .0 .0) (p .0 .1) (p .0 .2) (p .1 .0) (p .1 .1)))
             (refusals._>>=_ {A = (Name × Items) × List Term} (refusals._>>=_ (definition.askWord (suc depth) (g .0)) (λ a. refusals.ok (a, ts)))
             (λ u. refusals._>>=_ {A = Term × List Term} (definition.headedJudgment document01 th defs (suc depth) (u .0 .0) (u .0 .1) (u .1))
             (λ p. refusals.ok ((p .0, g .1), p .1))))

@@ -20,6 +20,7 @@ use Rattle.tables.specs.Representation.{Tables}
 use Rattle.tables.proofs.Defs.{defs-elsewhere}
 use Rattle.asking_laws.proofs.Places.{RestComes, At}
 use Rattle.terms.specs.Terms as walk
+use Rattle.judgments.specs.Judgments as judgments
 use Rattle.nodes.specs.Limits.{indexPlaces, defBuckets}
 use Rattle.terms_laws.proofs.Reading.{Ready}
 use Rattle.terms_laws.proofs.Judgments.{AskedRead, ask-term-law, judgment-law}
@@ -42,7 +43,7 @@ module _ {rules heap : List ℕ} {es : Entries} {bound : ℕ} {th : Theory} (h :
     -- A judgment of the goals, where there is no abbreviation.
     pub goal-judgment : Tables goalsText certificate table defBuckets (Means es th ts) Recorded tally goals openGoals [] steps → length goalsText ≤ 32768
         → At goalsText (RestComes is K) spent r
-        → Simulates (AskedRead es th goalsText K top spent stack ts) (walk.judgment left goalsText rules heap table top r store stack)
+        → Simulates (AskedRead es th goalsText K top spent stack ts) (judgments.judgment left goalsText rules heap table top r store stack)
         (definition.askJudgment document01 th [] depth is ts)
     goal-judgment t short at-items =
         judgment-law goalsText table h [] ts (defs-elsewhere goalsText (t .def-part)) short is left depth top spent K ts r store stack deep
