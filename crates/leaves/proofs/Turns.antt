@@ -14,8 +14,9 @@ use Rattle.words.specs.Parts.{part, sameBytes}
 use Rattle.leaves.specs.Leaves.{nameOfVariable, variableFrom, metAgain}
 
 module _ (area text : List ℕ) (place : ℕ) (key : List ℕ) (n : ℕ) where
-  pub variable-first : variableFrom n area text place key 0 ≡ variableFrom (n - 0) area text place key 0
-  variable-first = let e : n - 0 ≡ n = omega arith in rw e
+  -- Before the first turn nothing is compared; the key is the name that was given.
+  pub variable-first : {name : List ℕ} → key ≡ name → variableFrom n area text place name 0 ≡ variableFrom (n - 0) area text place key 0
+  variable-first h = let e : n - 0 ≡ n = omega arith in rw (e, h)
 
   module _ (i : ℕ) where
     pub variable-here : i < n → sameBytes (nameOfVariable area text place i) key ≡ true → variableFrom (n - i) area text place key i ≡ some i

@@ -16,7 +16,7 @@ abbrev μ-loop : tie.MeasureT-loop
 μ-loop area place count text from start end key i₀ i = count - i
 
 loop-holds : tie.Need-loop-holds Inv-loop μ-loop
-loop-holds c = (search needs, rw (← c .bytes-part .ensures) (variable-first _ _ _ _ _))
+loop-holds c = (search needs, variable-first _ _ _ _ _ (c .bytes-part .ensures))
 
 returns : tie.Need-returns Inv-loop μ-loop
 returns c = sym (c .before .before .before .before .before .loop .inv .1 ∙ variable-here _ _ _ _ _ _ (c .before .before .before .before .loop-test .taken) (variable-compared _ _ _ _ _ (c .before .before .before .at .ensures) (c .before .before .at2 .ensures) (c .before .is-part .ensures) ∙ c .if1 .taken))
