@@ -110,7 +110,8 @@ pub release-judged : (rulebook goals certificate a b c d : List ℕ) (r : Report
 release-judged rulebook goals certificate a b c d r a′ b′ c′ d′ enough l short-rulebook short-goals short is ea eb ec ed =
     let z =
     release-reported rulebook goals certificate short-rulebook short-goals short (take areaWords a) (take areaWords b) (take areaWords c) (take areaWords d)
-    (length-take-le areaWords a (l .first)) (length-take-le areaWords b (l .second)) (length-take-le areaWords c (l .third)) (length-take-le areaWords d (l .fourth)) in
+    (length-take-le areaWords a (l .first)) (length-take-le areaWords b (l .second))
+    (length-take-le areaWords c (l .third)) (length-take-le areaWords d (l .fourth)) in
     let n = ap (λ (q : Report). q .number) is in
     is-called rulebook goals certificate a b c d (told r) (a′ ++ drop areaWords a) (b′ ++ drop areaWords b) (c′ ++ drop areaWords c) (d′ ++ drop areaWords d)
     (judged-texts rulebook goals certificate a b c d enough short-rulebook short-goals short ∙ z .same ∙ ap (λ (q : Report). told q) (sym is))

@@ -57,7 +57,8 @@ pub rulebook-judged : (text a b c d : List ℕ) (r : RulebookReport) (a′ b′ 
     → b′ ≡ replicate (length (take areaWords b)) 0
     → c′ ≡ replicate (length (take areaWords c)) 0
     → d′ ≡ replicate (length (take areaWords d)) 0
-    → called (answered r) (a′ ++ drop areaWords a) (b′ ++ drop areaWords b) (c′ ++ drop areaWords c) (d′ ++ drop areaWords d) ≡ rulebookLeft document01 a b c d text
+    → called (answered r) (a′ ++ drop areaWords a) (b′ ++ drop areaWords b) (c′ ++ drop areaWords c) (d′ ++ drop areaWords d)
+    ≡ rulebookLeft document01 a b c d text
 rulebook-judged text a b c d r a′ b′ c′ d′ enough l short is ea eb ec ed =
     let z =
     rulebook-reported text (take areaWords b) (take areaWords c) (take areaWords d) short

@@ -34,14 +34,12 @@ use Rattle.theory_reading.specs.Addresses.{symbolAt}
 use Rattle.theory_reading.proofs.Stored.{Longer, longer-none, longer-then, longer-length, longer-tree, Stored, Means}
 use Rattle.tables.specs.Representation.{Defs}
 use Rattle.asking.specs.Asking as asked
-use Rattle.asking.specs.Asking.{Met, Ahead}
 use Rattle.asking_laws.proofs.Places.{RestComes, At, at-less, at-within}
 use Rattle.asking_laws.proofs.Asking.{ItemMet, atom-met, list-met, item-law, WordMet, word-met, word-law, Looked, look-closed, look-bad, look-ended, look-item}
 use Rattle.asking_laws.proofs.Asking.{look-law}
 use Rattle.terms.specs.Terms as walk
 use Rattle.theory_reading.specs.Storing.{Areas}
 use Rattle.nodes.specs.Nodes.{make, constructorDue, headDue}
-use Rattle.terms.specs.Terms.{argumentsFrom, termOf}
 use Rattle.nodes.specs.Limits.{indexPlaces, defBuckets}
 pub use Rattle.terms_laws.proofs.Asked.{asked-then, asked-no, asked-yes}
 use Rattle.terms_laws.proofs.Rows.{Row, no-words, one-word}
@@ -82,14 +80,14 @@ module _ (text : List ℕ) (table : List ℕ) {rules heap : List ℕ} {es : Entr
   CompoundLaw is = (left depth top spent : ℕ) (K : Stream Token → Type 0) (ts : List Term) (r : Reader) (store stack : List ℕ) → depth + left ≡ 257
       → Ready es th text ts₀ (RestComes is K) top spent ts r store stack
       → Simulates (TermRead es th (At text K (spent + 2)) top stack ts)
-      (termOf (walk.term left text rules heap table) left text rules heap table top (asked.list r) store stack)
+      (walk.termOf (walk.term left text rules heap table) left text rules heap table top (asked.list r) store stack)
       (definition.compoundTerm document01 th defs depth is ts)
 
   abbrev pub ArgumentsLaw : Items → Type 1
   ArgumentsLaw is =
       (left depth top n place spent fuel : ℕ) (K : Stream Token → Type 0) (ts : List Term) (r : Reader) (store stack : List ℕ) → depth + left ≡ 257
       → place ≡ top + n → fuel + n ≡ length text + 1 → Ready es th text ts₀ (RestComes is K) place spent ts r store stack
-      → Simulates (ArgumentsRead es th text K place n spent stack ts) (argumentsFrom (walk.term left text rules heap table) fuel text top n r store stack)
+      → Simulates (ArgumentsRead es th text K place n spent stack ts) (walk.argumentsFrom (walk.term left text rules heap table) fuel text top n r store stack)
       (definition.arguments document01 th defs depth is ts)
 
   -- What is on the stack was read before, and so is what comes on top of it now.
@@ -99,18 +97,19 @@ module _ (text : List ℕ) (table : List ℕ) {rules heap : List ℕ} {es : Entr
   -- A term of one item: the item is asked for, then it is an atom or a list.
   term-step : (item : Item) (left depth top spent : ℕ) (K : Stream Token → Type 0) (rest : Items) (ts : List Term) (r : Reader) (store stack : List ℕ)
       → depth + left ≡ 257 → Ready es th text ts₀ (RestComes (item then rest) K) top spent ts r store stack
-      → ((l : ℕ) (m : Met) → left ≡ suc l → ItemMet text K spent m (item, rest)
+      → ((l : ℕ) (m : asked.Met) → left ≡ suc l → ItemMet text K spent m (item, rest)
       → Simulates (TermRead es th (At text (RestComes rest K) (spent + 2)) top stack ts)
-      (termOf (walk.term l text rules heap table) l text rules heap table top m store stack) (definition.term document01 th defs depth item ts))
+      (walk.termOf (walk.term l text rules heap table) l text rules heap table top m store stack) (definition.term document01 th defs depth item ts))
       → Simulates (TermRead es th (At text (RestComes rest K) (spent + 2)) top stack ts) (walk.term left text rules heap table top r store stack)
       (refusals._>>=_ (askedAt depth) (λ _. definition.term document01 th defs depth item ts))
   unfolding walk.term refusals._>>=_ number definition.ask
   term-step item zero depth top spent K rest ts r store stack e ready k = rw (asked-no depth e) (refuse refl)
   term-step item (suc l) depth top spent K rest ts r store stack e ready k =
       rw (asked-yes l depth e) (by (rw (asked-yes l depth e) at (item-law text K spent (item then rest) (suc l) depth e (ready .reader)))) where
-        by : {o : Outcome Met} → Answers (ItemMet text K spent) o (refusals.ok (item, rest))
+        by : {o : Outcome asked.Met} → Answers (ItemMet text K spent) o (refusals.ok (item, rest))
             → Simulates (TermRead es th (At text (RestComes rest K) (spent + 2)) top stack ts)
-            (leaving._>>=_ (o leaving (store, stack)) (λ p. termOf (walk.term l text rules heap table) l text rules heap table top (p .0) (p .1 .0) (p .1 .1)))
+            (leaving._>>=_ (o leaving (store, stack))
+            (λ p. walk.termOf (walk.term l text rules heap table) l text rules heap table top (p .0) (p .1 .0) (p .1 .1)))
             (definition.term document01 th defs depth item ts)
         by (both-ok q) = k l _ refl q
 
@@ -118,9 +117,9 @@ module _ (text : List ℕ) (table : List ℕ) {rules heap : List ℕ} {es : Entr
   unfolding definition.term
   term-word name left depth top spent K rest ts r store stack e ready =
       term-step (word name) left depth top spent K rest ts r store stack e ready (λ l m f q. by l q) where
-        by : (l : ℕ) {m : Met} → ItemMet text K spent m (word name, rest)
+        by : (l : ℕ) {m : asked.Met} → ItemMet text K spent m (word name, rest)
             → Simulates (TermRead es th (At text (RestComes rest K) (spent + 2)) top stack ts)
-            (termOf (walk.term l text rules heap table) l text rules heap table top m store stack) (definition.atomTerm document01 th defs name ts)
+            (walk.termOf (walk.term l text rules heap table) l text rules heap table top m store stack) (definition.atomTerm document01 th defs name ts)
         by l (atom-met {s} {t} {r = q} n a b there) =
             let z = fits top spent there (ready .room) in
             let y = ready .long in
@@ -131,9 +130,9 @@ module _ (text : List ℕ) (table : List ℕ) {rules heap : List ℕ} {es : Entr
   unfolding definition.term
   term-group inner law left depth top spent K rest ts r store stack e ready =
       term-step (group inner) left depth top spent K rest ts r store stack e ready (λ l m f q. by l f q) where
-        by : (l : ℕ) {m : Met} → left ≡ suc l → ItemMet text K spent m (group inner, rest)
+        by : (l : ℕ) {m : asked.Met} → left ≡ suc l → ItemMet text K spent m (group inner, rest)
             → Simulates (TermRead es th (At text (RestComes rest K) (spent + 2)) top stack ts)
-            (termOf (walk.term l text rules heap table) l text rules heap table top m store stack)
+            (walk.termOf (walk.term l text rules heap table) l text rules heap table top m store stack)
             (definition.compoundTerm document01 th defs (suc depth) inner ts)
         by l f (list-met {r = q} there) =
             law l (suc depth) top spent (RestComes rest K) ts q store stack (omega arith)
@@ -142,7 +141,7 @@ module _ (text : List ℕ) (table : List ℕ) {rules heap : List ℕ} {es : Entr
   -- What follows the head of a term in brackets.
   abbrev walkOn : ℕ → ℕ → ℕ → Reader → List ℕ → List ℕ → Did Areas (ℕ × Reader)
   walkOn left top c q store stack =
-      leaving._>>=_ (argumentsFrom (walk.term left text rules heap table) (length text + 1) text (sum32 top 1) 0 q store stack)
+      leaving._>>=_ (walk.argumentsFrom (walk.term left text rules heap table) (length text + 1) text (sum32 top 1) 0 q store stack)
       (λ p. leaving._>>=_ (outcomes.need (not (eqb (p .0 .0) 0)) 16 leaving (p .1)) (λ _. make heap c top (p .0 .0) (p .0 .1) (p .1 .0) (p .1 .1)))
 
   abbrev definedOn : ℕ → Symbol → Items → List Term → Result (Term × List Term)
@@ -203,7 +202,7 @@ module _ (text : List ℕ) (table : List ℕ) {rules heap : List ℕ} {es : Entr
   headless : (is : Items) (x : Refusal) (left depth top spent : ℕ) (K : Stream Token → Type 0) (ts : List Term) (r : Reader) (store stack : List ℕ)
       → Refuses depth is x → depth + left ≡ 257 → Ready es th text ts₀ (RestComes is K) top spent ts r store stack
       → Simulates (TermRead es th (At text K (spent + 2)) top stack ts)
-      (termOf (walk.term left text rules heap table) left text rules heap table top (asked.list r) store stack)
+      (walk.termOf (walk.term left text rules heap table) left text rules heap table top (asked.list r) store stack)
       (definition.compoundTerm document01 th defs depth is ts)
   unfolding headDue
   headless is x left depth top spent K ts r store stack (a, b) e ready =
@@ -268,14 +267,14 @@ module _ (text : List ℕ) (table : List ℕ) {rules heap : List ℕ} {es : Entr
 
   module _ (left top n fuel : ℕ) where
     -- One turn of the loop, by the look ahead.
-    abbrev turn : Outcome Ahead → List ℕ → List ℕ → Did Areas (ℕ × Reader)
+    abbrev turn : Outcome asked.Ahead → List ℕ → List ℕ → Did Areas (ℕ × Reader)
     turn o store stack =
         leaving._>>=_ (o leaving (store, stack))
-        (λ p. walk.oneMore (walk.term left text rules heap table) (argumentsFrom (walk.term left text rules heap table) fuel text top) top n (p .0)
+        (λ p. walk.oneMore (walk.term left text rules heap table) (walk.argumentsFrom (walk.term left text rules heap table) fuel text top) top n (p .0)
         (p .1 .0) (p .1 .1))
 
   arguments-closed : ArgumentsLaw closed
-  unfolding argumentsFrom definition.arguments definition.give lookups
+  unfolding walk.argumentsFrom definition.arguments definition.give lookups
   arguments-closed left depth top n place spent zero K ts r store stack e p f ready = no-fuel top n place (ready .reader) (ready .room) p f
   arguments-closed left depth top n place spent (suc fuel) K ts r store stack e p f ready = by (look-law text K spent closed (ready .reader)) where
     nothing-read : (q : Reader) → At text K spent q → ArgumentsRead es th text K place n spent stack ts (n, q) (store, stack) ([]ₜ, ts)
@@ -292,15 +291,15 @@ module _ (text : List ℕ) (table : List ℕ) {rules heap : List ℕ} {es : Entr
           keeps = keeps-all;
         }
 
-    by : {o : Outcome Ahead} → Looked text K spent closed o
+    by : {o : Outcome asked.Ahead} → Looked text K spent closed o
         → Simulates (ArgumentsRead es th text K place n spent stack ts) (turn left top n fuel o store stack) (refusals.ok ([]ₜ, ts))
     by (look-closed {q} there) = leave (nothing-read q there)
 
   arguments-bad : ArgumentsLaw badLine
-  unfolding argumentsFrom definition.arguments definition.lift refusals._>>=_ number
+  unfolding walk.argumentsFrom definition.arguments definition.lift refusals._>>=_ number
   arguments-bad left depth top n place spent zero K ts r store stack e p f ready = no-fuel top n place (ready .reader) (ready .room) p f
   arguments-bad left depth top n place spent (suc fuel) K ts r store stack e p f ready = by (look-law text K spent badLine (ready .reader)) where
-    by : {o : Outcome Ahead} → Looked text K spent badLine o
+    by : {o : Outcome asked.Ahead} → Looked text K spent badLine o
         → Simulates (ArgumentsRead es th text K place n spent stack ts) (turn left top n fuel o store stack) (refusals.refused notUtf8)
     by look-bad = refuse refl
 
@@ -312,23 +311,23 @@ module _ (text : List ℕ) (table : List ℕ) {rules heap : List ℕ} {es : Entr
   term-ended zero depth top spent K r store stack f g e there = rw (asked-no depth e) (refuse refl)
   term-ended {R = R} (suc l) depth top spent K r store stack f g e there =
       rw (asked-yes l depth e) (by (rw (asked-yes l depth e) at (item-law text K spent ended (suc l) depth e there))) where
-        by : {o : Outcome Met} {x : Refusal} → Answers (ItemMet text K spent) o (refusals.refused x)
+        by : {o : Outcome asked.Met} {x : Refusal} → Answers (ItemMet text K spent) o (refusals.refused x)
             → Simulates R (leaving._>>=_ (leaving._>>=_ (o leaving (store, stack))
-            (λ p. termOf (walk.term l text rules heap table) l text rules heap table top (p .0) (p .1 .0) (p .1 .1))) f) (refusals.refused x)
+            (λ p. walk.termOf (walk.term l text rules heap table) l text rules heap table top (p .0) (p .1 .0) (p .1 .1))) f) (refusals.refused x)
         by (both-refuse z) = refuse z
 
   arguments-ended : ArgumentsLaw ended
-  unfolding argumentsFrom definition.arguments definition.lift
+  unfolding walk.argumentsFrom definition.arguments definition.lift
   arguments-ended left depth top n place spent zero K ts r store stack e p f ready = no-fuel top n place (ready .reader) (ready .room) p f
   arguments-ended left depth top n place spent (suc fuel) K ts r store stack e p f ready = by (look-law text K spent ended (ready .reader)) where
-    by : {o : Outcome Ahead} → Looked text K spent ended o
+    by : {o : Outcome asked.Ahead} → Looked text K spent ended o
         → Simulates (ArgumentsRead es th text K place n spent stack ts) (turn left top n fuel o store stack)
         (refusals._>>=_ (absent depth textEnds) (λ a. refusals.ok (a, ts)))
     by (look-ended {q} there) = term-ended left depth (sum32 top n) spent K q store stack _ _ e there
 
   -- One argument more.
   arguments-more : (item : Item) (rest : Items) → TermLaw item → ArgumentsLaw rest → ArgumentsLaw (item then rest)
-  unfolding argumentsFrom definition.arguments definition._>>=_ definition.lift definition.give lookups
+  unfolding walk.argumentsFrom definition.arguments definition._>>=_ definition.lift definition.give lookups
   arguments-more item rest one law left depth top n place spent zero K ts r store stack e p f ready = no-fuel top n place (ready .reader) (ready .room) p f
   arguments-more item rest one law left depth top n place spent (suc fuel) K ts r store stack e p f ready =
       rw (asked-then {A = Term × List Term} {B = Terms × List Term} depth ts (definition.term document01 th defs depth item ts)
@@ -345,7 +344,7 @@ module _ (text : List ℕ) (table : List ℕ) {rules heap : List ℕ} {es : Entr
 
         on : (x : ℕ × Reader) (s : Areas) (y : Term × List Term) → TermRead es th (At text (RestComes rest K) (spent + 2)) place stack ts x s y
             → Simulates (ArgumentsRead es th text K place n spent stack ts)
-            (argumentsFrom (walk.term left text rules heap table) fuel text top (n + 1) (x .1) (s .0) (set (s .1) place (x .0)))
+            (walk.argumentsFrom (walk.term left text rules heap table) fuel text top (n + 1) (x .1) (s .0) (set (s .1) place (x .0)))
             (refusals._>>=_ (definition.arguments document01 th defs depth rest (y .1)) (λ z. refusals.ok (y .0 ∷ₜ z .0, z .1)))
         on x s y t =
             let b = at-within (t .reader) in
@@ -372,7 +371,7 @@ module _ (text : List ℕ) (table : List ℕ) {rules heap : List ℕ} {es : Entr
               keeps = keeps-then (omega arith) (t .keeps) (keeps-then (omega arith) (keeps-set place (s .1) place (x .0) (omega arith)) (w .keeps));
             })
 
-        by : {o : Outcome Ahead} → Looked text K spent (item then rest) o
+        by : {o : Outcome asked.Ahead} → Looked text K spent (item then rest) o
             → Simulates (ArgumentsRead es th text K place n spent stack ts) (turn left top n fuel o store stack)
             (refusals._>>=_ (refusals._>>=_ (askedAt depth) (λ _. definition.term document01 th defs depth item ts))
             (λ y. refusals._>>=_ (definition.arguments document01 th defs depth rest (y .1)) (λ z. refusals.ok (y .0 ∷ₜ z .0, z .1))))
@@ -382,7 +381,6 @@ module _ (text : List ℕ) (table : List ℕ) {rules heap : List ℕ} {es : Entr
             record { reader = there; room = ready .room; stored = ready .stored; grown = ready .grown; long = ready .long })
             on)
 
-  -- By induction on the items.
   mutual
     pub term-law : (item : Item) → TermLaw item
     term-law (word name) = term-word name
