@@ -2,6 +2,34 @@
 ghost use mathlib.Core.Path.{_≡_};
 ghost use lib.ListN.{length};
 ghost use Rattle.areas.specs.Filling.{filled, due, areaHeld, allHeld};
+use answers::Answer;
+
+// What the areas hold before a call: word i is first + i * step, in 32 bits.
+pub struct Before {
+    pub first: u32,
+    pub step: u32,
+}
+
+// Words of no sense.
+pub fn garbage() -> Before {
+    Before {
+        first: 3735928559,
+        step: 2654435761,
+    }
+}
+
+// Ones.
+pub fn ones() -> Before {
+    Before { first: 1, step: 0 }
+}
+
+// How many words of each area are lent.
+pub struct Lengths {
+    pub first: u32,
+    pub second: u32,
+    pub third: u32,
+    pub fourth: u32,
+}
 
 // Word i becomes first + i * step, modulo 2 to the 32.
 pub fn fill(s: &mut [u32], first: u32, step: u32)
@@ -73,4 +101,13 @@ pub fn all_hold(n: usize, first: u32, step: u32, a: &[u32], b: &[u32], c: &[u32]
         return false;
     }
     holds(d, n, first, step)
+}
+
+// The answer, or 99 where the areas are not as they must be afterwards.
+pub fn with_areas(p: Before, x: Answer, a: &[u32], b: &[u32], c: &[u32], d: &[u32]) -> Answer {
+    if all_hold(answers::cleared(x.number), p.first, p.step, a, b, c, d) {
+        return x;
+    }
+    io::write_all(1, b"areas wrong\n");
+    Answer { number: 99, ..x }
 }

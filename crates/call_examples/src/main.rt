@@ -4,16 +4,16 @@
 // compare/replay-data writes the file `examples` (crate `call_cases` has its form) and the answers that are due. The byte
 // of a case that is the program's own says what the areas hold before, 1 for ones, else words of no sense; and 2 is added where the
 // rulebook is judged alone. Its four numbers are the words of each area that are lent.
+use areas::Before;
+use areas::Lengths;
 use call_cases::Head;
-use lent_calls::Before;
-use lent_calls::Lengths;
 
 // What the areas hold before a case.
 fn held_before(own: u32) -> Before {
     if own % 2 == 1 {
-        return lent_calls::ones();
+        return areas::ones();
     }
-    lent_calls::garbage()
+    areas::garbage()
 }
 
 // One case over as many words of each area as it lends.

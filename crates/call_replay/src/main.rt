@@ -5,8 +5,8 @@
 use answers::Answer;
 use answers::Case;
 use answers::Tally;
+use areas::Lengths;
 use call_cases::Head;
-use lent_calls::Lengths;
 
 // The number that was kept.
 fn number_of(own: u32) -> u32 {
@@ -32,7 +32,7 @@ fn judge(h: Head, label: &[u8], rulebook: &[u8], goals: &[u8], certificate: &[u8
         fourth: 16384,
     };
     let x = lent_calls::answered(
-        lent_calls::garbage(),
+        areas::garbage(),
         128 <= h.own,
         lengths,
         rulebook,

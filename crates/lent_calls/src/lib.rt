@@ -1,32 +1,7 @@
 // Either call over lent areas that held other words, and whether the areas are afterwards as the paper says.
 use answers::Answer;
-
-// What the areas hold before a call: word i is first + i * step, in 32 bits.
-pub struct Before {
-    pub first: u32,
-    pub step: u32,
-}
-
-// Words of no sense.
-pub fn garbage() -> Before {
-    Before {
-        first: 3735928559,
-        step: 2654435761,
-    }
-}
-
-// Ones.
-pub fn ones() -> Before {
-    Before { first: 1, step: 0 }
-}
-
-// How many words of each area are lent.
-pub struct Lengths {
-    pub first: u32,
-    pub second: u32,
-    pub third: u32,
-    pub fourth: u32,
-}
+use areas::Before;
+use areas::Lengths;
 
 // A report of the rulebook alone as an answer.
 fn rulebook_answer(r: reports::RulebookReport) -> Answer {
@@ -48,15 +23,6 @@ fn release_answer(r: reports::Report) -> Answer {
         third: r.terms,
         fourth: r.bytes,
     }
-}
-
-// The answer, or 99 where the areas are not as they must be afterwards.
-fn with_areas(p: Before, x: Answer, a: &[u32], b: &[u32], c: &[u32], d: &[u32]) -> Answer {
-    if areas::all_hold(answers::cleared(x.number), p.first, p.step, a, b, c, d) {
-        return x;
-    }
-    io::write_all(1, b"areas wrong\n");
-    Answer { number: 99, ..x }
 }
 
 // Either call.
@@ -90,7 +56,7 @@ fn called(
 ) -> Answer {
     areas::fill_all(p.first, p.step, a, b, c, d);
     let x = call(alone, rulebook, goals, certificate, a, b, c, d);
-    with_areas(p, x, a, b, c, d)
+    areas::with_areas(p, x, a, b, c, d)
 }
 
 // As many words of each area as the case lends; 98 where it lends more than there are.

@@ -3,7 +3,7 @@ ghost use mathlib.Core.Path.{_≡_};
 ghost use Prim.Native.Nat.{suc, _≤_, _<_};
 ghost use lib.ListN.{length};
 ghost use Rattle.lex.specs.Scan.{stopped, blanks, atomEnd, lineEnd};
-ghost use Rattle.lex.specs.declared.Ahead.the-variants.{Held};
+ghost use Rattle.lex.specs.declared.Ahead.the-variants.{Nothing, Held};
 ghost use Rattle.lex.specs.Answers.{answer, ahead, after, tokenAt, scanned, peeked, taken, start};
 use utf8::classes;
 
@@ -156,40 +156,13 @@ fn token_at(text: &[u8], end: usize, p: usize) -> Read
     let width = seen.width;
     if kind == classes::ORDINARY {
         let q = atom_end(text, end, p);
-        return Read::Got(
-            Token::Atom(p, q),
-            Reader {
-                at: q,
-                end,
-                held: 0,
-                from: 0,
-                to: 0,
-            },
-        );
+        return Read::Got(Token::Atom(p, q), Reader::bare(q, end));
     }
     if kind == classes::OPENS {
-        return Read::Got(
-            Token::Opening,
-            Reader {
-                at: p + width,
-                end,
-                held: 0,
-                from: 0,
-                to: 0,
-            },
-        );
+        return Read::Got(Token::Opening, Reader::bare(p + width, end));
     }
     if kind == classes::CLOSES {
-        return Read::Got(
-            Token::Closing,
-            Reader {
-                at: p + width,
-                end,
-                held: 0,
-                from: 0,
-                to: 0,
-            },
-        );
+        return Read::Got(Token::Closing, Reader::bare(p + width, end));
     }
     Read::Bad
 }
@@ -219,9 +192,16 @@ impl Reader {
     pub fn new() -> Self
         ensures { λ r. ⌜ r ≡ start ⌝ }
     {
+        Reader::bare(0, 0)
+    }
+
+    // A reader that has looked at nothing.
+    fn bare(at: usize, end: usize) -> Self
+        ensures { λ r. ⌜ r ≡ after at end Nothing ⌝ }
+    {
         Reader {
-            at: 0,
-            end: 0,
+            at,
+            end,
             held: 0,
             from: 0,
             to: 0,
@@ -297,16 +277,7 @@ impl Reader {
         let at = self.at;
         let end = self.end;
         if let Ahead::Held(t) = ahead {
-            return Read::Got(
-                t,
-                Reader {
-                    at,
-                    end,
-                    held: 0,
-                    from: 0,
-                    to: 0,
-                },
-            );
+            return Read::Got(t, Reader::bare(at, end));
         }
         scan(text, end, at)
     }

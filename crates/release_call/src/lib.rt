@@ -1,4 +1,4 @@
-// The call with three texts: the lengths, then what crate `clearing` answers of the first 16,384 words of each area.
+// The call with three texts: the lengths, then what crate `walks` answers of the first 16,384 words of each area.
 ghost use mathlib.Core.Path.{_≡_};
 ghost use lib.ListN.{length};
 ghost use Rattle.horn.specs.Setting.{document01};
@@ -36,7 +36,7 @@ pub fn release(
     if 32768 < certificate.len() {
         return reports::unreleased(2);
     }
-    clearing::check(
+    walks::check(
         rulebook,
         goals,
         certificate,

@@ -1,4 +1,4 @@
-// The call with the rulebook alone: the lengths, then what crate `clearing` answers of the first 16,384 words of each area.
+// The call with the rulebook alone: the lengths, then what crate `walks` answers of the first 16,384 words of each area.
 ghost use mathlib.Core.Path.{_≡_};
 ghost use Rattle.horn.specs.Setting.{document01};
 ghost use Rattle.horn.specs.Calls.{called, rulebookLeft};
@@ -22,7 +22,7 @@ pub fn rulebook(
     if 8192 < rulebook.len() {
         return reports::refused(2);
     }
-    clearing::judge(
+    walks::judge(
         rulebook,
         &mut a[..clearing::AREA_WORDS],
         &mut b[..clearing::AREA_WORDS],

@@ -1,4 +1,4 @@
--- `clearing::judge` meets its contract. Assumes nothing.
+-- `walks::judge` meets its contract. Assumes nothing.
 use Prim.Native.Nat.{ℕ}
 use mathlib.Core.Path.{ap, _∙_}
 use lib.ListN.{replicate}
@@ -6,8 +6,8 @@ use Rattle.outcomes.specs.Leaving.{Did}
 use Rattle.theory.specs.Walks.{AllAreas}
 use Rattle.theory.specs.declared.Counts.{Counts}
 use Rattle.reports.specs.Rulebook.{reportedBy}
-use Rattle.clearing.proofs.judge.Statement.{statement}
-use Rattle.clearing.proofs.judge.Tie as tie
+use Rattle.walks.proofs.judge.Statement.{statement}
+use Rattle.walks.proofs.judge.Tie as tie
 
 same-length : tie.Need-same-length
 same-length c = c .before .before .before .before .before .before .before .before .a .given

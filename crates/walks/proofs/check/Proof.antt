@@ -1,4 +1,4 @@
--- `clearing::check` meets its contract. Assumes nothing.
+-- `walks::check` meets its contract. Assumes nothing.
 use Prim.Native.Nat.{ℕ}
 use mathlib.Core.Path.{ap, _∙_}
 use lib.ListN.{replicate}
@@ -6,8 +6,8 @@ use Rattle.outcomes.specs.Leaving.{Did}
 use Rattle.certificates.specs.Certificates.{AllAreas}
 use Rattle.checker.specs.declared.Counts.{Counts}
 use Rattle.reports.specs.Release.{releasedBy}
-use Rattle.clearing.proofs.check.Statement.{statement}
-use Rattle.clearing.proofs.check.Tie as tie
+use Rattle.walks.proofs.check.Statement.{statement}
+use Rattle.walks.proofs.check.Tie as tie
 
 same-length : tie.Need-same-length
 same-length c = c .before .before .before .before .before .before .before .before .a2 .given ∙ c .before .before .before .before .before .before .before .before .before .before .before .before .before .before .before .before .before .before .before .before .before .a .given

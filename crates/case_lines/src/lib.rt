@@ -1,0 +1,204 @@
+// The lines of the paper's list of cases (docs/paper/cases.md has their form), all but the calls themselves: the case at hand as its lines
+// make it, and what was counted.
+use answers::Answer;
+use answers::number;
+use answers::same;
+use answers::show;
+use areas::Lengths;
+
+// The case at hand: the lengths of its three texts and of its four areas; and what was counted so far.
+pub struct State {
+    pub rulebook: u32,
+    pub goals: u32,
+    pub certificate: u32,
+    pub areas: Lengths,
+    pub cases: u32,
+    pub runs: u32,
+    pub differences: u32,
+}
+
+// Before the first case.
+pub fn none() -> State {
+    State {
+        rulebook: 0,
+        goals: 0,
+        certificate: 0,
+        areas: Lengths {
+            first: 0,
+            second: 0,
+            third: 0,
+            fourth: 0,
+        },
+        cases: 0,
+        runs: 0,
+        differences: 0,
+    }
+}
+
+// Writes what was stated and what was answered instead.
+fn show_difference(alone: bool, s: State, stated: Answer, x: Answer) {
+    io::write_all(1, b"case");
+    number(s.cases);
+    if alone {
+        io::write_all(1, b" rulebook: stated");
+    } else {
+        io::write_all(1, b" release: stated");
+    }
+    show(stated);
+    io::write_all(1, b", answered");
+    show(x);
+    io::write_all(1, b"\n");
+}
+
+// One difference more.
+fn wrong(s: State) -> State {
+    State {
+        differences: words::plus(s.differences, 1),
+        ..s
+    }
+}
+
+// One run more, and a difference more where another answer was stated.
+pub fn ran(alone: bool, s: State, stated: Answer, x: Answer) -> State {
+    let after = State {
+        runs: words::plus(s.runs, 1),
+        ..s
+    };
+    if same(stated, x) {
+        return after;
+    }
+    show_difference(alone, s, stated, x);
+    wrong(after)
+}
+
+// A number, and four counts behind it; where they are left out they are 0.
+pub fn stated(list: &[u8], from: u32, to: u32) -> Answer {
+    let n = case_text::number(list, from);
+    if to <= n.at {
+        return Answer {
+            number: n.value,
+            first: 0,
+            second: 0,
+            third: 0,
+            fourth: 0,
+        };
+    }
+    let first = case_text::number(list, words::plus(n.at, 1));
+    let second = case_text::number(list, words::plus(first.at, 1));
+    let third = case_text::number(list, words::plus(second.at, 1));
+    let fourth = case_text::number(list, words::plus(third.at, 1));
+    Answer {
+        number: n.value,
+        first: first.value,
+        second: second.value,
+        third: third.value,
+        fourth: fourth.value,
+    }
+}
+
+// A case begins with the example set.
+fn fresh(s: State, r: &mut [u8], g: &mut [u8], c: &mut [u8]) -> State {
+    let rulebook =
+        b"(sort t)(ctor z () t)(ctor s (t) t)(pred hold (t))(rule base () (hold z))(rule more ((hold ?x)) (hold (s ?x)))";
+    let goals = b"(goal g (hold (s z)))";
+    let certificate = b"(step 0 base ())\n(step 1 more (0))\n(result g 1)\n";
+    State {
+        rulebook: case_text::make(rulebook, 0, 110, r, 0),
+        goals: case_text::make(goals, 0, 21, g, 0),
+        certificate: case_text::make(certificate, 0, 48, c, 0),
+        areas: Lengths {
+            first: 16384,
+            second: 16384,
+            third: 16384,
+            fourth: 16384,
+        },
+        cases: words::plus(s.cases, 1),
+        ..s
+    }
+}
+
+// Cases are numbered from 1.
+fn numbered(s: State, list: &[u8], from: u32) -> State {
+    let n = case_text::number(list, words::plus(from, 5));
+    if n.value == s.cases {
+        return s;
+    }
+    io::write_all(1, b"a case out of order\n");
+    wrong(s)
+}
+
+// `areas A B C D`, from behind that word, where no number stands: the counts behind it are the lengths.
+fn lengths(s: State, list: &[u8], from: u32, to: u32) -> State {
+    let x = stated(list, from, to);
+    State {
+        areas: Lengths {
+            first: x.first,
+            second: x.second,
+            third: x.third,
+            fourth: x.fourth,
+        },
+        ..s
+    }
+}
+
+// `X TEXT` replaces a text, `X+ TEXT` goes on behind it.
+fn replaced(list: &[u8], from: u32, to: u32, out: &mut [u8], len: u32) -> u32 {
+    if case_text::byte_at(list, words::plus(from, 1)) == 43 {
+        return case_text::make(list, words::plus(from, 3), to, out, len);
+    }
+    case_text::make(list, words::plus(from, 2), to, out, 0)
+}
+
+// Whether a line states an answer: those that do not begin with a sign of their own.
+pub fn is_answer(list: &[u8], from: u32, to: u32) -> bool {
+    if to <= from {
+        return false;
+    }
+    match case_text::byte_at(list, from) {
+        35 | 99 | 97 | 82 | 71 | 67 => false,
+        _ => true,
+    }
+}
+
+// Any other line by its first byte: a comment, or `case`, `areas`, a text.
+pub fn line(
+    s: State,
+    list: &[u8],
+    from: u32,
+    to: u32,
+    r: &mut [u8],
+    g: &mut [u8],
+    c: &mut [u8],
+) -> State {
+    if to <= from {
+        return s;
+    }
+    match case_text::byte_at(list, from) {
+        99 => numbered(fresh(s, r, g, c), list, from),
+        97 => lengths(s, list, words::plus(from, 5), to),
+        82 => State {
+            rulebook: replaced(list, from, to, r, s.rulebook),
+            ..s
+        },
+        71 => State {
+            goals: replaced(list, from, to, g, s.goals),
+            ..s
+        },
+        67 => State {
+            certificate: replaced(list, from, to, c, s.certificate),
+            ..s
+        },
+        _ => s,
+    }
+}
+
+// Writes what was counted.
+pub fn finish(s: State) {
+    io::write_all(1, b"cases");
+    number(s.cases);
+    io::write_all(1, b"\nruns");
+    number(s.runs);
+    io::write_all(1, b"\ndifferences");
+    number(s.differences);
+    io::write_all(1, b"\n");
+}
