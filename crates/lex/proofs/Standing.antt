@@ -17,7 +17,7 @@ use Rattle.words.specs.Parts.{part}
 use Rattle.utf8.specs.Classes.{kindNumber}
 use Rattle.utf8.specs.Characters.{first, kindAt}
 use Rattle.lex.specs.Scan.{blanks, atomEnd, lineEnd}
-use Rattle.lex.specs.Answers.{Answer, token, ended, refused, ahead, after, tokenAt, scannedOn, scanned, holding, peeked, peekedBy, taken, takenBy, start}
+use Rattle.lex.specs.Answers.{Answer, token, ended, refused, after, tokenAt, scannedOn, scanned, holding, peeked, peekedBy, taken, takenBy, start}
 use Rattle.lex.specs.declared.Line.{Line}
 use Rattle.lex.specs.declared.Line.the-variants as line
 use Rattle.lex.specs.declared.Token.{Token}
@@ -68,7 +68,7 @@ placeOf Nothing at = at
 placeOf (Held t) at = startOf t at
 
 unfoldable pub place : Reader → ℕ
-place r = placeOf (ahead r) (r .at)
+place r = placeOf (r .ahead) (r .at)
 
 unfoldable pub HeldMoved : List ℕ → Ahead → ℕ → Type 0
 HeldMoved text Nothing at = Unit {0}
@@ -85,15 +85,15 @@ pub record Stands (text : List ℕ) (r : Reader) (s : Stream horn.Token) : Type 
   pub line : (r .at ≡ r .end) ⊎ Clean text (r .at) (r .end)
   pub inside : r .end ≤ length text
   pub passed : Passed text (r .end)
-  pub held : HeldMoved text (ahead r) (r .at)
-  pub stream : s ≡ withAhead text (ahead r) (tokensAt text between (r .at))
+  pub held : HeldMoved text (r .ahead) (r .at)
+  pub stream : s ≡ withAhead text (r .ahead) (tokensAt text between (r .at))
 
 -- A token was taken from place p: the next of the tokens, a reader before the others that holds none, moved on.
 pub record Took (text : List ℕ) (p : ℕ) (t : Token) (r : Reader) (s : Stream horn.Token) : Type 0 where
   pub others : Stream horn.Token
   pub next : s ≡ meant text t ▹ others
   pub stands : Stands text r others
-  pub cleared : ahead r ≡ Nothing
+  pub cleared : r .ahead ≡ Nothing
   pub moved : Moved text p t (r .at)
 
 -- A token was seen from place p: the reader still stands before all of them, and holds it.
@@ -101,7 +101,7 @@ pub record Saw (text : List ℕ) (p : ℕ) (t : Token) (r : Reader) (s : Stream 
   pub others : Stream horn.Token
   pub next : s ≡ meant text t ▹ others
   pub stands : Stands text r s
-  pub holds : ahead r ≡ Held t
+  pub holds : r .ahead ≡ Held t
   pub moved : Moved text p t (r .at)
 
 -- What an answer says of the tokens before which the reader stood, at place p: a token was taken; there is none; or the
@@ -253,7 +253,7 @@ module _ (text : List ℕ) where
 
   pub token-law : (r : Reader) (s : Stream horn.Token) → Stands text r s → Takes text (place r) (taken text r) s
   unfolding place taken
-  token-law r s st = takes-by r (ahead r) s (st .line) (st .inside) (st .passed) (st .held) (st .stream)
+  token-law r s st = takes-by r (r .ahead) s (st .line) (st .inside) (st .passed) (st .held) (st .stream)
 
   start-moved : (p : ℕ) (t : Token) (e : ℕ) → Moved text p t e → Moved text (startOf t e) t e
   unfolding Moved startOf
@@ -261,12 +261,6 @@ module _ (text : List ℕ) where
   start-moved p Closing e h = omega arith
   start-moved p (Atom a b) e h =
       record { from = omega arith; some = h .some; to = h .to; begins = h .begins; stops = h .stops }
-
-  -- A reader holds the token that was put into its words.
-  ahead-held : (at e : ℕ) (t : Token) → ahead (after at e (Held t)) ≡ Held t
-  ahead-held at e Opening = refl
-  ahead-held at e Closing = refl
-  ahead-held at e (Atom a b) = refl
 
   holding-sees : (p : ℕ) (a : Answer) (s : Stream horn.Token) → Takes text p a s → Sees text p (holding a) s
   unfolding Takes Sees holding withAhead HeldMoved
@@ -280,17 +274,17 @@ module _ (text : List ℕ) where
               line = k .stands .line;
               inside = k .stands .inside;
               passed = k .stands .passed;
-              held = rw (ahead-held (r .at) (r .end) t) (start-moved p t (r .at) (k .moved));
-              stream = k .next ∙ rw (e, ahead-held (r .at) (r .end) t);
+              held = start-moved p t (r .at) (k .moved);
+              stream = k .next ∙ rw e;
             };
-        holds = ahead-held (r .at) (r .end) t;
+        holds = refl;
         moved = k .moved;
       }
   holding-sees p ended s k = k
   holding-sees p (refused n) s k = k
 
   -- `peek` looks at it.
-  sees-by : (r : Reader) (a : Ahead) (s : Stream horn.Token) → ahead r ≡ a → Stands text r s
+  sees-by : (r : Reader) (a : Ahead) (s : Stream horn.Token) → r .ahead ≡ a → Stands text r s
       → HeldMoved text a (r .at) → s ≡ withAhead text a (tokensAt text between (r .at))
       → Sees text (placeOf a (r .at)) (peekedBy text r a) s
   unfolding peekedBy withAhead HeldMoved placeOf Sees
@@ -302,4 +296,4 @@ module _ (text : List ℕ) where
 
   pub peek-law : (r : Reader) (s : Stream horn.Token) → Stands text r s → Sees text (place r) (peeked text r) s
   unfolding place peeked
-  peek-law r s st = sees-by r (ahead r) s refl st (st .held) (st .stream)
+  peek-law r s st = sees-by r (r .ahead) s refl st (st .held) (st .stream)

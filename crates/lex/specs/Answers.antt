@@ -17,6 +17,8 @@ use Rattle.lex.specs.declared.Ahead.the-variants.{Nothing, Held}
 use Rattle.lex.specs.declared.Reader.{Reader}
 use Rattle.lex.specs.declared.Read.{Read}
 use Rattle.lex.specs.declared.Read.the-variants.{Got, End, Bad}
+use Rattle.lex.specs.declared.Scanned.{Scanned}
+use Rattle.lex.specs.declared.Scanned.the-variants as scans
 
 -- An answer in 01's words: a token with the reader after it, the end of the text, or a refusal by its number.
 pub data Answer : Type 0 where
@@ -30,38 +32,16 @@ answer (Got t r) = token t r
 answer End = ended
 answer Bad = refused (number notUtf8)
 
--- What a reader looked at, by its words: 0 is nothing, 1 an opening, 2 a closing, all else an atom with its bounds.
-abbrev pub ahead : Reader → Ahead
-ahead r =
-    elim (eqb (r .held) 0) [
-      | true ↦ Nothing
-      | false ↦ elim (eqb (r .held) 1) [
-        | true ↦ Held Opening
-        | false ↦ elim (eqb (r .held) 2) [ true ↦ Held Closing | false ↦ Held (Atom (r .from) (r .to)) ]
-      ]
-    ]
-
-abbrev pub heldWord : Ahead → ℕ
-heldWord Nothing = 0
-heldWord (Held Opening) = 1
-heldWord (Held Closing) = 2
-heldWord (Held (Atom s t)) = 3
-
-abbrev pub fromWord : Ahead → ℕ
-fromWord Nothing = 0
-fromWord (Held Opening) = 0
-fromWord (Held Closing) = 0
-fromWord (Held (Atom s t)) = s
-
-abbrev pub toWord : Ahead → ℕ
-toWord Nothing = 0
-toWord (Held Opening) = 0
-toWord (Held Closing) = 0
-toWord (Held (Atom s t)) = t
-
--- A reader at a place, in a line that is tested up to `end`, that looked at this.
 abbrev pub after : ℕ → ℕ → Ahead → Reader
-after at end a = record { at = at; end = end; held = heldWord a; from = fromWord a; to = toWord a }
+after at end ahead = record { at = at; end = end; ahead = ahead }
+
+-- What each case of a scan says: the reader after the token has looked at nothing.
+unfoldable pub found : Scanned → Answer
+found (scans.Opening at end) = token Opening (after at end Nothing)
+found (scans.Closing at end) = token Closing (after at end Nothing)
+found (scans.Atom s t end) = token (Atom s t) (after t end Nothing)
+found scans.End = ended
+found scans.Bad = refused (number notUtf8)
 
 -- The token at a place where a character stands that is neither white nor `;`.
 unfoldable pub tokenAt : List ℕ → ℕ → ℕ → Answer
@@ -112,10 +92,10 @@ takenBy text r Nothing = scanned (suc (length text)) text (r .end) (r .at)
 
 -- What a look at the next token answers, and what taking it answers.
 unfoldable pub peeked : List ℕ → Reader → Answer
-peeked text r = peekedBy text r (ahead r)
+peeked text r = peekedBy text r (r .ahead)
 
 unfoldable pub taken : List ℕ → Reader → Answer
-taken text r = takenBy text r (ahead r)
+taken text r = takenBy text r (r .ahead)
 
 -- The reader before a text's first token.
 unfoldable pub start : Reader

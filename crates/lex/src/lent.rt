@@ -1,24 +1,59 @@
 // A reader lent as words to all levels of a recursion, so that none of them keeps one on the stack.
 ghost use mathlib.Core.Path.{_≡_};
 ghost use Rattle.lex.specs.Lent.{readerIn};
+use crate::Ahead;
 use crate::Reader;
+use crate::Token;
 
-// Its words, in their order.
+// Where it stands, up to where the text is tested, and what it holds ahead: nothing, an opening, a closing, or an atom with its bounds.
 pub fn lend(reader: Reader) -> [usize; 5]
     ensures { λ r. ⌜ readerIn r ≡ reader ⌝ }
 {
-    [reader.at, reader.end, reader.held, reader.from, reader.to]
+    let at = reader.at;
+    let end = reader.end;
+    let ahead = reader.ahead;
+    match ahead {
+        Ahead::Nothing => [at, end, 0, 0, 0],
+        Ahead::Held(token) => match token {
+            Token::Opening => [at, end, 1, 0, 0],
+            Token::Closing => [at, end, 2, 0, 0],
+            Token::Atom(s, t) => [at, end, 3, s, t],
+        },
+    }
 }
 
-// The reader that the words are.
+// The reader that the words stand for.
 pub fn reader_in(r: &[usize; 5]) -> Reader
     ensures { λ a. ⌜ a ≡ readerIn (now (r .entry)) ⌝ }
 {
+    let at = r[0];
+    let end = r[1];
+    if r[2] == 0 {
+        return Reader {
+            at: at,
+            end: end,
+            ahead: Ahead::Nothing,
+        };
+    }
+    if r[2] == 1 {
+        return Reader {
+            at: at,
+            end: end,
+            ahead: Ahead::Held(Token::Opening),
+        };
+    }
+    if r[2] == 2 {
+        return Reader {
+            at: at,
+            end: end,
+            ahead: Ahead::Held(Token::Closing),
+        };
+    }
+    let s = r[3];
+    let t = r[4];
     Reader {
-        at: r[0],
-        end: r[1],
-        held: r[2],
-        from: r[3],
-        to: r[4],
+        at: at,
+        end: end,
+        ahead: Ahead::Held(Token::Atom(s, t)),
     }
 }

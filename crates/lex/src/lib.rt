@@ -4,7 +4,7 @@ ghost use Prim.Native.Nat.{suc, _≤_, _<_};
 ghost use lib.ListN.{length};
 ghost use Rattle.lex.specs.Scan.{stopped, blanks, atomEnd, lineEnd};
 ghost use Rattle.lex.specs.declared.Ahead.the-variants.{Nothing, Held};
-ghost use Rattle.lex.specs.Answers.{answer, ahead, after, tokenAt, scanned, peeked, taken, start};
+ghost use Rattle.lex.specs.Answers.{answer, found, after, tokenAt, scanned, peeked, taken, start};
 use utf8::classes;
 
 pub mod lent;
@@ -22,20 +22,26 @@ pub enum Ahead {
     Held(Token),
 }
 
-// Where the reader stands, up to where the text is tested, and the token that it looked at, in words: 0 for none, 1 for an opening, 2 for a
-// closing, 3 for an atom with its bounds. A reader goes by value through all that is read: of words alone it is copied in registers, where
-// an enum within it is copied through memory, by bytes, and each copy waits for the stores before it.
+// Where the reader stands, up to where the text is tested, and the token that it looked at.
 pub struct Reader {
     pub at: usize,
     pub end: usize,
-    pub held: usize,
-    pub from: usize,
-    pub to: usize,
+    pub ahead: Ahead,
 }
 
 // A token with the reader after it; the end of the text; a line that is not UTF-8.
 pub enum Read {
     Got(Token, Reader),
+    End,
+    Bad,
+}
+
+// What is found at a place: a token, by where it ends and where its line does; the end of the text; a line that is not UTF-8. Neither a token
+// nor a reader stands in it as a whole: an enum is copied by bytes, through memory, and such a copy waits for the words written just before.
+pub enum Scanned {
+    Opening(usize, usize),
+    Closing(usize, usize),
+    Atom(usize, usize, usize),
     End,
     Bad,
 }
@@ -148,38 +154,38 @@ fn line_end(text: &[u8], p: usize) -> Line
 }
 
 // The token at a place where a character stands that is neither white nor `;`.
-fn token_at(text: &[u8], end: usize, p: usize) -> Read
-    ensures { λ r. ⌜ answer r ≡ tokenAt (now (text .entry)) end p ⌝ }
+fn token_at(text: &[u8], end: usize, p: usize) -> Scanned
+    ensures { λ r. ⌜ found r ≡ tokenAt (now (text .entry)) end p ⌝ }
 {
     let seen = utf8::look(text, p);
     let kind = seen.kind;
     let width = seen.width;
     if kind == classes::ORDINARY {
         let q = atom_end(text, end, p);
-        return Read::Got(Token::Atom(p, q), Reader::bare(q, end));
+        return Scanned::Atom(p, q, end);
     }
     if kind == classes::OPENS {
-        return Read::Got(Token::Opening, Reader::bare(p + width, end));
+        return Scanned::Opening(p + width, end);
     }
     if kind == classes::CLOSES {
-        return Read::Got(Token::Closing, Reader::bare(p + width, end));
+        return Scanned::Closing(p + width, end);
     }
-    Read::Bad
+    Scanned::Bad
 }
 
 // The next token; a line is tested when it is first needed.
-fn scan(text: &[u8], end: usize, p: usize) -> Read
-    ensures { λ r. ⌜ answer r ≡ scanned (suc (length (now (text .entry)))) (now (text .entry)) end p ⌝ }
+fn scan(text: &[u8], end: usize, p: usize) -> Scanned
+    ensures { λ r. ⌜ found r ≡ scanned (suc (length (now (text .entry)))) (now (text .entry)) end p ⌝ }
 {
     let mut e = end;
     let mut q = skip_blanks(text, e, p);
     while e <= q {
         if text.len() <= q {
-            return Read::End;
+            return Scanned::End;
         }
         let line = line_end(text, q);
         let Line::Good(next) = line else {
-            return Read::Bad;
+            return Scanned::Bad;
         };
         e = next;
         q = skip_blanks(text, e, q);
@@ -202,54 +208,18 @@ impl Reader {
         Reader {
             at,
             end,
-            held: 0,
-            from: 0,
-            to: 0,
+            ahead: Ahead::Nothing,
         }
     }
 
-    // The token that it looked at.
-    fn ahead(self) -> Ahead
-        ensures { λ r. ⌜ r ≡ ahead self ⌝ }
-    {
-        if self.held == 0 {
-            return Ahead::Nothing;
-        }
-        if self.held == 1 {
-            return Ahead::Held(Token::Opening);
-        }
-        if self.held == 2 {
-            return Ahead::Held(Token::Closing);
-        }
-        Ahead::Held(Token::Atom(self.from, self.to))
-    }
-
-    // A reader that looked at this token.
+    // A reader that has looked at a token.
     fn holding(at: usize, end: usize, token: Token) -> Self
         ensures { λ r. ⌜ r ≡ after at end (Held token) ⌝ }
     {
-        match token {
-            Token::Opening => Reader {
-                at,
-                end,
-                held: 1,
-                from: 0,
-                to: 0,
-            },
-            Token::Closing => Reader {
-                at,
-                end,
-                held: 2,
-                from: 0,
-                to: 0,
-            },
-            Token::Atom(from, to) => Reader {
-                at,
-                end,
-                held: 3,
-                from,
-                to,
-            },
+        Reader {
+            at,
+            end,
+            ahead: Ahead::Held(token),
         }
     }
 
@@ -257,15 +227,25 @@ impl Reader {
     pub fn peek(self, text: &[u8]) -> Read
         ensures { λ r. ⌜ answer r ≡ peeked (now (text .entry)) self ⌝ }
     {
-        let ahead = self.ahead();
+        let ahead = self.ahead;
         if let Ahead::Held(t) = ahead {
             return Read::Got(t, self);
         }
-        let read = scan(text, self.end, self.at);
-        match read {
-            Read::Got(t, r) => Read::Got(t, Reader::holding(r.at, r.end, t)),
-            Read::End => Read::End,
-            Read::Bad => Read::Bad,
+        let seen = scan(text, self.end, self.at);
+        match seen {
+            Scanned::Opening(p, e) => Read::Got(
+                Token::Opening,
+                Reader::holding(p, e, Token::Opening),
+            ),
+            Scanned::Closing(p, e) => Read::Got(
+                Token::Closing,
+                Reader::holding(p, e, Token::Closing),
+            ),
+            Scanned::Atom(s, t, e) => {
+                Read::Got(Token::Atom(s, t), Reader::holding(t, e, Token::Atom(s, t)))
+            }
+            Scanned::End => Read::End,
+            Scanned::Bad => Read::Bad,
         }
     }
 
@@ -273,12 +253,17 @@ impl Reader {
     pub fn token(self, text: &[u8]) -> Read
         ensures { λ r. ⌜ answer r ≡ taken (now (text .entry)) self ⌝ }
     {
-        let ahead = self.ahead();
-        let at = self.at;
-        let end = self.end;
+        let ahead = self.ahead;
         if let Ahead::Held(t) = ahead {
-            return Read::Got(t, Reader::bare(at, end));
+            return Read::Got(t, Reader::bare(self.at, self.end));
         }
-        scan(text, end, at)
+        let scanned = scan(text, self.end, self.at);
+        match scanned {
+            Scanned::Opening(p, e) => Read::Got(Token::Opening, Reader::bare(p, e)),
+            Scanned::Closing(p, e) => Read::Got(Token::Closing, Reader::bare(p, e)),
+            Scanned::Atom(s, t, e) => Read::Got(Token::Atom(s, t), Reader::bare(t, e)),
+            Scanned::End => Read::End,
+            Scanned::Bad => Read::Bad,
+        }
     }
 }

@@ -1,6 +1,6 @@
 -- `lex::scan` meets its contract. Assumes nothing.
 use Rattle.lex.proofs.Answering.{line-bounds, scan-ended, scan-bad, scan-on, scan-token}
-use Rattle.lex.specs.Answers.{answer, scanned, scannedOn}
+use Rattle.lex.specs.Answers.{found, scanned, scannedOn}
 use lib.ListN.{length}
 use Prim.Native.Nat.{ℕ, suc, _≤_, _-_}
 use native.Mathlib.Omega.{arith}
@@ -19,11 +19,11 @@ unfolding scanned
 loop-holds c = (length (c .before .before .args .text .now), (omega arith, rw (← c .skip-blanks .ensures)))
 
 returns : tie.Need-returns Inv-loop μ-loop
-unfolding answer
+unfolding found
 returns c = sym (c .before .before .loop .inv .1 .1 ∙ scan-ended (c .before .before .before .before .before .args .text .now) (c .before .before .loop .e) (c .before .before .loop .q) (c .before .before .loop .inv .0) (c .before .loop-test .taken) (c .if1 .taken))
 
 returns-2 : tie.Need-returns-2 Inv-loop μ-loop
-unfolding answer
+unfolding found
 returns-2 c = sym (c .before .before .before .before .before .loop .inv .1 .1 ∙ scan-bad (c .before .before .before .before .before .before .before .before .args .text .now) (c .before .before .before .before .before .loop .e) (c .before .before .before .before .before .loop .q) (c .before .before .before .before .before .loop .inv .0) (c .before .before .before .before .loop-test .taken) (c .before .before .before .if1 .left) (sym (c .before .before .line-end .ensures) ∙ c .enum-told .given .1))
 
 loop-less : tie.Need-loop-less Inv-loop μ-loop
