@@ -20,8 +20,8 @@ extern "C" {
 #define HORN_GOALS_BYTES 8192
 #define HORN_CERTIFICATE_BYTES 32768
 /*
- * The most stack that either call takes on any texts: stack.c measures 79,048 bytes on texts of 256 levels, all that may nest, and
- * 55,064 for a rulebook alone.
+ * The most stack that either call takes on any texts: stack.c measures 78,936 bytes on texts of 256 levels, all that may nest, and
+ * 62,632 for a rulebook alone.
  */
 #define HORN_STACK_BYTES 98304
 
