@@ -149,18 +149,42 @@ fn replaced(list: &[u8], from: u32, to: u32, out: &mut [u8], len: u32) -> u32 {
     case_text::make(list, words::plus(from, 2), to, out, 0)
 }
 
-// Whether a line states an answer: those that do not begin with a sign of their own.
-pub fn is_answer(list: &[u8], from: u32, to: u32) -> bool {
+// What a line of the list is.
+enum Kind {
+    Nothing,
+    Case,
+    Areas,
+    Rulebook,
+    Goals,
+    Certificate,
+    Answer,
+}
+
+// By its first byte: an empty line or a comment, `case`, `areas`, a text; whatever has no sign of its own states an answer.
+fn kind_at(list: &[u8], from: u32, to: u32) -> Kind {
     if to <= from {
-        return false;
+        return Kind::Nothing;
     }
     match case_text::byte_at(list, from) {
-        35 | 99 | 97 | 82 | 71 | 67 => false,
-        _ => true,
+        35 => Kind::Nothing,
+        99 => Kind::Case,
+        97 => Kind::Areas,
+        82 => Kind::Rulebook,
+        71 => Kind::Goals,
+        67 => Kind::Certificate,
+        _ => Kind::Answer,
     }
 }
 
-// Any other line by its first byte: a comment, or `case`, `areas`, a text.
+// Whether a line states an answer.
+pub fn is_answer(list: &[u8], from: u32, to: u32) -> bool {
+    match kind_at(list, from, to) {
+        Kind::Answer => true,
+        _ => false,
+    }
+}
+
+// The case at hand after a line that states no answer.
 pub fn line(
     s: State,
     list: &[u8],
@@ -170,21 +194,18 @@ pub fn line(
     g: &mut [u8],
     c: &mut [u8],
 ) -> State {
-    if to <= from {
-        return s;
-    }
-    match case_text::byte_at(list, from) {
-        99 => numbered(fresh(s, r, g, c), list, from),
-        97 => lengths(s, list, words::plus(from, 5), to),
-        82 => State {
+    match kind_at(list, from, to) {
+        Kind::Case => numbered(fresh(s, r, g, c), list, from),
+        Kind::Areas => lengths(s, list, words::plus(from, 5), to),
+        Kind::Rulebook => State {
             rulebook: replaced(list, from, to, r, s.rulebook),
             ..s
         },
-        71 => State {
+        Kind::Goals => State {
             goals: replaced(list, from, to, g, s.goals),
             ..s
         },
-        67 => State {
+        Kind::Certificate => State {
             certificate: replaced(list, from, to, c, s.certificate),
             ..s
         },

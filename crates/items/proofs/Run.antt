@@ -9,7 +9,7 @@ use Rattle.words.specs.Sums
 use Rattle.lex.specs.Answers
 use Rattle.utf8.specs.Characters
 use Rattle.utf8.specs.Classes
-use Rattle.lex.specs.Scan
+use Rattle.scanning.specs.Scan
 use Rattle.names.specs.Chains
 use Rattle.outcomes.specs.Outcomes.{refusal}
 use Rattle.outcomes.specs.Leaving.{Did, _leaving_}

@@ -4,10 +4,10 @@ ghost use lib.ListN.{length};
 ghost use Rattle.horn.specs.Setting.{document01};
 ghost use Rattle.horn.specs.Calls.{called, rulebookLeft, releaseLeft};
 ghost use Rattle.horn.specs.Demand3.{Sound, Complete};
-ghost use Rattle.reports.specs.Rulebook.{answered};
+ghost use Rattle.rulebook_call.specs.Reports.{answered};
 ghost use Rattle.reports.specs.Release.{told};
 use reports::Report;
-use reports::RulebookReport;
+use rulebook_call::RulebookReport;
 
 // "One call takes the rulebook alone and answers a number and the counts of sorts, constructors, predicates and rules."
 pub fn rulebook(

@@ -4,7 +4,7 @@ use areas::Before;
 use areas::Lengths;
 
 // A report of the rulebook alone as an answer.
-fn rulebook_answer(r: reports::RulebookReport) -> Answer {
+fn rulebook_answer(r: rulebook_call::RulebookReport) -> Answer {
     Answer {
         number: r.number,
         first: r.sorts,

@@ -8,14 +8,14 @@ use lib.Dec.{eqb, ltb}
 use lib.ListN.{length, getD, drop}
 use Rattle.horn.specs.Refusals.{number, notUtf8}
 use Rattle.utf8.specs.Characters.{first, width, kindAt}
-use Rattle.lex.specs.Scan.{blanks, atomEnd, lineEnd}
+use Rattle.scanning.specs.Scan.{blanks, atomEnd, lineEnd}
 use Rattle.lex.specs.Answers.{token, ended, refused, after, tokenAt, scannedOn}
-use Rattle.lex.specs.declared.Line.the-variants as lines
+use Rattle.scanning.specs.declared.Line.the-variants as lines
 use Rattle.lex.specs.declared.Token.the-variants.{Opening, Closing, Atom}
 use Rattle.lex.specs.declared.Ahead.the-variants.{Nothing}
 use Rattle.horn.proofs.Equality.{case}
 use Rattle.utf8.proofs.Looks.{width-steps}
-use Rattle.lex.proofs.Turns.{line-stop, line-bad, line-step, line-over}
+use Rattle.scanning.proofs.Turns.{line-stop, line-bad, line-step, line-over}
 
 -- A good line ends after its start and within the text.
 pub line-bounds : (text : List ℕ) (f q n : ℕ) → length text - q ≤ f → q < length text → lineEnd (suc f) text q ≡ lines.Good n

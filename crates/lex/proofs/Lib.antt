@@ -1,8 +1,4 @@
-pub mod Turns
 pub mod Answering
-pub mod Streams
-pub mod Lines
-pub mod Skipping
 pub mod Standing
 pub mod Positions
 pub mod Looking

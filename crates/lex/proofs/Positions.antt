@@ -14,7 +14,7 @@ use Rattle.lex.specs.declared.Token.the-variants.{Opening, Closing, Atom
 use Rattle.lex.specs.declared.Reader.{Reader}
 use Rattle.utf8.proofs.Grammar.{lt-of-le-of-ne}
 use Rattle.utf8.proofs.Looks.{kind-steps}
-use Rattle.lex.proofs.Lines.{Clean, clean-le}
+use Rattle.scanning.proofs.Lines.{Clean, clean-le}
 use Rattle.lex.proofs.Standing.{meant, AtomMoved, Moved, Stands, Took, Saw, Takes, Sees, start-stands, token-law, peek-law}
 
 -- The bytes of a token: of a bracket one.

@@ -16,10 +16,10 @@ use Rattle.horn.specs.Tokens as horn
 use Rattle.words.specs.Parts.{part}
 use Rattle.utf8.specs.Classes.{kindNumber}
 use Rattle.utf8.specs.Characters.{first, kindAt}
-use Rattle.lex.specs.Scan.{blanks, atomEnd, lineEnd}
+use Rattle.scanning.specs.Scan.{blanks, atomEnd, lineEnd}
 use Rattle.lex.specs.Answers.{Answer, token, ended, refused, after, tokenAt, scannedOn, scanned, holding, peeked, peekedBy, taken, takenBy, start}
-use Rattle.lex.specs.declared.Line.{Line}
-use Rattle.lex.specs.declared.Line.the-variants as line
+use Rattle.scanning.specs.declared.Line.{Line}
+use Rattle.scanning.specs.declared.Line.the-variants as line
 use Rattle.lex.specs.declared.Token.{Token}
 use Rattle.lex.specs.declared.Token.the-variants.{Opening, Closing, Atom}
 use Rattle.lex.specs.declared.Ahead.{Ahead}
@@ -28,12 +28,12 @@ use Rattle.lex.specs.declared.Reader.{Reader}
 use Rattle.horn.proofs.Equality.{case}
 use Rattle.utf8.proofs.Grammar.{lt-of-le-of-ne}
 use Rattle.lex.proofs.Answering.{line-bounds, scan-token, scan-ended, scan-bad, scan-step, at-atom, at-opening, at-closing}
-use Rattle.lex.proofs.Streams.{stream-bad}
-use Rattle.lex.proofs.Lines.{Clean, over, newline, on, charsAt, found-steps, clean-le, at-end, over-char, line-clean, line-broken}
-use Rattle.lex.proofs.Lines.{Passed, passed-start, passed-on}
-use Rattle.lex.proofs.Skipping.{tokensAt, kind-here, width-here, opening-move, closing-move, atom-move}
-use Rattle.lex.proofs.Turns.{blank-over}
-use Rattle.lex.proofs.Skipping.{Reached, at-line-end, at-token, step-reached, past-blanks, past-atom, newline-kind}
+use Rattle.scanning.proofs.Streams.{stream-bad}
+use Rattle.scanning.proofs.Lines.{Clean, over, newline, on, charsAt, found-steps, clean-le, at-end, over-char, line-clean, line-broken}
+use Rattle.scanning.proofs.Lines.{Passed, passed-start, passed-on}
+use Rattle.scanning.proofs.Skipping.{tokensAt, kind-here, width-here, opening-move, closing-move, atom-move}
+use Rattle.scanning.proofs.Turns.{blank-over}
+use Rattle.scanning.proofs.Skipping.{Reached, at-line-end, at-token, step-reached, past-blanks, past-atom, newline-kind}
 
 -- The definition's token that a token with bounds stands for: an atom's bounds cut out its bytes.
 unfoldable pub meant : List ℕ → Token → horn.Token

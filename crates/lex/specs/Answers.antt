@@ -7,9 +7,9 @@ use lib.ListN.{length, drop}
 use Rattle.horn.specs.Refusals.{number, notUtf8}
 use Rattle.utf8.specs.Classes.{isOrdinary, isOpening, isClosing}
 use Rattle.utf8.specs.Characters.{first, width, kindAt}
-use Rattle.lex.specs.Scan.{blanks, atomEnd, lineEnd}
-use Rattle.lex.specs.declared.Line.{Line}
-use Rattle.lex.specs.declared.Line.the-variants as lines
+use Rattle.scanning.specs.Scan.{blanks, atomEnd, lineEnd}
+use Rattle.scanning.specs.declared.Line.{Line}
+use Rattle.scanning.specs.declared.Line.the-variants as lines
 use Rattle.lex.specs.declared.Token.{Token}
 use Rattle.lex.specs.declared.Token.the-variants.{Opening, Closing, Atom}
 use Rattle.lex.specs.declared.Ahead.{Ahead}
@@ -32,6 +32,7 @@ answer (Got t r) = token t r
 answer End = ended
 answer Bad = refused (number notUtf8)
 
+-- A reader at a place, in a line that is tested up to `end`, that looked at this.
 abbrev pub after : ℕ → ℕ → Ahead → Reader
 after at end ahead = record { at = at; end = end; ahead = ahead }
 

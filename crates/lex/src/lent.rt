@@ -29,31 +29,13 @@ pub fn reader_in(r: &[usize; 5]) -> Reader
     let at = r[0];
     let end = r[1];
     if r[2] == 0 {
-        return Reader {
-            at: at,
-            end: end,
-            ahead: Ahead::Nothing,
-        };
+        return Reader::bare(at, end);
     }
     if r[2] == 1 {
-        return Reader {
-            at: at,
-            end: end,
-            ahead: Ahead::Held(Token::Opening),
-        };
+        return Reader::holding(at, end, Token::Opening);
     }
     if r[2] == 2 {
-        return Reader {
-            at: at,
-            end: end,
-            ahead: Ahead::Held(Token::Closing),
-        };
+        return Reader::holding(at, end, Token::Closing);
     }
-    let s = r[3];
-    let t = r[4];
-    Reader {
-        at: at,
-        end: end,
-        ahead: Ahead::Held(Token::Atom(s, t)),
-    }
+    Reader::holding(at, end, Token::Atom(r[3], r[4]))
 }

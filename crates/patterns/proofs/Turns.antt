@@ -12,7 +12,9 @@ use Rattle.items.specs.declared.Numbered.{Numbered}
 use Rattle.items.specs.declared.Numbered.the-variants as numbers
 use Rattle.items.specs.declared.Named.{Named}
 use Rattle.items.specs.declared.Named.the-variants as names
-use Rattle.leaves.specs.Leaves.{Areas, leaf, compoundHead, applied}
+use Rattle.variables.specs.Variables.{Areas}
+use Rattle.leaves.specs.Leaves.{compoundHead, applied}
+use Rattle.patterns.specs.Patterns.{leaf}
 use Rattle.patterns.specs.declared.Due.the-variants.{Term, Closing}
 use Rattle.patterns.specs.Lent.{Part, whole, head, after, mapped, each, termFrom, partDue}
 use Rattle.patterns.specs.Patterns.{argumentsFrom, pattern, patternOf, arguments, judgment, judgments}

@@ -7,7 +7,9 @@ use Rattle.outcomes.specs.Leaving.{Did, _leaving_, _>>=_, beside}
 use Rattle.lex.specs.Lent.{readerIn}
 use Rattle.items.specs.Items.{Met, atom, list, itemDue, closingDue}
 use Rattle.items.specs.declared.Walk.{Walk}
-use Rattle.leaves.specs.Leaves.{Areas, leaf, compoundHead}
+use Rattle.variables.specs.Variables.{Areas}
+use Rattle.leaves.specs.Leaves.{compoundHead}
+use Rattle.patterns.specs.Patterns.{leaf}
 use Rattle.patterns.specs.declared.Due.{Due}
 use Rattle.patterns.specs.declared.Due.the-variants as dues
 use Rattle.patterns.specs.declared.Taken.{Taken}

@@ -3,11 +3,19 @@ use Prim.Native.Nat.{ℕ, zero, suc, _+_}
 use mathlib.Core.List.{List}
 use lib.ListN.{getD}
 use Rattle.items.specs.Places as places
-use Rattle.outcomes.specs.Outcomes.{refused}
+use Rattle.outcomes.specs.Outcomes.{refused, pick}
 use Rattle.outcomes.specs.Leaving.{Did, _leaving_, _>>=_, beside}
-use Rattle.items.specs.Items.{Met, atom, list, itemDue, listDue, closingDue, headDue}
+use Rattle.items.specs.Items.{Met, atom, list, itemDue, listDue, closingDue, headDue, question}
 use Rattle.items.specs.declared.Walk.{Walk}
-use Rattle.leaves.specs.Leaves.{Areas, applied, leaf, compoundHead}
+use Rattle.variables.specs.Variables.{Areas, variablePattern}
+use Rattle.leaves.specs.Leaves.{applied, constant, compoundHead}
+
+-- An atom at a place of a sort.
+unfoldable pub leaf : List ℕ → ℕ → ℕ → ℕ → Walk → List ℕ → List ℕ → Did Areas Walk
+leaf text s t sort w vars heap =
+    pick (question text s)
+    (λ _. variablePattern text s t sort w vars heap)
+    (λ _. beside vars (constant text s t sort w heap))
 
 -- The arguments of the symbol at c from the k-th on, each read at its input's sort, then the closing.
 unfoldable pub argumentsFrom : (ℕ → Walk → List ℕ → List ℕ → Did Areas Walk) → ℕ → List ℕ → ℕ → ℕ → Walk → List ℕ → List ℕ → Did Areas Walk

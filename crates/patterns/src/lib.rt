@@ -9,7 +9,7 @@ ghost use Prim.Native.Nat.{ℕ};
 ghost use Rattle.outcomes.specs.Leaving.{_leaving_};
 ghost use Rattle.items.specs.Items.{walked, numbered};
 ghost use Rattle.patterns.specs.Lent.{lentWalk, mapped, Part, whole, head, after, takenPart, done, partDue};
-ghost use Rattle.patterns.specs.Patterns.{pattern, arguments, judgment, judgments};
+ghost use Rattle.patterns.specs.Patterns.{leaf, pattern, arguments, judgment, judgments};
 use items::Item;
 use items::Named;
 use items::Numbered;
@@ -84,6 +84,24 @@ fn keep_head(place: &mut [usize; 5], tally: &mut [u32; 3], h: Numbered) -> Taken
     }
 }
 
+// An atom at a place of a sort.
+fn leaf(
+    text: &[u8],
+    vars: &mut [u32],
+    heap: &mut [u32],
+    s: usize,
+    t: usize,
+    sort: u32,
+    w: Walk,
+) -> Walked
+    ensures { λ r. ⌜ (walked r leaving (now (vars .exit), now (heap .exit))) ≡ leaf (now (text .entry)) s t sort w (now (vars .entry)) (now (heap .entry)) ⌝ }
+{
+    if items::is_question(text, s) {
+        return variables::variable_pattern(text, vars, heap, s, t, sort, w);
+    }
+    leaves::constant(text, heap, s, t, sort, w)
+}
+
 // All that a level reads by itself. One function for terms and closings: called from two places it is not inlined, so that what it needs
 // is on the stack once and not in each level.
 fn take(
@@ -109,7 +127,7 @@ fn take(
             match i {
                 Item::Refused(n) => Taken::Refused(n),
                 Item::Atom(s, t, q) => {
-                    let l = leaves::leaf(text, vars, heap, s, t, sort, q);
+                    let l = leaf(text, vars, heap, s, t, sort, q);
                     keep_whole(place, tally, l)
                 }
                 Item::List(members, q) => {

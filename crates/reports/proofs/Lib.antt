@@ -1,3 +1,1 @@
-pub mod Reported
-pub mod RulebookReported
 pub mod ReleaseReported

@@ -18,7 +18,7 @@ use Rattle.checker.specs.Checker as walk
 use Rattle.checker.specs.declared.Counts.{Counts}
 use Rattle.checker_laws.proofs.Whole.{judged, Released, check-law}
 use Rattle.reports.specs.Release.{releasedBy, told}
-use Rattle.reports.proofs.Reported.{Reported}
+use Rattle.clearing.proofs.Reported.{Reported}
 
 -- Reading and judging give neither 1 nor 2.
 later-judged : (rulebook goals certificate : List ℕ) → Later (judged rulebook goals certificate)

@@ -1,2 +1,1 @@
-pub mod Rulebook
 pub mod Release

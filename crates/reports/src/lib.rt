@@ -1,21 +1,8 @@
-// What the calls report of what the walks answer.
+// What the call with three texts reports of what the walks answer.
 ghost use mathlib.Core.Path.{_≡_};
 ghost use Rattle.checker.specs.Checker as checking;
-ghost use Rattle.theory.specs.Declarations.{judged as outcome};
-ghost use Rattle.reports.specs.Rulebook.{reported};
 ghost use Rattle.reports.specs.Release.{released};
 use checker::Checked;
-use theory::Judged;
-
-// A number, and the counts of what the rulebook declares.
-#[repr(C)]
-pub struct RulebookReport {
-    pub number: u32,
-    pub sorts: u32,
-    pub constructors: u32,
-    pub predicates: u32,
-    pub rules: u32,
-}
 
 // A number, the counts of a release, and the certificate's length.
 #[repr(C)]
@@ -28,19 +15,6 @@ pub struct Report {
 }
 
 // "A refusal has zero counts."
-pub fn refused(number: u32) -> RulebookReport
-    ensures { λ r. ⌜ r ≡ record { number = number; sorts = 0; constructors = 0; predicates = 0; rules = 0 } ⌝ }
-{
-    RulebookReport {
-        number,
-        sorts: 0,
-        constructors: 0,
-        predicates: 0,
-        rules: 0,
-    }
-}
-
-// The same of a release.
 pub fn unreleased(number: u32) -> Report
     ensures { λ r. ⌜ r ≡ record { number = number; steps = 0; goals = 0; terms = 0; bytes = 0 } ⌝ }
 {
@@ -50,22 +24,6 @@ pub fn unreleased(number: u32) -> Report
         goals: 0,
         terms: 0,
         bytes: 0,
-    }
-}
-
-// What is reported of what the walks over a rulebook answer.
-pub fn declared(judged: Judged) -> RulebookReport
-    ensures { λ r. ⌜ r ≡ reported (outcome judged) ⌝ }
-{
-    match judged {
-        Judged::Refused(number) => refused(number),
-        Judged::Accepted(c) => RulebookReport {
-            number: 0,
-            sorts: c.sorts,
-            constructors: c.constructors,
-            predicates: c.predicates,
-            rules: c.rules,
-        },
     }
 }
 

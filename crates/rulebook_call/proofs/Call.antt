@@ -13,10 +13,10 @@ use Rattle.horn.specs.Rulebook.{theory}
 use Rattle.horn.specs.Calls as calls
 use Rattle.horn.specs.Calls.{rulebookReport, rulebookJudged, rulebookAnswer, rulebookCall, called, rulebookLeft}
 use Rattle.theory.specs.Walks as walks
-use Rattle.reports.proofs.RulebookReported.{rulebook-reported}
+use Rattle.rulebook_call.proofs.Reported.{rulebook-reported}
 use Rattle.clearing.specs.Lengths.{areaWords, longEnough}
-use Rattle.reports.specs.Rulebook.{reportedBy, answered}
-use Rattle.reports.specs.declared.RulebookReport.{RulebookReport}
+use Rattle.rulebook_call.specs.Reports.{reportedBy, answered}
+use Rattle.rulebook_call.specs.declared.RulebookReport.{RulebookReport}
 use Rattle.clearing.proofs.Areas.{areas-long, Long, untouched-short, untouched-long, all-cleared}
 
 module _ (text a b c d : List ℕ) where

@@ -1,66 +1,29 @@
 -- Declarations of rules: what each function answers, and what it leaves of the variables and of the theory.
-use Prim.Native.Nat.{ℕ, zero, suc, _+_, _*_, _-_, _%_}
+use Prim.Native.Nat.{ℕ, _+_, _*_, _%_}
 use mathlib.Core.Bool.{not}
 use mathlib.Core.List.{List}
-use lib.Dec.{ltb}
-use lib.ListN.{length, set}
-use Rattle.lex.specs.Answers as lex
-use Rattle.lex.specs.Answers.{Answer, taken}
-use Rattle.lex.specs.declared.Token.the-variants as tokens
+use lib.ListN.{set}
 use Rattle.items.specs.Places as places
-use Rattle.outcomes.specs.Outcomes.{Outcome, ok, refused, need, pick}
+use Rattle.outcomes.specs.Outcomes.{Outcome, ok, refused, need}
 use Rattle.outcomes.specs.Outcomes as outcomes
 use Rattle.outcomes.specs.Leaving.{Did, _leaving_, _>>=_, beside}
 use Rattle.words.specs.Parts.{copied}
 use Rattle.words.specs.Sums.{sum32}
-use Rattle.items.specs.Items.{Met, atom, list, readOn, openedOne, withTop, itemDue, listDue, closingDue, question}
-use Rattle.leaves.specs.Leaves.{Areas}
+use Rattle.items.specs.Items.{withTop, listDue, closingDue, question}
+use Rattle.variables.specs.Variables.{Areas}
 use Rattle.patterns.specs.Patterns.{judgment, judgments}
 use Rattle.items.specs.declared.Walk.{Walk}
 use Rattle.symbols.specs.Symbols.{entered}
-use Rattle.rules.specs.declared.RuleName.{RuleName}
-use Rattle.rules.specs.declared.RuleName.the-variants as ruleNames
-use Rattle.rules.specs.declared.Kept.{Kept}
-use Rattle.rules.specs.declared.Kept.the-variants as kepts
+use Rattle.rule_names.specs.RuleNames.{nameKept}
+use Rattle.rule_names.specs.declared.RuleName.{RuleName}
+use Rattle.rule_names.specs.declared.RuleName.the-variants as ruleNames
 use Rattle.rules.specs.declared.Body.{Body}
 use Rattle.rules.specs.declared.Body.the-variants as bodies
-
--- What each case of the answer says: what stands in a rule's place for its name, and the walk after it; or a refusal.
-abbrev pub kept : Kept → Outcome (RuleName × Walk)
-kept (kepts.Got name w) = ok (name, w)
-kept (kepts.Refused n) = refused n
 
 -- The number of a rule's premises, the place of its conclusion and the walk after it; or a refusal.
 abbrev pub body : Body → Outcome (ℕ × ℕ × Walk)
 body (bodies.Got n conclusion w) = ok (n, conclusion, w)
 body (bodies.Refused n) = refused n
-
--- How far a token goes down into lists, and 1: an opening 2, an atom 1, a closing 0.
-abbrev pub passedFrom : Walk → Answer → Outcome (ℕ × Walk)
-passedFrom w (lex.token tokens.Opening r) = ok (2, openedOne w r)
-passedFrom w (lex.token tokens.Closing r) = ok (0, readOn w r)
-passedFrom w (lex.token (tokens.Atom s t) r) = ok (1, readOn w r)
-passedFrom w lex.ended = refused 5
-passedFrom w (lex.refused n) = refused n
-
-unfoldable pub passed : List ℕ → Walk → Outcome (ℕ × Walk)
-passed text w = passedFrom w (taken text (w .reader))
-
--- Past the closing of so many lists.
-unfoldable pub skipped : ℕ → ℕ → List ℕ → Walk → Outcome Walk
-skipped zero depth text w = pick (ltb 0 depth) (λ _. refused 4) (λ _. ok w)
-skipped (suc fuel) depth text w =
-    pick (ltb 0 depth)
-    (λ _. outcomes._>>=_ (passed text w) (λ (k, q). skipped fuel (sum32 (depth - 1) k) text q))
-    (λ _. ok w)
-
--- A rule's name is judged after its patterns, so it is kept; a list there is skipped.
-abbrev pub keptFrom : List ℕ → Met → Outcome (RuleName × Walk)
-keptFrom text (atom s t w) = ok (ruleNames.Atom s t, w)
-keptFrom text (list n w) = outcomes._>>=_ (skipped (length text) 1 text w) (λ q. ok (ruleNames.List, q))
-
-unfoldable pub nameKept : List ℕ → List ℕ → Walk → Outcome (RuleName × Walk)
-nameKept text counts w = outcomes._>>=_ (itemDue text counts w) (keptFrom text)
 
 -- "N or S as a list is 7, with a leading `?` 11".
 abbrev pub nameJudged : List ℕ → RuleName → Outcome (ℕ × ℕ)

@@ -1,43 +1,20 @@
 // Declarations of rules.
 ghost use mathlib.Core.Path.{_≡_};
-ghost use lib.ListN.{length};
 ghost use Rattle.outcomes.specs.Outcomes.{ok, refusal};
 ghost use Rattle.outcomes.specs.Leaving.{_leaving_};
-ghost use Rattle.items.specs.Items.{numbered, walked};
-ghost use Rattle.rules.specs.Rules.{kept, body, passed, skipped, nameKept, begun, bodyRead, ruleDescribed, variablesStored, ruleEntered, ruleDeclared};
-use items::Item;
+ghost use Rattle.items.specs.Items.{walked};
+ghost use Rattle.rules.specs.Rules.{body, begun, bodyRead, ruleDescribed, variablesStored, ruleEntered, ruleDeclared};
 use items::Numbered;
 use items::Walk;
 use items::Walked;
 use items::places;
-use lex::Read;
-use lex::Token;
-
-// What stands in the place of a rule's name, which is judged after the patterns.
-pub enum RuleName {
-    Atom(usize, usize),
-    List,
-}
-
-pub enum Kept {
-    Got(RuleName, Walk),
-    Refused(u32),
-}
+use rule_names::Kept;
+use rule_names::RuleName;
 
 // The number of a rule's premises, the place of its conclusion and the walk after it.
 pub enum Body {
     Got(u32, u32, Walk),
     Refused(u32),
-}
-
-// The number of its refusal, 0 where there is none.
-pub fn kept_refusal(r: Kept) -> u32
-    ensures { λ n. ⌜ n ≡ refusal (kept r) ⌝ }
-{
-    match r {
-        Kept::Got(_, _) => 0,
-        Kept::Refused(n) => n,
-    }
 }
 
 // The number of its refusal, 0 where there is none.
@@ -47,88 +24,6 @@ pub fn body_refusal(r: Body) -> u32
     match r {
         Body::Got(_, _, _) => 0,
         Body::Refused(n) => n,
-    }
-}
-
-// How far the next token goes down into lists, and 1.
-pub fn pass(text: &[u8], w: Walk) -> Numbered
-    ensures { λ r. ⌜ numbered r ≡ passed (now (text .entry)) w ⌝ }
-{
-    let reader = w.reader;
-    let opened = w.opened;
-    let read = reader.token(text);
-    match read {
-        Read::End => Numbered::Refused(5),
-        Read::Bad => Numbered::Refused(3),
-        Read::Got(token, next) => match token {
-            Token::Opening => Numbered::Got(
-                2,
-                Walk {
-                    reader: next,
-                    opened: words::plus(opened, 1),
-                    top: w.top,
-                    variables: w.variables,
-                },
-            ),
-            Token::Closing => Numbered::Got(
-                0,
-                Walk {
-                    reader: next,
-                    opened,
-                    top: w.top,
-                    variables: w.variables,
-                },
-            ),
-            Token::Atom(_, _) => Numbered::Got(
-                1,
-                Walk {
-                    reader: next,
-                    opened,
-                    top: w.top,
-                    variables: w.variables,
-                },
-            ),
-        },
-    }
-}
-
-// Past the closing of a list whose opening was taken.
-pub fn skip(text: &[u8], w: Walk) -> Walked
-    ensures { λ r. ⌜ walked r ≡ skipped (length (now (text .entry))) 1 (now (text .entry)) w ⌝ }
-{
-    let mut v = w;
-    let mut depth: u32 = 1;
-    let mut fuel = text.len();
-    while 0 < depth {
-        if fuel == 0 {
-            return Walked::Refused(4);
-        }
-        let p = pass(text, v);
-        let Numbered::Got(k, q) = p else {
-            return Walked::Refused(items::numbered_refusal(p));
-        };
-        v = q;
-        depth = words::plus(depth - 1, k);
-        fuel -= 1;
-    }
-    Walked::To(v)
-}
-
-// What stands in the place of a rule's name, unjudged.
-pub fn keep_name(text: &[u8], counts: &[u32], w: Walk) -> Kept
-    ensures { λ r. ⌜ kept r ≡ nameKept (now (text .entry)) (now (counts .entry)) w ⌝ }
-{
-    let i = items::next_item(text, counts, w);
-    match i {
-        Item::Refused(n) => Kept::Refused(n),
-        Item::Atom(s, t, q) => Kept::Got(RuleName::Atom(s, t), q),
-        Item::List(_, q) => {
-            let p = skip(text, q);
-            match p {
-                Walked::Refused(n) => Kept::Refused(n),
-                Walked::To(o) => Kept::Got(RuleName::List, o),
-            }
-        }
     }
 }
 
@@ -234,9 +129,9 @@ pub fn declare_rule(
         ≡ ruleDeclared (now (text .entry)) (now (counts .entry)) w (now (vars .entry)) (now (heap .entry)) ⌝ }
 {
     let e = w.top;
-    let k = keep_name(text, counts, w);
+    let k = rule_names::keep_name(text, counts, w);
     let Kept::Got(name, q) = k else {
-        return Walked::Refused(kept_refusal(k));
+        return Walked::Refused(rule_names::kept_refusal(k));
     };
     let b = read_body(text, counts, vars, heap, begin(q));
     let Body::Got(n, conclusion, p) = b else {

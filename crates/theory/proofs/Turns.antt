@@ -9,7 +9,7 @@ use Rattle.sexp.specs.declared.Walk as sexp
 use Rattle.sexp.specs.declared.Walk.the-variants.{Whole}
 use Rattle.outcomes.specs.Outcomes.{Outcome, ok, refused}
 use Rattle.outcomes.specs.Leaving.{Did, _leaving_}
-use Rattle.leaves.specs.Leaves.{Areas}
+use Rattle.variables.specs.Variables.{Areas}
 use Rattle.items.specs.declared.Walk.{Walk}
 use Rattle.theory.specs.Declarations.{Next, another, nothing, declaration, counted, moreDue, declarationsFrom, declarations}
 use Rattle.theory.specs.Walks.{withCounts, theory}

@@ -14,7 +14,7 @@ use Rattle.outcomes.specs.Outcomes as outcomes
 use Rattle.outcomes.specs.Leaving.{Did, _leaving_, _>>=_, beside}
 use Rattle.words.specs.Sums.{sum32}
 use Rattle.items.specs.Items.{readOn, listDue, headDue}
-use Rattle.leaves.specs.Leaves.{Areas}
+use Rattle.variables.specs.Variables.{Areas}
 use Rattle.items.specs.declared.Walk.{Walk}
 use Rattle.symbols.specs.Symbols.{sortDeclared, constructorDeclared, predicateDeclared}
 use Rattle.rules.specs.Rules.{ruleDeclared}

@@ -7,7 +7,7 @@ use Rattle.sexp.specs.Walk.{walked}
 use Rattle.items.specs.Places as places
 use Rattle.outcomes.specs.Outcomes.{Outcome, ok, refused}
 use Rattle.outcomes.specs.Leaving.{Did, _leaving_}
-use Rattle.leaves.specs.Leaves.{Areas}
+use Rattle.variables.specs.Variables.{Areas}
 use Rattle.theory.specs.Declarations.{declarations}
 use Rattle.theory.specs.declared.Counts.{Counts}
 

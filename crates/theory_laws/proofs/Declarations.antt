@@ -17,7 +17,7 @@ use Rattle.sexp.specs.Flattening.{flatOne, flat, size, countsOne, countsAll}
 use Rattle.outcomes.specs.Outcomes as outcomes
 use Rattle.items.specs.Places as places
 use Rattle.items.specs.Items.{readOn, openedOne, listDue, headDue}
-use Rattle.leaves.specs.Leaves.{Areas}
+use Rattle.variables.specs.Variables.{Areas}
 use Rattle.items.specs.declared.Walk.{Walk}
 use Rattle.theory.specs.Declarations as walk
 use Rattle.theory.specs.Declarations.{another, nothing, formOf, formNamed, declaredBy, moreDue, counted, declarationsFrom}

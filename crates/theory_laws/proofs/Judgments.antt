@@ -17,7 +17,7 @@ use Rattle.outcomes.specs.Outcomes as outcomes
 use Rattle.items.specs.Places as places
 use Rattle.items.specs.Items.{readOn, openedOne, listDue, headDue}
 use Rattle.patterns.specs.Patterns as walk
-use Rattle.leaves.specs.Leaves.{Areas}
+use Rattle.variables.specs.Variables.{Areas}
 use Rattle.items.specs.declared.Walk.{Walk}
 use Rattle.outcomes.specs.Simulation.{Simulates, refuse, leave, bind, checked-aside, after}
 use Rattle.theory_laws.specs.Reading.{Reads, Shallow, shallow-list, Shallows, shallow-more}

@@ -28,8 +28,11 @@ use Rattle.outcomes.specs.Leaving.{beside}
 use Rattle.words.specs.Sums.{sum32}
 use Rattle.items.specs.Places as places
 use Rattle.items.specs.Items.{withTop, pushed, question}
+use Rattle.variables.specs.Variables as walkVariables
 use Rattle.leaves.specs.Leaves as walk
-use Rattle.leaves.specs.Leaves.{Areas, variableWord, withVariable, oneVariable, introduced, metAgain, variableAt, variableFrom, applied}
+use Rattle.patterns.specs.Patterns as walkTerms
+use Rattle.variables.specs.Variables.{Areas, variableWord, withVariable, oneVariable, introduced, metAgain, variableAt, variableFrom}
+use Rattle.leaves.specs.Leaves.{applied}
 use Rattle.items.specs.declared.Walk.{Walk}
 use Rattle.outcomes.specs.Simulation.{Simulates, leave, test, tests, look, checked, aside}
 use Rattle.theory_laws.specs.Representation.{Entries, SortAt, OutputAt, sort-output, SymbolAt, symbol-at, Nth, flat-variable, flat-symbol, no-flats}
@@ -205,8 +208,8 @@ module _ (text counts : List ℕ) (Before : Reader → Stream Token → Type 0) 
       → t ≤ length text
       → questioned name ≡ true
       → SortAt es a sortName
-      → Simulates (HasRead ts ks vs (w .top) heap) (walk.variablePattern text s t a w vars heap) (definition.variablePattern name sortName vs)
-  unfolding walk.variablePattern definition.variablePattern number
+      → Simulates (HasRead ts ks vs (w .top) heap) (walkVariables.variablePattern text s t a w vars heap) (definition.variablePattern name sortName vs)
+  unfolding walkVariables.variablePattern definition.variablePattern number
   variable-pattern-law {vs} {w} {vars} name sortName s t a short r p l u q m =
       let n : length name ≡ t - s = ap length (sym p) ∙ part-length s t text u in
       let b = bare-width name (t - s) q n in
@@ -304,8 +307,8 @@ module _ (text counts : List ℕ) (Before : Reader → Stream Token → Type 0) 
       → s < t
       → t ≤ length text
       → SortAt es a sortName
-      → Simulates (HasRead ts ks vs (w .top) heap) (walk.leaf text s t a w vars heap) (definition.pattern th (leaf name) sortName vs)
-  unfolding walk.leaf
+      → Simulates (HasRead ts ks vs (w .top) heap) (walkTerms.leaf text s t a w vars heap) (definition.pattern th (leaf name) sortName vs)
+  unfolding walkTerms.leaf
   leaf-law {vs} name sortName s t a short r p l u m =
       let q : question text s ≡ questioned name = sym (part-question s t text l u) ∙ ap questioned p in
       case (questioned name)

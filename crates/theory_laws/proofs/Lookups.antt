@@ -22,7 +22,7 @@ use Rattle.names.proofs.Kept.{member-named, member-bounds}
 use Rattle.names.proofs.Declared.{lookup-member, stands-distinct}
 use Rattle.items.specs.Places as places
 use Rattle.items.specs.Items.{question}
-use Rattle.leaves.specs.Leaves.{nameOfVariable, variableFrom}
+use Rattle.variables.specs.Variables.{nameOfVariable, variableFrom}
 use Rattle.theory_laws.specs.Representation.{Entries, SortAt, sort-at, OutputAt, sort-output, judgment-output, Nth, here, there, VariablesAt}
 use Rattle.theory_laws.specs.Representation.{no-variables, one-variable, Holds}
 

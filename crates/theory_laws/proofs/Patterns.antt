@@ -25,7 +25,8 @@ use Rattle.items.specs.Items as items
 use Rattle.words.specs.Sums.{sum32}
 use Rattle.items.specs.Items.{readOn, openedOne, withTop, atomDue, headDue, closingDue}
 use Rattle.patterns.specs.Patterns as walk
-use Rattle.leaves.specs.Leaves.{Areas, compoundHead}
+use Rattle.variables.specs.Variables.{Areas}
+use Rattle.leaves.specs.Leaves.{compoundHead}
 use Rattle.patterns.specs.Patterns.{argumentsFrom}
 use Rattle.items.specs.declared.Walk.{Walk}
 use Rattle.outcomes.specs.Simulation.{Simulates, refuse, leave, bind, test, tested-aside, after}

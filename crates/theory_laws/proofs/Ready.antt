@@ -13,7 +13,7 @@ use Rattle.lex.specs.declared.Reader.{Reader}
 use Rattle.words.specs.Sums.{sum32}
 use Rattle.items.specs.Places as places
 use Rattle.items.specs.Items.{withTop}
-use Rattle.leaves.specs.Leaves.{Areas}
+use Rattle.variables.specs.Variables.{Areas}
 use Rattle.items.specs.declared.Walk.{Walk}
 use Rattle.theory_laws.specs.Reading.{Walks, weight}
 use Rattle.theory_laws.specs.Representation.{Entries, SortAt, Nth, here, there, Flat, VariablesAt, no-variables, one-variable, Holds}

@@ -26,12 +26,13 @@ use Rattle.outcomes.specs.Leaving.{beside}
 use Rattle.words.specs.Sums.{sum32}
 use Rattle.items.specs.Places as places
 use Rattle.items.specs.Items.{readOn, openedOne, withTop, listDue}
-use Rattle.leaves.specs.Leaves.{Areas}
+use Rattle.variables.specs.Variables.{Areas}
 use Rattle.items.specs.declared.Walk.{Walk}
 use Rattle.symbols.specs.Symbols.{isNew, entered}
-use Rattle.rules.specs.Rules.{nameKept, nameJudged, begun, bodyRead, ruleDescribed, variablesStored, ruleEntered, ruleDeclared}
-use Rattle.rules.specs.declared.RuleName.{RuleName}
-use Rattle.rules.specs.declared.RuleName.the-variants as ruleNames
+use Rattle.rule_names.specs.RuleNames.{nameKept}
+use Rattle.rules.specs.Rules.{nameJudged, begun, bodyRead, ruleDescribed, variablesStored, ruleEntered, ruleDeclared}
+use Rattle.rule_names.specs.declared.RuleName.{RuleName}
+use Rattle.rule_names.specs.declared.RuleName.the-variants as ruleNames
 use Rattle.outcomes.specs.Simulation.{Answers, both-refuse, both-ok, Simulates, refuse, leave, bind, pure, aside, test-then, paired, three-on}
 use Rattle.theory_laws.specs.Reading.{Reads, Walks, weight, Shallow, shallow-list}
 use Rattle.theory_laws.specs.Representation.{Entries, Flat, FlatList, no-variables, Holds}

@@ -17,7 +17,7 @@ use Rattle.outcomes.specs.Outcomes.{Outcome}
 use Rattle.words.specs.Sums.{sum32}
 use Rattle.items.specs.Items.{readOn, openedOne}
 use Rattle.items.specs.declared.Walk.{Walk}
-use Rattle.rules.specs.Rules.{passed, skipped}
+use Rattle.rule_names.specs.RuleNames.{passed, skipped}
 use Rattle.theory_laws.specs.Reading.{Same, same-opening, same-closing, same-atom, Takes, Reads, Next, one-next, Walks}
 use Rattle.words.proofs.Sums.{sum-small}
 

@@ -31,7 +31,7 @@ use Rattle.sexp.proofs.Law.{walk-cases}
 use Rattle.outcomes.specs.Outcomes as outcomes
 use Rattle.outcomes.specs.Leaving.{Did, _leaving_}
 use Rattle.items.specs.Places as places
-use Rattle.leaves.specs.Leaves.{Areas}
+use Rattle.variables.specs.Variables.{Areas}
 use Rattle.theory.specs.Declarations.{declarations, startWalk}
 use Rattle.theory.specs.Walks as walk
 use Rattle.theory.specs.Walks.{AllAreas, withCounts}

@@ -9,7 +9,7 @@ use Rattle.names.specs.Chains.{found}
 use Rattle.items.specs.Places as places
 use Rattle.outcomes.specs.Outcomes.{pick}
 use Rattle.words.specs.Sums.{sum32}
-use Rattle.leaves.specs.Leaves.{variableFrom}
+use Rattle.variables.specs.Variables.{variableFrom}
 
 -- The address of the symbol or rule that has the name `key`; names of the rulebook stand in `text`.
 unfoldable pub constructorFound : List ℕ → List ℕ → List ℕ → Option ℕ

@@ -130,5 +130,5 @@ pub fn find_variable(
 {
     let count = variable_count(heap, r);
     let place = variables(heap, r);
-    leaves::find_variable(heap, place, count, text, from, start, end)
+    variables::find_variable(heap, place, count, text, from, start, end)
 }

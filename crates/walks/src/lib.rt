@@ -1,31 +1,9 @@
-// The walks, with the areas cleared behind them.
+// The walks over three texts, with the areas cleared behind them.
 ghost use mathlib.Core.Path.{_≡_};
 ghost use lib.ListN.{length, replicate};
 ghost use Rattle.checker.specs.Checker as checking;
-ghost use Rattle.theory.specs.Walks.{theory};
-ghost use Rattle.reports.specs.Rulebook.{reportedBy};
 ghost use Rattle.reports.specs.Release.{releasedBy};
 use reports::Report;
-use reports::RulebookReport;
-
-// Both walks over a rulebook, then the areas cleared behind them.
-pub fn judge(
-    text: &[u8],
-    a: &mut [u32],
-    b: &mut [u32],
-    c: &mut [u32],
-    d: &mut [u32],
-) -> RulebookReport
-    ensures report { λ r. ⌜ r ≡ reportedBy (theory (now (text .entry)) (now (b .entry)) (now (c .entry)) (now (d .entry))) ⌝ }
-    ensures first { λ r. ⌜ now (a .exit) ≡ replicate (length (now (a .entry))) 0 ⌝ }
-    ensures second { λ r. ⌜ now (b .exit) ≡ replicate (length (now (b .entry))) 0 ⌝ }
-    ensures third { λ r. ⌜ now (c .exit) ≡ replicate (length (now (c .entry))) 0 ⌝ }
-    ensures fourth { λ r. ⌜ now (d .exit) ≡ replicate (length (now (d .entry))) 0 ⌝ }
-{
-    let judged = theory::theory(text, b, c, d);
-    clearing::clear_all(a, b, c, d);
-    reports::declared(judged)
-}
 
 // All three texts, then the areas cleared behind them.
 pub fn check(
