@@ -23,6 +23,10 @@ use Rattle.asking.specs.declared.Begun.the-variants as begins
 abbrev pub inForm : ℕ
 inForm = 256
 
+-- What is left for the members of a list within a form, which are at depth 2.
+abbrev pub inList : ℕ
+inList = 255
+
 -- An atom with its bounds, or a list, its opening taken; and the reader after it.
 pub data Met : Type 0 where
   atom : ℕ → ℕ → Reader → Met

@@ -10,6 +10,9 @@ use lex::Token;
 // What is left for the members of a form, which are at depth 1.
 pub const IN_FORM: u32 = 256;
 
+// What is left for the members of a list within a form, which are at depth 2.
+pub const IN_LIST: u32 = 255;
+
 // An atom with its bounds and the reader after it, or a list with the reader after its opening.
 pub enum Item {
     Atom(usize, usize, Reader),

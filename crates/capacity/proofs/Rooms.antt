@@ -1,4 +1,4 @@
--- No release fills the table or the stack, in either setting. Assumes nothing.
+-- No release fills the table. Assumes nothing.
 use Prim.Native.Nat.{ℕ, _+_, _*_, _≤_}
 use mathlib.Core.Path.{_≡_, ap}
 use mathlib.Core.List.{List, []}
@@ -78,13 +78,7 @@ pub never-full : {limits : Setting} {th : Theory} {goals : List Goal} {text : Li
     → base + 4 * length goals + 4 * length (now .defs) + 3 * length (now .steps) ≤ words
 never-full {goals} {certificateBytes} r g h reached = tables-fit (length goals) r g (reached-budget certificateBytes h reached)
 
--- Document 01's setting, and the larger one of the later request with 65,536 buckets of abbreviations. (Stacks: two bytes of the certificate for each word.)
-pub roomy-01 : Roomy 256 (document01 .goalsBytes) (document01 .certificateBytes) (document01 .areaWords)
+-- Document 01's setting, with 64 buckets of goals and 192 of abbreviations.
+pub roomy-01 : Roomy (64 + 192) (document01 .goalsBytes) (document01 .certificateBytes) (document01 .areaWords)
 unfolding document01
 roomy-01 = record { fits = omega arith }
-
-pub roomy-large : Roomy (64 + 65536) 8192 2097152 2097152
-roomy-large = record { fits = omega arith }
-
-pub stack-large : 2097152 ≤ 2 * 2097152
-stack-large = omega arith

@@ -1,5 +1,5 @@
 -- "(result N I)". Assumes nothing.
-use Prim.Native.Nat.{ℕ}
+use Prim.Native.Nat.{ℕ, _+_}
 use mathlib.Core.Path.{_≡_, refl, sym, _∙_}
 use mathlib.Core.List.{List}
 use mathlib.Core.Option.{Option}
@@ -28,7 +28,7 @@ use Rattle.theory_laws.specs.Representation.{Entries, Holds}
 use Rattle.theory_laws.proofs.Frames.{Keeps}
 use Rattle.theory_reading.proofs.Stored.{Stored, Means, means-same}
 use Rattle.tables.specs.declared.Tally.{Tally}
-use Rattle.tables.specs.Words.{goalOpen, goalClosed, goalDone, stepWord}
+use Rattle.tables.specs.Words.{goalBuckets, goalOpen, goalClosed, goalDone, stepWord}
 use Rattle.tables.specs.Representation.{Tables, OpenAt, OpenAgree, none-open, one-open, StepAgree, no-step, one-step}
 use Rattle.tables.proofs.Laws.{open-goal, step-of}
 use Rattle.tables.proofs.Phases.{next-result}
@@ -52,7 +52,7 @@ data ResultRead (certificate table : List ℕ) (Means : ℕ → Term → Type 0)
     (ts : List Term) :
     Tally × Reader → List ℕ → Progress × List Term → Type 0 where
   result-read : {e w : ℕ} {r : Reader} {key : Name} {g : Goal}
-      → OpenAt table 256 Means goals key e w g
+      → OpenAt table (goalBuckets + defBuckets) Means goals key e w g
       → At certificate K 0 r
       → ResultRead certificate table Means tally goals now K ts (goalDone tally, r) (goalClosed e table) (closed now key, ts)
 
@@ -66,12 +66,12 @@ module _ {goalsText certificate table : List ℕ} {Means : ℕ → Term → Type
     {defs : List Def} {steps : List Step} (h : Tables goalsText certificate table defBuckets Means Recorded tally goals openGoals defs steps) where
   -- "N not a goal still open, 12".
   open-due : {key name : Name} → key ≡ name
-      → Answers (λ x g. OpenAt table 256 Means goals name (x .0) (x .1) g) (outcomes.orElse (goalOpen goalsText key table) 12)
+      → Answers (λ x g. OpenAt table (goalBuckets + defBuckets) Means goals name (x .0) (x .1) g) (outcomes.orElse (goalOpen goalsText key table) 12)
       (refusals.found (first (isGoal name) openGoals) unknown)
   unfolding refusals.found number
   open-due {name} e = rw e (by (open-goal h name)) where
-    by : {o : Option (ℕ × ℕ)} {o′ : Option Goal} → OpenAgree table 256 Means goals name o o′
-        → Answers (λ x g. OpenAt table 256 Means goals name (x .0) (x .1) g) (outcomes.orElse o 12) (refusals.found o′ unknown)
+    by : {o : Option (ℕ × ℕ)} {o′ : Option Goal} → OpenAgree table (goalBuckets + defBuckets) Means goals name o o′
+        → Answers (λ x g. OpenAt table (goalBuckets + defBuckets) Means goals name (x .0) (x .1) g) (outcomes.orElse o 12) (refusals.found o′ unknown)
     by none-open = both-refuse refl
     by (one-open a) = both-ok a
 

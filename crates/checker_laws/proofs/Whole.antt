@@ -27,7 +27,7 @@ use Rattle.outcomes.specs.Simulation.{Simulates, refuse, leave, bind, knowing}
 use Rattle.theory_laws.proofs.Frames.{Keeps, keeps-all}
 use Rattle.theory_laws.proofs.Whole.{Judged, theory-law}
 use Rattle.theory_reading.proofs.Stored.{Longer, Stored, nothing-stored, means-longer}
-use Rattle.tables.specs.Words.{noneYet}
+use Rattle.tables.specs.Words.{goalBuckets, noneYet}
 use Rattle.nodes.specs.Limits.{nodeLimit, indexPlaces, defBuckets}
 use Rattle.goals.specs.Goals as goals
 use Rattle.goals_laws.proofs.Goals.{GoalsRead, goals-whole}
@@ -70,7 +70,8 @@ module _ (rulebook text certificateText : List ℕ) (short-rulebook : length rul
   after-rulebook : (th : Theory) → definition.theory rulebook ≡ ok th → (c : declared.Counts) (store table stack heap : List ℕ) → length store ≡ 16384
       → Judged rulebook c (table, stack, heap) th
       → Simulates (Released (length certificateText))
-      (leaving._>>=_ (around heap (goals.goals text rulebook heap (noneYet defBuckets) (emptied store nodeLimit indexPlaces) stack (cleared 256 table))) (λ p.
+      (leaving._>>=_ (around heap
+      (goals.goals text rulebook heap (noneYet defBuckets) (emptied store nodeLimit indexPlaces) stack (cleared (goalBuckets + defBuckets) table))) (λ p.
       leaving._>>=_ (certificate certificateText text rulebook (p .0) (p .1 .0 .0 .0) (p .1 .0 .0 .1) (p .1 .0 .1) (p .1 .1)) (λ q.
       outcomes.ok (walk.countsOf (q .0) (q .1 .0 .0 .0)) leaving q .1)))
       (goalsOf document01 th text [] >>= λ p.

@@ -29,7 +29,7 @@ use Rattle.theory_laws.specs.Representation.{Entries, Holds}
 use Rattle.theory_reading.proofs.Stored.{Longer, Stored, Means}
 use Rattle.capacity.proofs.Rooms.{roomy-01}
 use Rattle.tables.specs.declared.Tally.{Tally}
-use Rattle.tables.specs.Words.{noneYet}
+use Rattle.tables.specs.Words.{goalBuckets, noneYet}
 use Rattle.tables.specs.Phases.{Gathering}
 use Rattle.tables.proofs.Laws.{none-left}
 use Rattle.tables.proofs.Phases.{first-goal}
@@ -97,13 +97,15 @@ module _ {rules heap : List ℕ} {es : Entries} {bound : ℕ} {th : Theory} (h :
 
   -- The whole text, from an empty store and a table that holds nothing.
   pub goals-whole : (store stack table : List ℕ) → length table ≡ 16384 → Stored es th document01 indexPlaces store [] → length stack ≡ 16384
-      → Simulates (GoalsRead es th goalsText certificate Recorded) (walk.goals goalsText rules heap (noneYet defBuckets) store stack (cleared 256 table))
+      → Simulates (GoalsRead es th goalsText certificate Recorded)
+      (walk.goals goalsText rules heap (noneYet defBuckets) store stack (cleared (goalBuckets + defBuckets) table))
       (definition.goalsOf document01 th goalsText [])
   unfolding walk.goals definition.goalsOf definition._>>=_ definition.lift definition.give number document01
   goals-whole store stack table words st long =
       let n = few-items goalsText in
       bind _ _
-      (goals-law (length goalsText + 1) (items (tokens goalsText)) [] [] (noneYet defBuckets) start store stack (cleared 256 table) (omega arith)
+      (goals-law (length goalsText + 1) (items (tokens goalsText)) [] [] (noneYet defBuckets) start store stack
+      (cleared (goalBuckets + defBuckets) table) (omega arith)
       (first-goal goalsText certificate 8192 32768 defBuckets (Means es th []) (Recorded []) document01 th table (omega arith) (omega arith) (omega arith) short
       (rw words roomy-01))
       st long (at-start goalsText))

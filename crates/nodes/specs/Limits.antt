@@ -11,6 +11,6 @@ wordLimit = 8192
 abbrev pub indexPlaces : ℕ
 indexPlaces = 4096
 
--- Buckets of abbreviations: with those of goals as many as the table has room for (crate capacity).
+-- Buckets of abbreviations. With those of goals they are fewer than the 297 that the table has room for (crate capacity).
 abbrev pub defBuckets : ℕ
 defBuckets = 192

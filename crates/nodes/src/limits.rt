@@ -7,5 +7,5 @@ pub const WORDS: u32 = 8192;
 
 pub const PLACES: u32 = 4096;
 
-// Buckets of abbreviations: with those of goals as many as the table has room for (crate capacity).
+// Buckets of abbreviations. With those of goals they are fewer than the 297 that the table has room for (crate capacity).
 pub const DEF_BUCKETS: u32 = 192;

@@ -9,7 +9,7 @@ use Rattle.words.specs.Sums.{sum32}
 use Rattle.numerals.specs.Numbers.{saturated}
 use Rattle.outcomes.specs.Outcomes.{Outcome, ok, refused}
 use Rattle.outcomes.specs.Leaving.{_leaving_}
-use Rattle.asking.specs.Asking.{closing, member, closingNext}
+use Rattle.asking.specs.Asking.{inList, closing, member, closingNext}
 use Rattle.references.specs.References.{numberDue, referencesFrom}
 
 module _ (text : List ℕ) (n : ℕ) (r : Reader) (stack : List ℕ) where
@@ -24,14 +24,14 @@ module _ (text : List ℕ) (n : ℕ) (r : Reader) (stack : List ℕ) where
   references-bad zero l e = absurd (omega arith)
   references-bad (suc fuel) l e = rw e
 
-  pub reference-refused : (fuel : ℕ) {q : Reader} {m : ℕ} → 0 < fuel → closingNext text r ≡ ok (member q) → numberDue text 255 q ≡ refused m
+  pub reference-refused : (fuel : ℕ) {q : Reader} {m : ℕ} → 0 < fuel → closingNext text r ≡ ok (member q) → numberDue text inList q ≡ refused m
       → referencesFrom fuel text n r stack ≡ (refused m leaving stack)
   unfolding referencesFrom
   reference-refused zero l e h = absurd (omega arith)
   reference-refused (suc fuel) l e h = rw (e, h)
 
   pub references-on : (fuel : ℕ) {q p : Reader} {i word next : ℕ} {stack′ : List ℕ} → 0 < fuel → closingNext text r ≡ ok (member q)
-      → numberDue text 255 q ≡ ok (i, p) → word ≡ saturated i → next ≡ sum32 n 1 → stack′ ≡ set stack n word
+      → numberDue text inList q ≡ ok (i, p) → word ≡ saturated i → next ≡ sum32 n 1 → stack′ ≡ set stack n word
       → referencesFrom fuel text n r stack ≡ referencesFrom (fuel - 1) text next p stack′
   unfolding referencesFrom
   references-on zero l e h w f g = absurd (omega arith)

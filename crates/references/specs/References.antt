@@ -12,7 +12,7 @@ use Rattle.outcomes.specs.Outcomes.{Outcome, ok, refused, need, orElse}
 use Rattle.outcomes.specs.Outcomes as outcomes
 use Rattle.outcomes.specs.Leaving.{Did, _leaving_, _>>=_}
 use Rattle.theory_reading.specs.Reading.{ruleFound, premiseCount}
-use Rattle.asking.specs.Asking.{inForm, Ahead, closing, member, atomDue, listDue, closingNext}
+use Rattle.asking.specs.Asking.{inForm, inList, Ahead, closing, member, atomDue, listDue, closingNext}
 use Rattle.references.specs.declared.Indexed.{Indexed}
 use Rattle.references.specs.declared.Indexed.the-variants as numbers
 
@@ -31,7 +31,7 @@ numberDue text left r =
 abbrev pub oneReference : (ℕ → Reader → List ℕ → Did (List ℕ) (ℕ × Reader)) → List ℕ → ℕ → Ahead → List ℕ → Did (List ℕ) (ℕ × Reader)
 oneReference on text n (closing r) stack = ok (n, r) leaving stack
 oneReference on text n (member r) stack = do
-  ((i, r), stack) ← numberDue text 255 r leaving stack
+  ((i, r), stack) ← numberDue text inList r leaving stack
   on (sum32 n 1) r (set stack n (saturated i))
 
 -- References from the n-th on, "each 18", asked for until a closing is next. `fuel` is a bound on their number.

@@ -56,7 +56,7 @@ pub fn references(text: &[u8], stack: &mut [u32], reader: Reader) -> Numbered
             Look::Refused(m) => return Numbered::Refused(m),
             Look::Closing(q) => return Numbered::Got(n, q),
             Look::Member(q) => {
-                let a = number_due(text, 255, q);
+                let a = number_due(text, asking::IN_LIST, q);
                 let Indexed::Got(i, p) = a else {
                     return Numbered::Refused(indexed_refusal(a));
                 };

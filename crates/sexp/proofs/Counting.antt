@@ -8,7 +8,8 @@ use lib.Seq.{set-append-left, set-at, getD-at, append-snoc}
 use Rattle.horn.specs.Refusals.{Refusal, notUtf8, textEnds, strayClosing, Result, ok, refused, _>>=_}
 use Rattle.horn.specs.Tokens.{Stream, end, bad, _▹_, Token, opening, closing, atom}
 use Rattle.horn.specs.NestedLists.{items, sexps, askedAt, absent, Sexp, leaf, list, []ₛ}
-use Rattle.sexp.specs.Flattening.{size, countsOne, countsAll, counts}
+use Rattle.horn.specs.Rulebook.{count}
+use Rattle.sexp.specs.Flattening.{countsOne, countsAll, counts}
 use Rattle.sexp.proofs.Levels.{Levels, top, _within_, put, ended-list, read, read-sexps}
 
 -- k members more of the i-th list.
@@ -33,7 +34,7 @@ counting is cs (opening ▹ ts) = askedAt (length is) >>= λ _. counting (length
 -- What the levels that are read will add to the counts of the lists that are open; and the counts of later lists.
 unfoldable pub bumps : (is : List ℕ) → List ℕ → Levels (length is) → List ℕ
 bumps [] cs l = cs
-bumps (i ∷ is) cs (xs within l) = bumps is (bump cs i (size xs)) l
+bumps (i ∷ is) cs (xs within l) = bumps is (bump cs i (count xs)) l
 
 unfoldable pub later : {d : ℕ} → Levels d → List ℕ
 later (top xs) = counts xs
@@ -71,14 +72,14 @@ bumps-append : (is cs ks : List ℕ) (l : Levels (length is)) → Below (length 
 unfolding bumps Below
 bumps-append [] cs ks l b = refl
 bumps-append (i ∷ is) cs ks (xs within l) b =
-    ap (λ (s : List ℕ). bumps is s l) (bump-append cs ks i (size xs) (b .0))
-    ∙ bumps-append is (bump cs i (size xs)) ks l (rw (length-set cs i (getD cs i 0 + size xs)) (b .1))
+    ap (λ (s : List ℕ). bumps is s l) (bump-append cs ks i (count xs) (b .0))
+    ∙ bumps-append is (bump cs i (count xs)) ks l (rw (length-set cs i (getD cs i 0 + count xs)) (b .1))
 
 -- An item in front.
 bumps-put : (is cs : List ℕ) (x : Sexp) (l : Levels (length is)) → bumps is cs (put x l) ≡ bumps is (memberOf is cs) l
-unfolding bumps memberOf put size
+unfolding bumps memberOf put count
 bumps-put [] cs x l = refl
-bumps-put (i ∷ is) cs x (xs within l) = ap (λ (s : List ℕ). bumps is s l) (sym (bump-bump cs i (size xs)))
+bumps-put (i ∷ is) cs x (xs within l) = ap (λ (s : List ℕ). bumps is s l) (sym (bump-bump cs i (count xs)))
 
 later-put : {d : ℕ} (x : Sexp) (l : Levels d) → later (put x l) ≡ countsOne x (later l)
 unfolding later put counts countsOne
@@ -94,7 +95,7 @@ unfolding countsOne
 final-atom is cs bytes l = ap₂ _++_ (sym (bumps-put is cs (leaf bytes) l)) (sym (later-put (leaf bytes) l))
 
 final-closing : (i : ℕ) (is cs : List ℕ) (l : Levels (length is)) → final is cs l ≡ final (i ∷ is) cs ([]ₛ within l)
-unfolding bumps later size countsAll
+unfolding bumps later count countsAll
 final-closing i is cs l = ap (λ (s : List ℕ). bumps is s l ++ later l) (sym (bump-none cs i))
 
 bump-last : (cs : List ℕ) (n k : ℕ) → length cs ≡ n → bump (cs ++ (0 ∷ [])) n k ≡ cs ++ (k ∷ [])
@@ -105,9 +106,9 @@ final-opening : (is cs : List ℕ) (l : Levels (suc (length is))) → Below (len
     → final (length cs ∷ is) (memberOf is cs ++ (0 ∷ [])) l ≡ final is cs (ended-list l)
 unfolding bumps later ended-list countsOne
 final-opening is cs (xs within l) b =
-    ap (λ (s : List ℕ). bumps is s l ++ countsAll xs (later l)) (bump-last (memberOf is cs) (length cs) (size xs) (length-member is cs))
-    ∙ ap (λ (s : List ℕ). s ++ countsAll xs (later l)) (bumps-append is (memberOf is cs) (size xs ∷ []) l (rw (length-member is cs) b))
-    ∙ append-snoc (bumps is (memberOf is cs) l) (size xs) (countsAll xs (later l))
+    ap (λ (s : List ℕ). bumps is s l ++ countsAll xs (later l)) (bump-last (memberOf is cs) (length cs) (count xs) (length-member is cs))
+    ∙ ap (λ (s : List ℕ). s ++ countsAll xs (later l)) (bumps-append is (memberOf is cs) (count xs ∷ []) l (rw (length-member is cs) b))
+    ∙ append-snoc (bumps is (memberOf is cs) l) (count xs) (countsAll xs (later l))
     ∙ ap₂ _++_ (sym (bumps-put is cs (list xs) l)) (sym (later-put (list xs) l))
 
 -- Over any results of the parts.

@@ -1,9 +1,10 @@
 -- What the first walk says of a rulebook that it reads whole: its tokens are its nested lists written out, and how many
 -- members each list has.
-use Prim.Native.Nat.{ℕ, zero, suc}
+use Prim.Native.Nat.{ℕ}
 use mathlib.Core.List.{List, [], _∷_}
 use Rattle.horn.specs.Tokens.{Stream, end, _▹_, Token, opening, closing, atom}
 use Rattle.horn.specs.NestedLists.{Sexp, leaf, list, Sexps, []ₛ, _∷ₛ_}
+use Rattle.horn.specs.Rulebook.{count}
 
 -- A nested list written in front of other tokens, and several.
 unfoldable mutual
@@ -19,16 +20,11 @@ unfoldable mutual
 unfoldable pub flattened : Sexps → Stream Token
 flattened xs = flat xs end
 
--- The number of members.
-unfoldable pub size : Sexps → ℕ
-size []ₛ = zero
-size (x ∷ₛ xs) = suc (size xs)
-
 -- The number of members of each list, in the order of their openings, in front of other counts.
 unfoldable mutual
   pub countsOne : Sexp → List ℕ → List ℕ
   countsOne (leaf bytes) cs = cs
-  countsOne (list xs) cs = size xs ∷ countsAll xs cs
+  countsOne (list xs) cs = count xs ∷ countsAll xs cs
 
   pub countsAll : Sexps → List ℕ → List ℕ
   countsAll []ₛ cs = cs

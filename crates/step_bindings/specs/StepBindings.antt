@@ -10,7 +10,7 @@ use Rattle.outcomes.specs.Outcomes.{ok, need, orElse, pick}
 use Rattle.outcomes.specs.Leaving.{Did, _leaving_, _>>=_}
 use Rattle.theory_reading.specs.Reading.{variableFound, sortOfVariable}
 use Rattle.theory_reading.specs.Storing.{Areas, before}
-use Rattle.asking.specs.Asking.{closingDue}
+use Rattle.asking.specs.Asking.{inList, closingDue}
 use Rattle.nodes.specs.Nodes.{sortOf}
 use Rattle.terms.specs.Terms.{term}
 use Rattle.matching.specs.Matching.{bindingOf, bindingAt}
@@ -23,7 +23,7 @@ Worked = Areas × List ℕ
 unfoldable pub binding : List ℕ → List ℕ → List ℕ → ℕ → ℕ → ℕ → ℕ → Reader → List ℕ → List ℕ → List ℕ → Did Worked Reader
 binding text rules table rule top s t r store stack heap = do
   (v, _) ← orElse (variableFound heap rules rule (part s t text)) 12 leaving ((store, stack), heap)
-  ((k, r), ((store, stack), heap)) ← before heap (term 255 text rules heap table top r store stack)
+  ((k, r), ((store, stack), heap)) ← before heap (term inList text rules heap table top r store stack)
   (r, _) ← closingDue text r leaving ((store, stack), heap)
   _ ← need (eqb (bindingOf heap v) 0) 21 leaving ((store, stack), heap)
   _ ← need (eqb (sortOf heap store k) (sortOfVariable heap rule v)) 21 leaving ((store, stack), heap)

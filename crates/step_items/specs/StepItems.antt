@@ -9,14 +9,14 @@ use Rattle.outcomes.specs.Outcomes.{ok, refused, need, pick}
 use Rattle.outcomes.specs.Leaving.{Did, _leaving_, _>>=_}
 use Rattle.items.specs.Items.{question}
 use Rattle.theory_reading.specs.Storing.{before}
-use Rattle.asking.specs.Asking.{inForm, Ahead, closing, member, atomDue, listDue, closingNext}
+use Rattle.asking.specs.Asking.{inForm, inList, Ahead, closing, member, atomDue, listDue, closingNext}
 use Rattle.judgments.specs.Judgments.{headedJudgment}
 use Rattle.step_bindings.specs.StepBindings.{Worked, binding}
 
 -- "Otherwise a judgment; a second, once read, is 22." Its head was asked for. A stated conclusion is kept as its number plus 1.
 unfoldable pub stated : List ℕ → List ℕ → List ℕ → ℕ → ℕ → ℕ → ℕ → Reader → List ℕ → List ℕ → List ℕ → Did Worked (ℕ × Reader)
 stated text rules table top word s t r store stack heap = do
-  ((k, r), areas) ← before heap (headedJudgment 255 text rules heap table top s t r store stack)
+  ((k, r), areas) ← before heap (headedJudgment inList text rules heap table top s t r store stack)
   _ ← need (eqb word 0) 22 leaving areas
   ok (sum32 k 1, r) leaving areas
 
@@ -31,7 +31,7 @@ headedItem text rules table rule top word s t r store stack heap =
 unfoldable pub item : List ℕ → List ℕ → List ℕ → ℕ → ℕ → ℕ → Reader → List ℕ → List ℕ → List ℕ → Did Worked (ℕ × Reader)
 item text rules table rule top word r store stack heap = do
   (r, _) ← listDue text inForm r leaving ((store, stack), heap)
-  ((s, t, r), _) ← atomDue text 255 r leaving ((store, stack), heap)
+  ((s, t, r), _) ← atomDue text inList r leaving ((store, stack), heap)
   headedItem text rules table rule top word s t r store stack heap
 
 -- One item more, and those behind it.

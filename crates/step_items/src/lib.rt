@@ -35,7 +35,7 @@ pub fn stated(
         store,
         stack,
         top,
-        255,
+        asking::IN_LIST,
         s,
         t,
         reader,
@@ -99,7 +99,7 @@ pub fn item(
     let Passed::To(q) = l else {
         return Numbered::Refused(asking::passed_refusal(l));
     };
-    let a = asking::atom_due(text, 255, q);
+    let a = asking::atom_due(text, asking::IN_LIST, q);
     let Named::Atom(s, t, p) = a else {
         return Numbered::Refused(asking::named_refusal(a));
     };

@@ -45,7 +45,7 @@ use Rattle.theory_reading.proofs.Held.{VariableIs, variable-is, variable-found,
 use Rattle.theory_reading.proofs.Terms.{number-sort}
 use Rattle.theory_reading.proofs.Stored.{Longer, longer-then, Stored, Means, few-terms}
 use Rattle.tables.specs.Representation.{Defs}
-use Rattle.asking.specs.Asking.{Ahead}
+use Rattle.asking.specs.Asking.{inList, Ahead}
 use Rattle.asking_laws.proofs.Places.{RestComes, At, at-less, at-within}
 use Rattle.asking_laws.proofs.Asking.{WordMet, word-met, word-law, GroupMet, closing-law, Looked, look-closed, look-bad, look-ended, look-item, look-law}
 use Rattle.nodes.specs.Nodes.{sortOf}
@@ -183,7 +183,7 @@ module _ {rules heap : List ℕ} {es : Entries} {bound : ℕ} {th : Theory} (h :
         (λ v x m.
         let (nth, so) = variable-sort m in
         bind-before live _ _
-        (ask-term-law text table (holds-now h high (g .keep)) defs ts₀ abbreviations short is 255 2 top spent K ts r store stack refl
+        (ask-term-law text table (holds-now h high (g .keep)) defs ts₀ abbreviations short is inList 2 top spent K ts r store stack refl
         (ready top spent r room there))
         (λ y left u k.
         lifted (u .1) _ _ (closing-law text K (spent + 2) (u .0 .1) (k .reader))
@@ -230,7 +230,7 @@ module _ {rules heap : List ℕ} {es : Entries} {bound : ℕ} {th : Theory} (h :
     unfolding walk.stated certificates.conclusionItem definition._>>=_ definition.lift definition.give number
     stated-law s t spent {name} K is r n room there =
         bind-before live _ _
-        (headed-law text table (holds-now h high (g .keep)) defs ts₀ abbreviations short 255 2 top spent s t K is ts r store stack refl n room
+        (headed-law text table (holds-now h high (g .keep)) defs ts₀ abbreviations short inList 2 top spent s t K is ts r store stack refl n room
         (ready (top + 1) (spent + 2) r (omega arith) there))
         (λ y left u k.
         through _ (u .1) _
@@ -245,7 +245,7 @@ module _ {rules heap : List ℕ} {es : Entries} {bound : ℕ} {th : Theory} (h :
     unfolding walk.item walk.headedItem certificates.stepItem definition._>>=_ definition.lift
     item-law spent K item rest r room there =
         lifted ts _ _ (list-member text K spent item rest there)
-        (λ q inner a. lifted ts _ _ (word-law text (RestComes rest K) spent inner 255 2 refl a) (λ x y m. headed x y m)) where
+        (λ q inner a. lifted ts _ _ (word-law text (RestComes rest K) spent inner inList 2 refl a) (λ x y m. headed x y m)) where
           headed : (x : ℕ × ℕ × Reader) (y : Name × Items) → WordMet text (RestComes rest K) spent x y
               → Simulates (Read (At text (RestComes rest K) (spent + 2))) (walk.headedItem text rules table e top word (x .0) (x .1) (x .2) store stack live)
               ((elim (questioned (y .0)) as (λ b. definition.Reading Given) [

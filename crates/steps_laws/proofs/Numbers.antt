@@ -15,7 +15,7 @@ use Rattle.outcomes.specs.Outcomes as outcomes
 use Rattle.outcomes.specs.Outcomes.{Outcome}
 use Rattle.outcomes.specs.Simulation.{Answers, both-refuse, both-ok}
 use Rattle.asking.specs.Asking as asked
-use Rattle.asking.specs.Asking.{inForm, Met, atomDue, listDue}
+use Rattle.asking.specs.Asking.{inForm, inList, Met, atomDue, listDue}
 use Rattle.asking_laws.proofs.Places.{RestComes, At}
 use Rattle.asking_laws.proofs.Asking.{ItemMet, atom-met, list-met, item-law, GroupMet, group-met, group-law}
 use Rattle.terms_laws.proofs.Reading.{asked-yes}
@@ -48,9 +48,9 @@ module _ (text : List ℕ) (K : Stream Token → Type 0) (n : ℕ) where
     by (both-ok (atom-met {name} {rest} p l u there)) = rw p (numbered rest (numeral name) there)
 
   -- At the end of the text the look ahead meets a member too.
-  pub number-ended : {r : Reader} → At text (RestComes ended K) n r → Answers NumberMet (walk.numberDue text 255 r) (refusals.refused textEnds)
+  pub number-ended : {r : Reader} → At text (RestComes ended K) n r → Answers NumberMet (walk.numberDue text inList r) (refusals.refused textEnds)
   unfolding definition.askNumber definition.ask absent refusals._>>=_
-  number-ended a = rw (asked-yes 254 2 refl) at (number-law ended 255 2 refl a)
+  number-ended a = rw (asked-yes 254 2 refl) at (number-law ended inList 2 refl a)
 
   pub list-ended : {r : Reader} → At text (RestComes ended K) n r → Answers (GroupMet text K n) (listDue text inForm r) (refusals.refused textEnds)
   unfolding definition.askGroup definition.ask absent refusals._>>=_
@@ -58,9 +58,9 @@ module _ (text : List ℕ) (K : Stream Token → Type 0) (n : ℕ) where
 
   -- A member that is a number, or a list, where the look ahead met one.
   module _ (item : Item) (rest : Items) {r : Reader} (a : At text (RestComes (item then rest) K) n r) where
-    pub number-member : Answers (λ x i. (i ≡ x .0) × At text (RestComes rest K) (n + 2) (x .1)) (walk.numberDue text 255 r) (definition.numberDue item)
+    pub number-member : Answers (λ x i. (i ≡ x .0) × At text (RestComes rest K) (n + 2) (x .1)) (walk.numberDue text inList r) (definition.numberDue item)
     unfolding definition.askNumber definition.ask refusals._>>=_
-    number-member = by (definition.numberDue item) (rw (asked-yes 254 2 refl) at (number-law (item then rest) 255 2 refl a)) where
+    number-member = by (definition.numberDue item) (rw (asked-yes 254 2 refl) at (number-law (item then rest) inList 2 refl a)) where
       by : {o : Outcome (ℕ × Reader)} (m : Result ℕ) → Answers NumberMet o (refusals._>>=_ m (λ i. refusals.ok (i, rest)))
           → Answers (λ x i. (i ≡ x .0) × At text (RestComes rest K) (n + 2) (x .1)) o m
       by (refusals.ok i) (both-ok k) = both-ok (k .same, k .reader)

@@ -9,11 +9,11 @@ use Rattle.horn.specs.Names.{Name}
 use Rattle.horn.specs.Tokens.{Stream, end, _▹_, Token, opening, closing, atom}
 use Rattle.horn.specs.NestedLists.{Sexp, leaf, list, Sexps, []ₛ, _∷ₛ_}
 use Rattle.horn.specs.Rulebook as definition
-use Rattle.horn.specs.Rulebook.{Theory, DeclarationWord, declarationWord, oneMember, twoMembers, threeMembers}
+use Rattle.horn.specs.Rulebook.{Theory, DeclarationWord, declarationWord, oneMember, twoMembers, threeMembers, count}
 use Rattle.horn.proofs.Counts.{streamLength}
 use Rattle.horn.proofs.Inversion.{not-ok}
 use Rattle.lex.specs.declared.Reader.{Reader}
-use Rattle.sexp.specs.Flattening.{flatOne, flat, size, countsOne, countsAll}
+use Rattle.sexp.specs.Flattening.{flatOne, flat, countsOne, countsAll}
 use Rattle.outcomes.specs.Outcomes as outcomes
 use Rattle.items.specs.Places as places
 use Rattle.items.specs.Items.{readOn, openedOne, listDue, headDue}
@@ -47,8 +47,8 @@ mutual
   longer-all []ₛ ts = omega arith
   longer-all (x ∷ₛ xs) ts = let h = longer x (flat xs ts) in let k = longer-all xs ts in omega arith
 
-pub size-longer : (xs : Sexps) (ts : Stream Token) → size xs + streamLength ts ≤ streamLength (flat xs ts)
-unfolding flat streamLength size
+pub size-longer : (xs : Sexps) (ts : Stream Token) → count xs + streamLength ts ≤ streamLength (flat xs ts)
+unfolding flat streamLength count
 size-longer []ₛ ts = omega arith
 size-longer (leaf bytes ∷ₛ xs) ts = let h = size-longer xs ts in omega arith
 size-longer (list ys ∷ₛ xs) ts = let h = size-longer xs ts in let k = longer-all ys (closing ▹ flat xs ts) in omega arith
@@ -115,15 +115,15 @@ module _ (text member-counts : List ℕ) (Before : Reader → Stream Token → T
         → Shallows 258 xs
         → streamLength (flatOne (list (leaf name ∷ₛ xs)) ts) ≤ length text
         → Simulates (DeclarationRead th ts ks) (walk.declaration text member-counts w vars heap) (definition.declare th (declarationWord name) xs)
-    unfolding walk.declaration formOf flatOne countsOne size weight streamLength
+    unfolding walk.declaration formOf flatOne countsOne count weight streamLength
     headed-atom name xs {ts} {ks} {w} vars {heap} r long s₀ s₁ enough =
         let c = r .room in
-        let met : ListMet text member-counts Before reads (suc (size xs)) (atom name ▹ flat xs (closing ▹ ts)) (countsAll xs ks) w =
+        let met : ListMet text member-counts Before reads (suc (count xs)) (atom name ▹ flat xs (closing ▹ ts)) (countsAll xs ks) w =
         list-met text member-counts Before reads (r .walks) in
         let head : AtomMet text member-counts Before reads name (flat xs (closing ▹ ts)) (countsAll xs ks) (openedOne w (met .next)) =
         atom-met text member-counts Before reads (met .walks) in
-        rw (list-due text member-counts Before reads short th es 0 0 met, head-met text member-counts Before reads short th es 0 0 (size xs) head, head .name)
-        (giving (λ q. (formNamed name (suc (size xs)), q))
+        rw (list-due text member-counts Before reads short th es 0 0 met, head-met text member-counts Before reads short th es 0 0 (count xs) head, head .name)
+        (giving (λ q. (formNamed name (suc (count xs)), q))
         (by-form vars (formed name xs)
         record { walks = head .walks; holds = r .holds; above = r .above; base-low = r .base-low; room = omega arith } long s₀ s₁ (omega arith))
         (λ q areas th′ y. y))
@@ -136,7 +136,7 @@ module _ (text member-counts : List ℕ) (Before : Reader → Stream Token → T
         → Shallow 259 x
         → streamLength (flatOne x ts) ≤ length text
         → Simulates (DeclarationRead th ts ks) (walk.declaration text member-counts w vars heap) (definition.declaration th x)
-    unfolding walk.declaration definition.declaration definition.listDue definition.headedDeclaration definition.atomDue headDue flatOne countsOne size number
+    unfolding walk.declaration definition.declaration definition.listDue definition.headedDeclaration definition.atomDue headDue flatOne countsOne count number
         _>>=_
     declaration-law (leaf bytes) vars r long s₀ s₁ enough =
         rw (atom-due text member-counts Before reads short th es 0 0 (atom-met text member-counts Before reads (r .walks))) (refuse refl)
@@ -146,7 +146,7 @@ module _ (text member-counts : List ℕ) (Before : Reader → Stream Token → T
         let m = list-met text member-counts Before reads (r .walks) in
         rw (
           list-due text member-counts Before reads short th es 0 0 m,
-          head-list text member-counts Before reads short th es 0 0 (size xs) (list-met text member-counts Before reads (m .walks)),
+          head-list text member-counts Before reads short th es 0 0 (count xs) (list-met text member-counts Before reads (m .walks)),
         ) (refuse refl)
     declaration-law (list (leaf name ∷ₛ xs)) vars r long (shallow-list {d} e (shallow-more h s)) (shallow-list {d = d′} e′ (shallow-more h′ s′)) enough =
         let k : d ≡ 259 = omega arith in
@@ -191,9 +191,9 @@ module _ (text member-counts : List ℕ) (Before : Reader → Stream Token → T
       → Shallows 259 xs
       → streamLength (flat xs end) < 2 * fuel
       → streamLength (flat xs end) ≤ length text
-      → total (tally th) + size xs ≤ 8192
+      → total (tally th) + count xs ≤ 8192
       → Simulates Accepted (declarationsFrom fuel text member-counts (tally th) w vars heap) (definition.declarations th xs)
-  unfolding declarationsFrom definition.declarations flat countsAll size
+  unfolding declarationsFrom definition.declarations flat countsAll count
   declarations-law xs zero th es vars r long s₀ s₁ enough few small = absurd (omega arith)
   declarations-law []ₛ (suc fuel) th es {w} vars r long s₀ s₁ enough few small =
       let c = r .room in

@@ -10,10 +10,9 @@ use lib.ListN.{length}
 use Rattle.horn.specs.Refusals.{form, refused}
 use Rattle.horn.specs.Names.{Name, named, codes}
 use Rattle.horn.specs.NestedLists.{Sexp, Sexps, []ₛ, _∷ₛ_}
-use Rattle.horn.specs.Rulebook.{Theory, DeclarationWord, sortWord, ctorWord, predWord, ruleWord, otherDeclaration, declarationWord, declare, oneMember}
+use Rattle.horn.specs.Rulebook.{Theory, DeclarationWord, sortWord, ctorWord, predWord, ruleWord, otherDeclaration, declarationWord, declare, oneMember, count}
 use Rattle.horn.specs.Rulebook.{twoMembers, threeMembers}
 use Rattle.horn.proofs.Equality.{named-decides}
-use Rattle.sexp.specs.Flattening.{size}
 use Rattle.outcomes.specs.Outcomes.{pick}
 use Rattle.theory.specs.Declarations as walk
 use Rattle.theory.specs.Declarations.{sized, formNamed}
@@ -30,34 +29,34 @@ pub data Formed (name : Name) : Sexps → Form → DeclarationWord → Type 0 wh
   is-other : {xs : Sexps} {k : DeclarationWord} → ((th : Theory) → declare th k xs ≡ refused form) → Formed name xs Other k
 
 module _ (name : Name) (four : length name ≡ 4) where
-  sort-shape : (xs : Sexps) → Formed name xs (sized (eqb (suc (size xs)) 2) Sort) sortWord
-  unfolding size declare oneMember
+  sort-shape : (xs : Sexps) → Formed name xs (sized (eqb (suc (count xs)) 2) Sort) sortWord
+  unfolding count declare oneMember
   sort-shape []ₛ = is-other (λ th. refl)
   sort-shape (x ∷ₛ []ₛ) = is-sort four
-  sort-shape (x ∷ₛ y ∷ₛ xs) = rw (ne-eqb (suc (suc (suc (size xs)))) 2 (λ e. omega arith)) (is-other (λ th. refl))
+  sort-shape (x ∷ₛ y ∷ₛ xs) = rw (ne-eqb (suc (suc (suc (count xs)))) 2 (λ e. omega arith)) (is-other (λ th. refl))
 
-  predicate-shape : (xs : Sexps) → Formed name xs (sized (eqb (suc (size xs)) 3) Predicate) predWord
-  unfolding size declare oneMember twoMembers
+  predicate-shape : (xs : Sexps) → Formed name xs (sized (eqb (suc (count xs)) 3) Predicate) predWord
+  unfolding count declare oneMember twoMembers
   predicate-shape []ₛ = is-other (λ th. refl)
   predicate-shape (x ∷ₛ []ₛ) = is-other (λ th. refl)
   predicate-shape (x ∷ₛ y ∷ₛ []ₛ) = is-predicate four
-  predicate-shape (x ∷ₛ y ∷ₛ z ∷ₛ xs) = rw (ne-eqb (suc (suc (suc (suc (size xs))))) 3 (λ e. omega arith)) (is-other (λ th. refl))
+  predicate-shape (x ∷ₛ y ∷ₛ z ∷ₛ xs) = rw (ne-eqb (suc (suc (suc (suc (count xs))))) 3 (λ e. omega arith)) (is-other (λ th. refl))
 
-  constructor-shape : (xs : Sexps) → Formed name xs (sized (eqb (suc (size xs)) 4) Constructor) ctorWord
-  unfolding size declare oneMember twoMembers threeMembers
+  constructor-shape : (xs : Sexps) → Formed name xs (sized (eqb (suc (count xs)) 4) Constructor) ctorWord
+  unfolding count declare oneMember twoMembers threeMembers
   constructor-shape []ₛ = is-other (λ th. refl)
   constructor-shape (x ∷ₛ []ₛ) = is-other (λ th. refl)
   constructor-shape (x ∷ₛ y ∷ₛ []ₛ) = is-other (λ th. refl)
   constructor-shape (x ∷ₛ y ∷ₛ z ∷ₛ []ₛ) = is-constructor four
-  constructor-shape (x ∷ₛ y ∷ₛ z ∷ₛ u ∷ₛ xs) = rw (ne-eqb (suc (suc (suc (suc (suc (size xs)))))) 4 (λ e. omega arith)) (is-other (λ th. refl))
+  constructor-shape (x ∷ₛ y ∷ₛ z ∷ₛ u ∷ₛ xs) = rw (ne-eqb (suc (suc (suc (suc (suc (count xs)))))) 4 (λ e. omega arith)) (is-other (λ th. refl))
 
-  rule-shape : (xs : Sexps) → Formed name xs (sized (eqb (suc (size xs)) 4) Rule) ruleWord
-  unfolding size declare oneMember twoMembers threeMembers
+  rule-shape : (xs : Sexps) → Formed name xs (sized (eqb (suc (count xs)) 4) Rule) ruleWord
+  unfolding count declare oneMember twoMembers threeMembers
   rule-shape []ₛ = is-other (λ th. refl)
   rule-shape (x ∷ₛ []ₛ) = is-other (λ th. refl)
   rule-shape (x ∷ₛ y ∷ₛ []ₛ) = is-other (λ th. refl)
   rule-shape (x ∷ₛ y ∷ₛ z ∷ₛ []ₛ) = is-rule four
-  rule-shape (x ∷ₛ y ∷ₛ z ∷ₛ u ∷ₛ xs) = rw (ne-eqb (suc (suc (suc (suc (suc (size xs)))))) 4 (λ e. omega arith)) (is-other (λ th. refl))
+  rule-shape (x ∷ₛ y ∷ₛ z ∷ₛ u ∷ₛ xs) = rw (ne-eqb (suc (suc (suc (suc (suc (count xs)))))) 4 (λ e. omega arith)) (is-other (λ th. refl))
 
 -- The four heads are those of the definition.
 four-bytes : (name : Name) (a b c d : ℕ) → named name (a ∷ b ∷ c ∷ d ∷ []) ≡ true → length name ≡ 4
@@ -66,10 +65,10 @@ four-bytes name a b c d e = ap length (named-decides .equal name (a ∷ b ∷ c 
 by-tests : (name : Name) (xs : Sexps) (a b c d : Bool) → (a ≡ true → length name ≡ 4) → (b ≡ true → length name ≡ 4) → (c ≡ true → length name ≡ 4)
     → (d ≡ true → length name ≡ 4)
     → Formed name xs
-    (pick a (λ _. sized (eqb (suc (size xs)) 2) Sort)
-    (λ _. pick b (λ _. sized (eqb (suc (size xs)) 4) Constructor)
-    (λ _. pick c (λ _. sized (eqb (suc (size xs)) 3) Predicate)
-    (λ _. pick d (λ _. sized (eqb (suc (size xs)) 4) Rule) (λ _. Other)))))
+    (pick a (λ _. sized (eqb (suc (count xs)) 2) Sort)
+    (λ _. pick b (λ _. sized (eqb (suc (count xs)) 4) Constructor)
+    (λ _. pick c (λ _. sized (eqb (suc (count xs)) 3) Predicate)
+    (λ _. pick d (λ _. sized (eqb (suc (count xs)) 4) Rule) (λ _. Other)))))
     (elim a [
       | true ↦ sortWord
       | false ↦ elim b [ true ↦ ctorWord | false ↦ elim c [ true ↦ predWord | false ↦ elim d [ true ↦ ruleWord | false ↦ otherDeclaration ] ] ]
@@ -81,7 +80,7 @@ by-tests name xs false false true d p q r s = predicate-shape name (r refl) xs
 by-tests name xs false false false true p q r s = rule-shape name (s refl) xs
 by-tests name xs false false false false p q r s = is-other (λ th. refl)
 
-pub formed : (name : Name) (xs : Sexps) → Formed name xs (formNamed name (suc (size xs))) (declarationWord name)
+pub formed : (name : Name) (xs : Sexps) → Formed name xs (formNamed name (suc (count xs))) (declarationWord name)
 unfolding formNamed declarationWord codes
 formed name xs =
     rw (same-named name walk.sortWord, same-named name walk.ctorWord, same-named name walk.predWord, same-named name walk.ruleWord)

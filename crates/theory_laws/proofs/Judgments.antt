@@ -12,7 +12,7 @@ use Rattle.horn.specs.NestedLists.{Sexp, leaf, list, Sexps, []ₛ, _∷ₛ_}
 use Rattle.horn.specs.Rulebook as definition
 use Rattle.horn.specs.Rulebook.{judgment, Variable, Pattern, isPredicate, Theory, fits, count}
 use Rattle.lex.specs.declared.Reader.{Reader}
-use Rattle.sexp.specs.Flattening.{flatOne, flat, size, countsOne, countsAll}
+use Rattle.sexp.specs.Flattening.{flatOne, flat, countsOne, countsAll}
 use Rattle.outcomes.specs.Outcomes as outcomes
 use Rattle.items.specs.Places as places
 use Rattle.items.specs.Items.{readOn, openedOne, listDue, headDue}
@@ -26,7 +26,7 @@ use Rattle.theory_laws.proofs.Items.{AtomMet, atom-met, ListMet, list-m
 use Rattle.theory_laws.proofs.Frames.{keeps-all}
 use Rattle.theory_laws.proofs.Ready.{Ready, Reached, PatternRead, reached-then, flat-then}
 use Rattle.theory_laws.proofs.Leaves.{applied-law, less-credit}
-use Rattle.theory_laws.proofs.Patterns.{size-count, after-atom, after-opening, after-closing, head-met, head-list, applied-arguments, ArgumentsLaw}
+use Rattle.theory_laws.proofs.Patterns.{after-atom, after-opening, after-closing, head-met, head-list, applied-arguments, ArgumentsLaw}
 use Rattle.theory_laws.proofs.Patterns.{arguments-law}
 
 module _ (text counted : List ℕ) (Before : Reader → Stream Token → Type 0) (reads : Reads text Before) (short : length text ≤ 8192)
@@ -55,24 +55,24 @@ module _ (text counted : List ℕ) (Before : Reader → Stream Token → Type 0)
   atom-due m = rw (m .met)
 
   inside-none : InsideLaw []ₛ
-  unfolding walk.judgment definition.judgmentMembers flatOne countsOne size headDue number
+  unfolding walk.judgment definition.judgmentMembers flatOne countsOne count headDue number
   inside-none ts ks vs w vars heap r = rw (list-due (list-met text counted Before reads (r .walks))) (refuse refl)
 
   inside-list : (ys xs : Sexps) → InsideLaw (list ys ∷ₛ xs)
-  unfolding walk.judgment definition.judgmentMembers definition.atomDue flatOne countsOne size number _>>=_
+  unfolding walk.judgment definition.judgmentMembers definition.atomDue flatOne countsOne count number _>>=_
   inside-list ys xs ts ks vs w vars heap r =
       let m = list-met text counted Before reads (r .walks) in
-      rw (list-due m, head-list text counted Before reads short th es base spare (size xs) (list-met text counted Before reads (m .walks))) (refuse refl)
+      rw (list-due m, head-list text counted Before reads short th es base spare (count xs) (list-met text counted Before reads (m .walks))) (refuse refl)
 
   inside-atom : (name : Name) (xs : Sexps) → ArgumentsLaw text counted Before reads short th es base spare 257 xs → InsideLaw (leaf name ∷ₛ xs)
-  unfolding walk.judgment walk.arguments definition.judgmentMembers definition.predicate definition.atomDue flatOne countsOne size number _>>=_
+  unfolding walk.judgment walk.arguments definition.judgmentMembers definition.predicate definition.atomDue flatOne countsOne count number _>>=_
   inside-atom name xs law ts ks vs w vars heap r =
-      rw (list-due met, head-met text counted Before reads short th es base spare (size xs) head)
+      rw (list-due met, head-met text counted Before reads short th es base spare (count xs) head)
       (checked-aside vars (definition.predicate th name) (λ c. fits c judgment (count xs)) sortArity _ _
-      (applied-law text counted Before th es base spare places.predicates isPredicate name (head .s) (head .t) 0 (suc (size xs)) (count xs) judgment ready
-      (r .holds .predicates) (head .name) (ap suc (size-count xs)) (judgment-output refl))
+      (applied-law text counted Before th es base spare places.predicates isPredicate name (head .s) (head .t) 0 (suc (count xs)) (count xs) judgment ready
+      (r .holds .predicates) (head .name) refl (judgment-output refl))
       (applied-arguments text counted Before reads short th es base spare 257 xs judgment law refl refl ready)) where
-        met : ListMet text counted Before reads (suc (size xs)) (atom name ▹ flat xs (closing ▹ ts)) (countsAll xs ks) w
+        met : ListMet text counted Before reads (suc (count xs)) (atom name ▹ flat xs (closing ▹ ts)) (countsAll xs ks) w
         met = list-met text counted Before reads (r .walks)
 
         head : AtomMet text counted Before reads name (flat xs (closing ▹ ts)) (countsAll xs ks) (openedOne w (met .next))
@@ -113,10 +113,10 @@ module _ (text counted : List ℕ) (Before : Reader → Stream Token → Type 0)
   JudgmentsLaw xs =
       (ts : Stream Token) (ks : List ℕ) (vs : List Variable) (w : Walk) (vars heap : List ℕ)
       → Was 0 (flat xs (closing ▹ ts)) (countsAll xs ks) vs w vars heap
-      → Simulates (JudgmentsRead (size xs) ts ks vs (w .top) heap) (walk.judgments (size xs) text counted w vars heap) (definition.judgmentPatterns th xs vs)
+      → Simulates (JudgmentsRead (count xs) ts ks vs (w .top) heap) (walk.judgments (count xs) text counted w vars heap) (definition.judgmentPatterns th xs vs)
 
   judgments-none : JudgmentsLaw []ₛ
-  unfolding walk.judgments definition.judgmentPatterns flat countsAll size
+  unfolding walk.judgments definition.judgmentPatterns flat countsAll count
   judgments-none ts ks vs w vars heap r =
       let m = closing-met text counted Before reads (r .walks) in
       rw (m .met)
@@ -128,15 +128,15 @@ module _ (text counted : List ℕ) (Before : Reader → Stream Token → Type 0)
       })
 
   judgments-more : (x : Sexp) (xs : Sexps) → JudgmentLaw x → JudgmentsLaw xs → JudgmentsLaw (x ∷ₛ xs)
-  unfolding walk.judgments definition.judgmentPatterns flat countsAll size
+  unfolding walk.judgments definition.judgmentPatterns flat countsAll count
   judgments-more x xs one law ts ks vs w vars heap r =
       bind _ _ (one (flat xs (closing ▹ ts)) (countsAll xs ks) vs w vars heap r)
       (λ q areas p y.
       after (λ z. (p .0 ∷ z .0, z .1)) (law ts ks (p .1) q (areas .0) (areas .1) (y .reached .ready)) (λ q′ areas′ xs z. join y z)) where
         join : {q q′ : Walk} {areas areas′ : Areas} {p : Pattern × List Variable} {ps : List Pattern × List Variable}
             → HasRead (flat xs (closing ▹ ts)) (countsAll xs ks) vs (w .top) heap q areas p
-            → JudgmentsRead (size xs) ts ks (p .1) (q .top) (areas .1) q′ areas′ ps
-            → JudgmentsRead (suc (size xs)) ts ks vs (w .top) heap q′ areas′ (p .0 ∷ ps .0, ps .1)
+            → JudgmentsRead (count xs) ts ks (p .1) (q .top) (areas .1) q′ areas′ ps
+            → JudgmentsRead (suc (count xs)) ts ks vs (w .top) heap q′ areas′ (p .0 ∷ ps .0, ps .1)
         join y z =
             record {
               reached = reached-then text counted Before th es base spare (y .reached) (z .reached);

@@ -12,13 +12,13 @@ use Rattle.horn.specs.Names.{Name, named, questioned, someOf}
 use Rattle.horn.specs.Tokens.{Stream, _▹_, Token, closing}
 use Rattle.horn.specs.NestedLists.{Sexp, leaf, list, Sexps, []ₛ, _∷ₛ_}
 use Rattle.horn.specs.Rulebook as definition
-use Rattle.horn.specs.Rulebook.{Theory}
+use Rattle.horn.specs.Rulebook.{Theory, count}
 use Rattle.horn.proofs.Equality.{case}
 use Rattle.words.specs.Parts.{part}
 use Rattle.names.specs.Tables.{present}
 use Rattle.names.proofs.Declared.{find-present, found-some}
 use Rattle.lex.specs.declared.Reader.{Reader}
-use Rattle.sexp.specs.Flattening.{flatOne, flat, size, countsOne, countsAll}
+use Rattle.sexp.specs.Flattening.{flatOne, flat, countsOne, countsAll}
 use Rattle.outcomes.specs.Outcomes as outcomes
 use Rattle.outcomes.specs.Leaving as leaving
 use Rattle.outcomes.specs.Leaving.{_leaving_}
@@ -108,10 +108,10 @@ module _ (text counted : List ℕ) (Before : Reader → Stream Token → Type 0)
     InputsLaw xs =
         (ts : Stream Token) (ks : List ℕ) (w : Walk) (heap : List ℕ)
         → Midway 0 (flat xs (closing ▹ ts)) (countsAll xs ks) w heap
-        → Simulates (InputsRead (size xs) ts ks (w .top) heap) (inputs (size xs) text counted w heap) (definition.sortsNamed th xs)
+        → Simulates (InputsRead (count xs) ts ks (w .top) heap) (inputs (count xs) text counted w heap) (definition.sortsNamed th xs)
 
     inputs-none : InputsLaw []ₛ
-    unfolding inputs definition.sortsNamed flat countsAll size weight
+    unfolding inputs definition.sortsNamed flat countsAll count weight
     inputs-none ts ks w heap r =
         let m = closing-met text counted Before reads (r .walks) in
         let c = r .room in
@@ -125,7 +125,7 @@ module _ (text counted : List ℕ) (Before : Reader → Stream Token → Type 0)
         })
 
     inputs-more : (x : Sexp) (xs : Sexps) → InputsLaw xs → InputsLaw (x ∷ₛ xs)
-    unfolding inputs definition.sortsNamed flat countsAll size pushed
+    unfolding inputs definition.sortsNamed flat countsAll count pushed
     inputs-more x xs law ts ks w heap r =
         pure _ _ (sort-named (r .holds) x {ts = flat xs (closing ▹ ts)} {ks = countsAll xs ks} (r .walks))
         (λ p s k. one p s k) where
@@ -134,8 +134,8 @@ module _ (text counted : List ℕ) (Before : Reader → Stream Token → Type 0)
 
           join : (a : ℕ) (name : Name) (next : Reader) → SortAt es a name → 2 + weight us ≤ weight (flatOne x us)
               → {q : Walk} {heap′ : List ℕ} {ins : List Name}
-              → InputsRead (size xs) ts ks (sum32 (w .top) 1) (set heap (w .top) a) q heap′ ins
-              → InputsRead (suc (size xs)) ts ks (w .top) heap q heap′ (name ∷ ins)
+              → InputsRead (count xs) ts ks (sum32 (w .top) 1) (set heap (w .top) a) q heap′ ins
+              → InputsRead (suc (count xs)) ts ks (w .top) heap q heap′ (name ∷ ins)
           join a name next m h {q} {heap′} {ins} k =
               let c = r .room in
               let l = r .holds .long in
@@ -152,8 +152,8 @@ module _ (text counted : List ℕ) (Before : Reader → Stream Token → Type 0)
               }
 
           one : (p : ℕ × Walk) (name : Name) → SortRead es x us (countsAll xs ks) w p name
-              → Simulates (InputsRead (suc (size xs)) ts ks (w .top) heap)
-              (leaving._>>=_ (pushed (p .0) (p .1) heap) (λ (q, heap′). inputs (size xs) text counted q heap′))
+              → Simulates (InputsRead (suc (count xs)) ts ks (w .top) heap)
+              (leaving._>>=_ (pushed (p .0) (p .1) heap) (λ (q, heap′). inputs (count xs) text counted q heap′))
               (definition.sortsNamed th xs >>= λ ss. ok (name ∷ ss))
           one p name (sort-read {a} {next} m h k) =
               let c = r .room in

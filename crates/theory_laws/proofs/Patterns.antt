@@ -17,7 +17,7 @@ use Rattle.horn.specs.Rulebook.{Output, sort, sameOutput, Symbol, symbol, Varia
 use Rattle.horn.specs.Rulebook.{inputs}
 use Rattle.horn.proofs.Equality.{both}
 use Rattle.lex.specs.declared.Reader.{Reader}
-use Rattle.sexp.specs.Flattening.{flatOne, flat, size, countsOne, countsAll}
+use Rattle.sexp.specs.Flattening.{flatOne, flat, countsOne, countsAll}
 use Rattle.outcomes.specs.Outcomes as outcomes
 use Rattle.outcomes.specs.Leaving.{Did, _leaving_}
 use Rattle.items.specs.Places as places
@@ -37,16 +37,10 @@ use Rattle.theory_laws.proofs.Frames.{Keeps, keeps-all, keeps-then, kee
 use Rattle.theory_laws.proofs.Ready.{Ready, Reached, PatternRead, push-ready, ready-on, reached-then, flat-then}
 use Rattle.theory_laws.proofs.Leaves.{Applied, applied-at, applied-law, leaf-law, less-credit, symbol-word, low-top, top-rises, top-after}
 
--- The number of members, in the words of both.
-pub size-count : (xs : Sexps) → size xs ≡ count xs
-unfolding size count
-size-count []ₛ = refl
-size-count (x ∷ₛ xs) = ap suc (size-count xs)
-
-pub alone : (xs : Sexps) → eqb (suc (size xs)) 1 ≡ isZero (count xs)
-unfolding size isZero count
+pub alone : (xs : Sexps) → eqb (suc (count xs)) 1 ≡ isZero (count xs)
+unfolding count isZero count
 alone []ₛ = refl
-alone (x ∷ₛ xs) = ne-eqb (suc (suc (size xs))) 1 (λ e. omega arith)
+alone (x ∷ₛ xs) = ne-eqb (suc (suc (count xs))) 1 (λ e. omega arith)
 
 module _ (text counted : List ℕ) (Before : Reader → Stream Token → Type 0) (reads : Reads text Before) (short : length text ≤ 8192)
     (th : Theory) (es : Entries) (base spare : ℕ) where
@@ -136,7 +130,7 @@ module _ (text counted : List ℕ) (Before : Reader → Stream Token → Type 0)
       (sortName : Name) (a : ℕ) (ts : Stream Token) (ks : List ℕ) (vs : List Variable) (w : Walk) (vars heap : List ℕ)
       → SortAt es a sortName
       → Was 0 (flat xs (closing ▹ ts)) (countsAll xs ks) vs w vars heap
-      → Simulates (HasRead ts ks vs (w .top) heap) (walk.patternOf (walk.pattern left text counted) text counted a (items.list (size xs) w) vars heap)
+      → Simulates (HasRead ts ks vs (w .top) heap) (walk.patternOf (walk.pattern left text counted) text counted a (items.list (count xs) w) vars heap)
       (definition.compoundPattern th xs sortName vs)
 
   abbrev pub ArgumentsLaw : ℕ → Sexps → Type 0
@@ -234,19 +228,19 @@ module _ (text counted : List ℕ) (Before : Reader → Stream Token → Type 0)
       → SortAt es a sortName
       → Was 3 ts ks vs (readOn w (met .next)) vars heap
       → Simulates (Applied text counted Before th es base spare ts ks vs (readOn w (met .next)) vars heap (sort sortName) (count xs))
-      (compoundHead text counted a (suc (size xs)) w heap)
+      (compoundHead text counted a (suc (count xs)) w heap)
       (need (not (isZero (count xs))) bracketedConstant >>= λ _. definition.constructor th name >>= λ c. need (fits c (sort sortName) (count xs)) sortArity
       >>= λ _. ok c)
   unfolding compoundHead definition.constructor number
   compound-head name sortName a xs met m r =
-      rw (head-met (size xs) met)
-      (test (not (eqb (suc (size xs)) 1)) 16 bracketedConstant _ _ (ap not (alone xs)) refl
-      (λ _. applied-law text counted Before th es base spare places.constructors isConstructor name (met .s) (met .t) a (suc (size xs)) (count xs)
+      rw (head-met (count xs) met)
+      (test (not (eqb (suc (count xs)) 1)) 16 bracketedConstant _ _ (ap not (alone xs)) refl
+      (λ _. applied-law text counted Before th es base spare places.constructors isConstructor name (met .s) (met .t) a (suc (count xs)) (count xs)
       (sort sortName) r
-      (r .holds .constructors) (met .name) (ap suc (size-count xs)) (sort-output m)))
+      (r .holds .constructors) (met .name) refl (sort-output m)))
 
   compound-atom : (left : ℕ) (name : Name) (xs : Sexps) → ArgumentsLaw left xs → CompoundLaw left (leaf name ∷ₛ xs)
-  unfolding definition.compoundPattern definition.atomDue flat countsAll size _>>=_
+  unfolding definition.compoundPattern definition.atomDue flat countsAll count _>>=_
   compound-atom left name xs law sortName a ts ks vs w vars heap m r =
       tested-aside vars (not (isZero (count xs))) bracketedConstant (definition.constructor th name) (λ c. fits c (sort sortName) (count xs)) sortArity _ _
       (compound-head name sortName a xs met m ready)
@@ -258,12 +252,12 @@ module _ (text counted : List ℕ) (Before : Reader → Stream Token → Type 0)
         ready = less-credit text counted Before th es base spare (after-atom r met) 3 (omega arith)
 
   compound-list : (left : ℕ) (ys xs : Sexps) → CompoundLaw left (list ys ∷ₛ xs)
-  unfolding definition.compoundPattern definition.atomDue flat countsAll size _>>=_ compoundHead number
+  unfolding definition.compoundPattern definition.atomDue flat countsAll count _>>=_ compoundHead number
   compound-list left ys xs sortName a ts ks vs w vars heap m r =
-      rw (head-list (size xs) (list-met text counted Before reads (r .walks))) (refuse refl)
+      rw (head-list (count xs) (list-met text counted Before reads (r .walks))) (refuse refl)
 
   compound-none : (left : ℕ) → CompoundLaw left []ₛ
-  unfolding definition.compoundPattern size compoundHead headDue number
+  unfolding definition.compoundPattern count compoundHead headDue number
   compound-none left sortName a ts ks vs w vars heap m r = refuse refl
 
   -- An atom, and a list.

@@ -13,14 +13,14 @@ use Rattle.horn.specs.Names.{Name, questioned, someOf}
 use Rattle.horn.specs.Tokens.{Stream, _▹_, Token, closing}
 use Rattle.horn.specs.NestedLists.{Sexp, leaf, list, Sexps, []ₛ, _∷ₛ_}
 use Rattle.horn.specs.Rulebook as definition
-use Rattle.horn.specs.Rulebook.{Variable, Pattern, rule, Theory, isRule}
+use Rattle.horn.specs.Rulebook.{Variable, Pattern, rule, Theory, isRule, count}
 use Rattle.horn.proofs.Counts.{streamLength}
 use Rattle.horn.proofs.Equality.{case}
 use Rattle.words.specs.Parts.{part, copied}
 use Rattle.names.specs.Chains.{found, added}
 use Rattle.names.specs.Tables.{entry}
 use Rattle.lex.specs.declared.Reader.{Reader}
-use Rattle.sexp.specs.Flattening.{flatOne, flat, size, countsOne}
+use Rattle.sexp.specs.Flattening.{flatOne, flat, countsOne}
 use Rattle.outcomes.specs.Outcomes as outcomes
 use Rattle.outcomes.specs.Leaving.{beside}
 use Rattle.words.specs.Sums.{sum32}
@@ -148,9 +148,9 @@ module _ (text counted : List ℕ) (Before : Reader → Stream Token → Type 0)
         (λ q₂ areas′ c z.
         leave (join y z)))) where
           join : {q₁ q₂ : Walk} {areas areas′ : Areas} {p : List Pattern × List Variable} {c : Pattern × List Variable}
-              → JudgmentsRead text counted Before reads short th es base spare (size xs) (flatOne j ts) (countsOne j ks) [] (w .top) heap q₁ areas p
+              → JudgmentsRead text counted Before reads short th es base spare (count xs) (flatOne j ts) (countsOne j ks) [] (w .top) heap q₁ areas p
               → PatternRead text counted Before th es base spare ts ks (p .1) (q₁ .top) (areas .1) q₂ areas′ c
-              → BodyRead base spare ts ks heap (size xs, q₁ .top, q₂) areas′ (paired p c)
+              → BodyRead base spare ts ks heap (count xs, q₁ .top, q₂) areas′ (paired p c)
           join {q₁} {q₂} {areas} {areas′} {p} {c} y z =
               let a = y .reached .rises in
               let b = z .reached .rises in
