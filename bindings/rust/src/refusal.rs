@@ -99,11 +99,14 @@ mod tests {
     use super::*;
 
     #[test]
-    fn numbers_go_from_1_to_29_and_back() {
-        for (n, (refusal, _)) in (1..).zip(SENTENCES) {
-            assert_eq!(refusal.number(), n);
-            assert_eq!(Refusal::from_number(n), Some(refusal));
+    fn each_number_leads_back_to_its_refusal() {
+        let mut last = 0;
+        for (refusal, _) in SENTENCES {
+            assert!(last < refusal.number());
+            last = refusal.number();
+            assert_eq!(Refusal::from_number(last), Some(refusal));
         }
+        assert_eq!((SENTENCES.len(), last), (29, 29));
         assert_eq!([0, 30, u32::MAX].map(Refusal::from_number), [None; 3]);
     }
 }
