@@ -1,4 +1,4 @@
-// Cases of the call with three texts, as a file has them: sixteen bytes, a label, and the three texts.
+// Cases of either call, as a file has them: sixteen bytes, a label, and the three texts, of which the call with the rulebook alone has one.
 //
 // The sixteen bytes are the label's length, the lengths of rulebook, goals and certificate, and then a byte and four
 // numbers that each program reads in its own way. The label's length and that byte are one byte, all else two, high byte

@@ -1,10 +1,15 @@
-// The areas cleared, and whether they are long enough.
+// The lengths that both calls ask for, and the areas cleared.
 ghost use mathlib.Core.Path.{_≡_};
 ghost use lib.ListN.{length, replicate};
 ghost use Rattle.clearing.specs.Lengths.{longEnough};
 
 // The words of each area that a call reads and writes.
 pub const AREA_WORDS: usize = 16384;
+
+// "Rulebook and goals have at most 8,192 bytes each, the certificate 32,768."
+pub const TEXT_BYTES: usize = 8192;
+
+pub const CERTIFICATE_BYTES: usize = 32768;
 
 // Sets all words to 0.
 pub fn clear(s: &mut [u32])

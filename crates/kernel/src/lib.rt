@@ -43,7 +43,7 @@ pub fn release(
     release_call::release(rulebook, goals, certificate, a, b, c, d)
 }
 
-// The two calls for C and Rust.
+// The call with the rulebook alone, for C and Rust.
 #[no_mangle]
 pub extern "C" fn horn_rulebook(
     text: &[u8],
@@ -58,7 +58,7 @@ pub extern "C" fn horn_rulebook(
     rulebook(text, a, b, c, d)
 }
 
-// The call with three texts.
+// The call with three texts, for C and Rust.
 #[no_mangle]
 pub extern "C" fn horn_release(
     rulebook: &[u8],

@@ -27,13 +27,13 @@ pub fn release(
     if !clearing::long_enough(a.len(), b.len(), c.len(), d.len()) {
         return reports::unreleased(1);
     }
-    if 8192 < rulebook.len() {
+    if clearing::TEXT_BYTES < rulebook.len() {
         return reports::unreleased(2);
     }
-    if 8192 < goals.len() {
+    if clearing::TEXT_BYTES < goals.len() {
         return reports::unreleased(2);
     }
-    if 32768 < certificate.len() {
+    if clearing::CERTIFICATE_BYTES < certificate.len() {
         return reports::unreleased(2);
     }
     walks::check(

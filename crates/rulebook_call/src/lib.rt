@@ -74,7 +74,7 @@ pub fn rulebook(
     if !clearing::long_enough(a.len(), b.len(), c.len(), d.len()) {
         return refused(1);
     }
-    if 8192 < rulebook.len() {
+    if clearing::TEXT_BYTES < rulebook.len() {
         return refused(2);
     }
     judge(
