@@ -74,7 +74,7 @@ pub record AgainstOmissions : Type 0 where
   pub limits-met : releaseCall (tightFor 48) 16_384 16_384 16_384 16_384 R G C ≡ report 0 2 1 4 48
   -- "256 `(` in R is 5": not 4
   pub deepest : rulebookCall document01 16_384 16_384 16_384 16_384 (replicate 256 0x28) ≡ rulebookReport 5 0 0 0 0
-  -- "step 18446744073709551615 is 19, one more 18"
+  -- "step 18446744073709551615 is 19, one more 18": not 18 for the first, not 19 for the second
   pub largest-number : released R G (codes "(step 18446744073709551615") ≡ report 19 0 0 0 0
   pub too-large : released R G (codes "(step 18446744073709551616") ≡ report 18 0 0 0 0
   -- row 27, the judgment of a result: not 0

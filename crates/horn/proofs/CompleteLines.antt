@@ -58,7 +58,7 @@ inner b e =
     )
     e
 
--- 0A begins a character that it ends.
+-- A character that 0A begins has no further byte.
 alone : (b : ℕ) {a : Range} {m : ℕ} {r : List Range} → b ≡ 0x0A → startedBy b sequences ≡ some (sequence a m r) → r ≡ []
 unfolding startedBy sequences within
 alone b {a} {m} {r} h e =

@@ -1,5 +1,5 @@
--- A store into which only terms of some list are put, a list that is within the limits, refuses none of them; and what the store holds
--- in the end.
+-- If all terms that are put into a store come from a list that is within the limits, none of them is refused; and what the store holds in
+-- the end.
 use Prim.Native.Nat.{_≤_}
 use native.Mathlib.Omega.{arith}
 use mathlib.Core.Path.{_≡_, refl, sym, subst, _∙_}

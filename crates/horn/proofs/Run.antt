@@ -16,7 +16,7 @@ use Rattle.horn.specs.Calls
 use Rattle.horn.specs.Setting.{Setting, document01}
 use Rattle.horn.specs.Calls.{Report, RulebookReport, rulebookCall, releaseCall}
 
--- To unfold one of these is to unfold the definitions of the module that it is named after.
+-- To unfold one of these is to unfold those definitions of the module that it is named after by which the calls compute.
 unfoldable pub openRefusals : Unit {0}
 unfolding Refusals.number Refusals._>>=_ Refusals.need Refusals.found
 openRefusals = tt

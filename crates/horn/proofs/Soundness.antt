@@ -13,10 +13,10 @@ use Rattle.horn.specs.Rulebook.{Theory, theory}
 use Rattle.horn.specs.StoredTerms.{Term}
 use Rattle.horn.specs.Checker.{Goal, goalJudgment}
 use Rattle.horn.specs.Calls.{releaseCall}
-use Rattle.horn.specs.Forced.{WellSorted, Derivable, Forced, ForcedAmongSorted, IsClosed}
+use Rattle.horn.specs.Forced.{WellSorted, Derivable, Forced, ForcedAmongSorted}
 use Rattle.horn.specs.Demand3.{Established, Sound}
 use Rattle.horn.proofs.Accepting.{gives-accepted, accepted-run}
-use Rattle.horn.proofs.SoundnessWords.{forced, forced-among-sorted, derivable-closed, derivable-well-sorted, derivable-of-forced}
+use Rattle.horn.proofs.SoundnessWords.{forced, forced-among-sorted, derivable-well-sorted, derivable-of-forced}
 use Rattle.horn.proofs.SoundnessRulebook.{theory-formed}
 use Rattle.horn.proofs.WasRead.{text-read}
 use Rattle.horn.proofs.SoundnessReading.{one-each-read}
@@ -83,11 +83,9 @@ pub soundness-among-sorted {ℓ} : (limits : Setting) (a b c d : ℕ) (rulebook 
 soundness-among-sorted limits a b c d rulebook text certificate zero-number =
     established-by (λ th j f. forced-among-sorted f) (soundness-forced limits a b c d rulebook text certificate zero-number)
 
--- The judgments derivable from a rulebook's theory are themselves a closed set of well-sorted judgments, and what lies in every such set,
--- at any level, is derivable. So neither of these says less than the first theorem.
-pub derivable-is-closed : {th : Theory} → IsClosed th (Derivable th)
-derivable-is-closed = derivable-closed
-
+-- The judgments derivable from a rulebook's theory are themselves a closed set (`derivable-closed` in SoundnessWords) of well-sorted
+-- judgments, and what lies in every such set, at any level, is derivable. So neither `soundness-forced` nor `soundness-among-sorted` says
+-- less than `soundness`.
 pub derivable-is-sorted : (rulebook : List ℕ) {th : Theory} → theory rulebook ≡ ok th → (j : Term) → Derivable th j → WellSorted th j
 derivable-is-sorted rulebook e = derivable-well-sorted (theory-formed rulebook e)
 

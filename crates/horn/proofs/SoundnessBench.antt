@@ -93,7 +93,7 @@ bench-step =
     (x .run .goals) (x .run .store) (x .run .read) (x .run .steps) (x .run .final) (x .run .taken)
     (x .each)
 
--- Its only premise is `(hold z)`.
+-- The only premise of the instance that concludes the second step is `(hold z)`.
 of-more : (i : Instance) → i .byRule ≡ more → benchJudgment ≡ conclusion i → Derivables benchTheory (premises i)
     → Derivables benchTheory (node hold (zeroTerm ∷ₜ []ₜ) ∷ [])
 unfolding premises conclusion premisesOf conclusionOf substitute

@@ -33,7 +33,7 @@ pub bench-cut :
 unfolding release G
 bench-cut = cut (tokens G)
 
--- So is the cut of a text whose lists a bad line breaks off: `(a(` and, on the next line, FF.
+-- The cut of a text whose lists a bad line breaks off, written out, is its tokens up to that line: `(a(` and, on the next line, FF.
 pub broken-cut : writtenOut (around (tokens (0x28 ∷ 0x61 ∷ 0x28 ∷ 0x0A ∷ 0xFF ∷ []))) ≡ opening ▹ atom (codes "a") ▹ opening ▹ bad
 unfolding release
 broken-cut = cut (tokens (0x28 ∷ 0x61 ∷ 0x28 ∷ 0x0A ∷ 0xFF ∷ []))
