@@ -7,7 +7,7 @@ use lib.ListN.{replicate}
 use Rattle.horn.specs.Names.{codes}
 use Rattle.horn.specs.Setting.{document01}
 use Rattle.horn.specs.Calls.{report, rulebookReport, rulebookCall, releaseCall}
-use Rattle.horn.proofs.Run.{release, rulebook}
+use Rattle.horn.proofs.Run.{openAll}
 use Rattle.horn.proofs.Bench.{R, G, C, tightFor}
 use Rattle.horn.proofs.Firings.{released}
 
@@ -26,7 +26,7 @@ pub record AgainstMisreadings : Type 0 where
   pub arguments-of-constant : released R G (codes "(def ?a (z q))") ≡ report 12 0 0 0 0
 
 pub against-misreadings : AgainstMisreadings
-unfolding R G release rulebook
+unfolding R G openAll
 against-misreadings =
     record {
       count-first = refl;
@@ -81,7 +81,7 @@ pub record AgainstOmissions : Type 0 where
   pub other-judgment : released R G (codes "(step 0 base ())(result g 0)") ≡ report 27 0 0 0 0
 
 pub against-omissions : AgainstOmissions
-unfolding R G C twoSorted looped release rulebook
+unfolding R G C twoSorted looped openAll
 against-omissions =
     record {
       bad-line = refl;

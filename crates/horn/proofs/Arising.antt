@@ -115,12 +115,7 @@ module _ (limits : Setting) where
       let q = reads-made limits (reads-goalsOf limits th text) in
       passes-keep Small small-intern p (passes-keep Small small-intern q (omega arith) (passes-last q e₁)) h
 
-  -- The stores in which the reading of the goals and the reading of the certificate end arise.
-  pub goals-store : (rulebook text certificate : List ℕ) {th : Theory} {goals : List Goal} {s : Store} → theory rulebook ≡ ok th
-      → goalsOf limits th text [] ≡ ok (goals, s)
-      → StoreArises limits rulebook text certificate s
-  goals-store rulebook text certificate {th} e e₁ = let p = reads-made limits (reads-goalsOf limits th text) in in-goals e p (passes-last p e₁)
-
+  -- The store in which the reading of the certificate ends arises.
   pub last-store : (rulebook text certificate : List ℕ) {th : Theory} {goals : List Goal} {steps : List Step} {s u : Store} → theory rulebook ≡ ok th
       → goalsOf limits th text [] ≡ ok (goals, s)
       → certificateOf limits th goals certificate s ≡ ok (steps, u)

@@ -119,13 +119,13 @@ lowest-below (c ∷ cs) j (List·Memᴰ·tail m) =
     case (sameTerm c j) (λ p. rw (p, lowest) (omega arith)) (λ p. rw (p, lowest) (omega arith))
 
 -- Matching the premises of an instance succeeds, where some step concludes each of them.
-pub record Premised (σ : Assignment) (r : Result (List Bind)) : Type 0 where
+pub record Premised (r : Result (List Bind)) : Type 0 where
   pub binds : List Bind
   pub answered : r ≡ ok binds
 
 pub premises-match : (steps : List Step) (σ : Assignment) (ps : List Pattern) (binds : List Bind) → All (By σ) binds
     → Each (λ j. List·Memᴰ j (map judgmentOf steps)) (map (substitute σ) ps)
-    → Premised σ (matchPremises steps ps (map (lowest (map judgmentOf steps)) (map (substitute σ) ps)) binds)
+    → Premised (matchPremises steps ps (map (lowest (map judgmentOf steps)) (map (substitute σ) ps)) binds)
 unfolding matchPremises
 premises-match steps σ [] binds a e = record { binds = binds; answered = refl }
 premises-match steps σ (p ∷ ps) binds a e =
