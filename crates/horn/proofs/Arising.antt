@@ -39,7 +39,7 @@ declares-few : {th later : Theory} {xs : Sexps} → Declares th xs later → len
 unfolding count
 declares-few declares-none = omega arith
 declares-few (declares-next {th} {next} {later} {x} {xs} e d) =
-    let h = larger-declared ((declaration-by th x e) .declared) in
+    let h = larger-declared ((declaration-by th x e) .has-declared) in
     let k = declares-few d in
     omega arith
 
@@ -55,8 +55,8 @@ pub few-symbols : {limits : Setting} {rulebook : List ℕ} {th : Theory} → The
     → length (th .symbols) ≤ limits .rulebookBytes
 unfolding emptyTheory
 few-symbols {rulebook} a =
-    let d = declares-few (a .declared) in
-    let c = count-sexps (items (tokens rulebook)) (a .read) in
+    let d = declares-few (a .declares) in
+    let c = count-sexps (items (tokens rulebook)) (a .read-whole) in
     let f = few-items rulebook in
     let s = a .short in
     omega arith
@@ -66,7 +66,7 @@ pub last-theory : (limits : Setting) (rulebook : List ℕ) {th : Theory} → len
     → TheoryArises limits rulebook th
 unfolding theory
 last-theory limits rulebook short e =
-    afterᵣ _ e λ xs e₁ e₂. record { short = short; forms = xs; read = e₁; declared = declares-last xs emptyTheory e₂ }
+    afterᵣ _ e λ xs e₁ e₂. record { short = short; rulebookForms = xs; read-whole = e₁; declares = declares-last xs emptyTheory e₂ }
 
 -- The stores that a reading passes.
 module _ (limits : Setting) where

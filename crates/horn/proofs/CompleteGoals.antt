@@ -12,7 +12,7 @@ use Rattle.horn.specs.Rulebook.{Theory}
 use Rattle.horn.specs.StoredTerms.{Term, node, Terms, []ₜ, Store}
 use Rattle.horn.specs.Checker.{Goal, goal, goalJudgment, isGoal, goalsOf}
 use Rattle.horn.specs.Forced.{judgments}
-use Rattle.horn.proofs.Equality.{named-decides, some-of-false, apart, differ}
+use Rattle.horn.proofs.Equality.{named-decides, some-of-false, decides-false, differ}
 use Rattle.horn.proofs.Inversion.{none-some}
 use Rattle.horn.proofs.WasRead.{ReadTerm, read-abbreviation, read-constant, read-compound, ReadTerms, read-none, read-next, ReadJudgment}
 use Rattle.horn.proofs.WasRead.{read-judgment, read-goal, ReadGoals, no-goal-read, next-goal-read, text-read}
@@ -52,7 +52,7 @@ GoalWord (goal n j) = Word n
 
 other-last : (g : Goal) (n : Name) (j : Term) → isGoal n g ≡ false → Other g (goal n j)
 unfolding isGoal
-other-last (goal m k) n j e = apart named-decides m n (λ p. differ named-decides n m e (sym p))
+other-last (goal m k) n j e = decides-false named-decides m n (λ p. differ named-decides n m e (sym p))
 
 goals-apart-more : (gs : List Goal) (n : Name) (j : Term) → GoalsApart gs → ((h : Goal) → List·Memᴰ h gs → isGoal n h ≡ false)
     → GoalsApart (gs ++ (goal n j ∷ []))

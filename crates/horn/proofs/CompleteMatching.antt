@@ -141,12 +141,12 @@ premises-match steps σ (p ∷ ps) binds a e =
     }
 
 -- The references of the layout are read as the numbers that they are.
-pub number-due : (n : ℕ) → n < 2 ^ 64 → numberDue (word (plain n)) ≡ ok n
+pub numberDue-plain : (n : ℕ) → n < 2 ^ 64 → numberDue (word (plain n)) ≡ ok n
 unfolding numberDue wordDue
-number-due n h = onᵣ _ refl ∙ found-on _ (numeral-plain n h)
+numberDue-plain n h = onᵣ _ refl ∙ found-on _ (numeral-plain n h)
 
 pub references-back : (ns : List ℕ) → All (λ n. n < 2 ^ 64) ns → references (asItems (plainAll ns)) ≡ ok ns
 unfolding references plainAll asItem
 references-back [] a = refl
 references-back (n ∷ ns) a =
-    onᵣ _ (asked-ok 2 (omega arith)) ∙ onᵣ _ (number-due n (a .0)) ∙ onᵣ _ (references-back ns (a .1))
+    onᵣ _ (asked-ok 2 (omega arith)) ∙ onᵣ _ (numberDue-plain n (a .0)) ∙ onᵣ _ (references-back ns (a .1))

@@ -40,7 +40,7 @@ soundness limits a b c d rulebook text certificate zero-number =
       th = x .th;
       gives = x .gives;
       accepted = gives-accepted record { short = x .short; gives = x .gives };
-      read = given-reading limits (x .th) text (x .short-text) (x .read);
+      without-refusal = given-reading limits (x .th) text (x .short-text) (x .read);
       goals = x .goals;
       has = read-has limits (x .th) text (x .read);
       some-goal = not-empty (x .goals) some;
@@ -62,7 +62,7 @@ established-by less x =
       th = x .th;
       gives = x .gives;
       accepted = x .accepted;
-      read = x .read;
+      without-refusal = x .without-refusal;
       goals = x .goals;
       has = x .has;
       some-goal = x .some-goal;

@@ -32,8 +32,8 @@ of-sort {th} s (ground {name = n} {s = r} {ins = ins} {ts = ts} m gs) e =
     let same-sort : r ≡ s = cc in
     subst (λ z. Ground th z (node (symbol n ins (sort r)) ts)) same-sort (ground m gs)
 
-pub has-sort : {th : Theory} {t : Term} (s : Name) → SomeSort th t → hasSort s t ≡ true → Ground th s t
-has-sort s g e = of-sort s (g .is) e
+pub hasSort-ground : {th : Theory} {t : Term} (s : Name) → SomeSort th t → hasSort s t ≡ true → Ground th s t
+hasSort-ground s g e = of-sort s (g .is) e
 
 accepted-grounds : {th : Theory} (ins : List Name) {ts : Terms} → AllSomeSort th ts → accepts ins ts ≡ true → Grounds th ins ts
 unfolding accepts
@@ -42,7 +42,7 @@ accepted-grounds [] (term-then g gs) e = absurd (true≢false (sym e))
 accepted-grounds (s ∷ ss) no-term e = absurd (true≢false (sym e))
 accepted-grounds (s ∷ ss) (term-then {t = t} {ts = ts} g gs) e =
     let (h, r) = both (hasSort s t) (accepts ss ts) e in
-    ground-then (has-sort s g h) (accepted-grounds ss gs r)
+    ground-then (hasSort-ground s g h) (accepted-grounds ss gs r)
 
 -- A constructor with accepted arguments is a ground term, a predicate with them a well-sorted judgment.
 term-over : {th : Theory} {ts : Terms} (name : Name) (c : Symbol) → List·Memᴰ c (th .symbols) × (isConstructor name c ≡ true)

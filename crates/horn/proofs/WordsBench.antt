@@ -47,7 +47,7 @@ bench-accepted = gives-accepted record { short = omega arith; gives = bench-give
 pub bench-answer : (rulebookCall document01 16_384 20_000 16_384 65_536 R) .number ≡ 0
 unfolding openAll
 bench-answer =
-    bench-accepted .answer 16_384 20_000 16_384 65_536
+    bench-accepted .answers-zero 16_384 20_000 16_384 65_536
     record { first-area = omega arith; second-area = omega arith; third-area = omega arith; fourth-area = omega arith }
 
 pub bench-accepted-theory : (accepted-gives bench-accepted) .0 ≡ benchTheory
@@ -63,7 +63,7 @@ begunTheory = record { sorts = codes "t" ∷ []; symbols = z ∷ []; rules = [] 
 
 pub bench-symbols-arise : TheoryArises document01 R begunTheory
 unfolding openAll R
-bench-symbols-arise = record { short = omega arith; forms = _; read = refl; declared = declares-next refl (declares-next refl declares-none) }
+bench-symbols-arise = record { short = omega arith; rulebookForms = _; read-whole = refl; declares = declares-next refl (declares-next refl declares-none) }
 
 pub bench-symbols : length (begunTheory .symbols) < 2 ^ 16
 bench-symbols = sixteen-bits-symbols bench-symbols-arise

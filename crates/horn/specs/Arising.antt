@@ -24,9 +24,9 @@ pub data Declares : Theory → Sexps → Theory → Type 0 where
 -- A theory that arises in judging a rulebook, in either call. A rulebook longer than the limits allow is refused before any arises.
 pub record TheoryArises (limits : Setting) (rulebook : List ℕ) (th : Theory) : Type 0 where
   pub short : length rulebook ≤ limits .rulebookBytes
-  pub forms : Sexps
-  pub read : sexps (items (tokens rulebook)) ≡ ok forms
-  pub declared : Declares emptyTheory forms th
+  pub rulebookForms : Sexps
+  pub read-whole : sexps (items (tokens rulebook)) ≡ ok rulebookForms
+  pub declares : Declares emptyTheory rulebookForms th
 
 module _ (limits : Setting) where
   -- How a reading is put together: a value, a result that does not touch the store, a term that is stored, and one reading

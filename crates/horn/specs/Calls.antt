@@ -104,14 +104,14 @@ areaAfter words answer area =
 -- A call whole: its report, and what the four areas hold afterwards. The contracts of the code are equations of these.
 pub record Called (R : Type 0) : Type 0 where
   pub answer : R
-  pub first : List ℕ
-  pub second : List ℕ
-  pub third : List ℕ
-  pub fourth : List ℕ
+  pub firstAfter : List ℕ
+  pub secondAfter : List ℕ
+  pub thirdAfter : List ℕ
+  pub fourthAfter : List ℕ
 
 -- A call by its parts.
 abbrev pub called : {R : Type 0} → R → List ℕ → List ℕ → List ℕ → List ℕ → Called R
-called r a b c d = record { answer = r; first = a; second = b; third = c; fourth = d }
+called r a b c d = record { answer = r; firstAfter = a; secondAfter = b; thirdAfter = c; fourthAfter = d }
 
 -- The call that answers a report of this number, and was lent these areas: what "every other answer leaves" in each of the four, or, for 1 and
 -- 2, the areas as they were.

@@ -19,7 +19,7 @@ pub record Established {ℓ} (limits : Setting) (rulebook text : List ℕ) (Said
   pub th : Theory
   pub gives : theory rulebook ≡ ok th
   pub accepted : Accepted limits rulebook
-  pub read : ReadWithoutRefusal limits th text
+  pub without-refusal : ReadWithoutRefusal limits th text
   pub goals : List Goal
   pub has : HasGoals th text goals
   pub some-goal : 1 ≤ length goals

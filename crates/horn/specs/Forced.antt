@@ -115,7 +115,7 @@ judgments = map goalJudgment
 -- has at most one list of goals (proofs/GoalsFixed).
 pub record HasGoals (th : Theory) (text : List ℕ) (goals : List Goal) : Type 0 where
   pub forms : items (tokens text) ≡ topItems (map goalSexp goals)
-  pub sorted : Each (WellSorted th) (judgments goals)
+  pub sorted-judgments : Each (WellSorted th) (judgments goals)
 
 -- "Areas long enough".
 pub record LongEnough (limits : Setting) (a b c d : ℕ) : Type 0 where
@@ -127,7 +127,7 @@ pub record LongEnough (limits : Setting) (a b c d : ℕ) : Type 0 where
 -- "A rulebook is accepted if this paper's rules, whatever a program says, give 0 for the call with it alone on areas long
 -- enough", on any such areas. Exactly then it is short enough and gives a theory (proofs/Accepting).
 pub record Accepted (limits : Setting) (rulebook : List ℕ) : Type 0 where
-  pub answer : (a b c d : ℕ) → LongEnough limits a b c d → (rulebookCall limits a b c d rulebook) .number ≡ 0
+  pub answers-zero : (a b c d : ℕ) → LongEnough limits a b c d → (rulebookCall limits a b c d rulebook) .number ≡ 0
 
 -- "A goals text is read without refusal if by the same rules none is met in it under that rulebook, 2 and 17 included."
 pub record ReadWithoutRefusal (limits : Setting) (th : Theory) (text : List ℕ) : Type 0 where
