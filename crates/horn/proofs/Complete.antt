@@ -28,12 +28,13 @@ use Rattle.horn.proofs.GoalsWritten.{read-has, reading-gives}
 use Rattle.horn.proofs.GoalsFixed.{goals-fixed}
 use Rattle.horn.proofs.SoundnessWords.{WellFormed, conclusion-well-sorted}
 use Rattle.horn.proofs.SoundnessRulebook.{theory-formed}
+use Rattle.horn.proofs.SoundnessReading.{GoalsApart, text-apart}
 use Rattle.horn.proofs.CompleteItems.{items-printed}
 use Rattle.horn.proofs.CompleteTheory.{Lookups, theory-looks}
 use Rattle.horn.proofs.CompleteCount.{_⊆_, to-distinct}
 use Rattle.horn.proofs.CompleteStore.{withinLimits-holds, withTerm, withAll, withAll-append, DrawnFrom, drawn-none, drawn-term, drawn-all, stored-count}
 use Rattle.horn.proofs.CompleteTerms.{on-lift}
-use Rattle.horn.proofs.CompleteGoals.{Known, read-known, GoalsApart}
+use Rattle.horn.proofs.CompleteGoals.{Known, read-known}
 use Rattle.horn.proofs.CompleteSteps.{progress, result-back, step-back}
 use Rattle.horn.proofs.CompleteLayout.{forms-words, layout-long}
 
@@ -101,13 +102,14 @@ module _ (limits : Setting) (th : Theory) (l : Lookups th) (formed : WellFormed 
 
   -- The whole certificate is read, after goals whose judgments are among the instances' conclusions.
   certificate-back : (goals : List Goal) (is : List Instance) (store : Store) → Proves th goals is → Known goals store
+      → GoalsApart goals
       → length is ≤ 2 ^ 64
       → depth (layoutForms goals is) ≤ 256
       → allSubterms (map conclusion is) ⊆ us
       → DrawnFrom us store
       → certificateOf limits th goals (laidOut goals is) store ≡ ok (stepsMade [] is, withAll (map conclusion is) store)
   unfolding certificateOf laidOut layoutForms judgments isZero give
-  certificate-back goals is store p k n d sub f =
+  certificate-back goals is store p k apart n d sub f =
       let cs = map conclusion is in
       let results = map (Layout.resultSexp cs) goals in
       let final = withAll cs store in
@@ -118,7 +120,7 @@ module _ (limits : Setting) (th : Theory) (l : Lookups th) (formed : WellFormed 
       (λ x. Each (λ j. List·Memᴰ j x) (map goalJudgment goals)
       → certificateForms limits th (progress goals (stepsMade [] is)) (topItems (map (Layout.resultSexp x) goals)) final
       ≡ ok (progress [] (stepsMade [] is), final))
-      concluded (results-back goals (stepsMade [] is) final (k .others) (omega arith)) (p .reached) in
+      concluded (results-back goals (stepsMade [] is) final apart (omega arith)) (p .reached) in
       on _ _ _
       (ap (λ x. certificateForms limits th (progress goals []) x store)
       (items-printed (layoutForms goals is) (forms-words th l formed goals (p .supported) (k .words)))
@@ -162,7 +164,7 @@ module _ (limits : Setting) (a b c d : ℕ) (rulebook text : List ℕ) {th : The
       let n : length is ≤ 2 ^ 64 = omega (arith, layout-long goals is, w .short) in
       let certificate =
       certificate-back limits th (theory-looks rulebook e) (theory-formed rulebook e) us
-      (withinLimits-holds limits us (w .few) (w .small)) goals is store p k n (w .shallow)
+      (withinLimits-holds limits us (w .few) (w .small)) goals is store p k (text-apart limits th text read) n (w .shallow)
       (λ u m. in-us u (second-part (judgments goals) (map conclusion is) u m)) f in
       let final = ap (withAll (map conclusion is)) (k .has) ∙ sym (withAll-append (judgments goals) (map conclusion is) []) in
       let count : length (stepsMade [] is) ≡ length is = let h = stepsMade-length [] is in omega arith in

@@ -2,8 +2,8 @@
 use Prim.Native.Nat.{ℕ, suc, _^_, _≤_, _<_}
 use native.Mathlib.Omega.{arith}
 use mathlib.Core.Path.{_≡_, refl, ap, _∙_}
-use mathlib.Core.Bool.{true, false}
-use mathlib.Core.List.{List, [], _∷_, _++_, map, List·Memᴰ}
+use mathlib.Core.Bool.{true}
+use mathlib.Core.List.{List, [], _∷_, _++_, map, List·Memᴰ, List·Memᴰ·head, List·Memᴰ·tail}
 use mathlib.Core.Option.{none, some}
 use lib.ListN.{length, length-map}
 use borrow.Author.Tests.{eq-eqb}
@@ -22,14 +22,14 @@ use Rattle.horn.specs.Forced.{WellSorted, well-sorted, Instance, IsInsta
 use Rattle.horn.specs.Layout
 use Rattle.horn.specs.Written.{symbolName, termSexps, judgmentSexp}
 use Rattle.horn.specs.Layout.{plain, plainAll, ruleName, lowest, height, subterms}
-use Rattle.horn.proofs.Equality.{chose-true, chose-false, named-decides, sameTerm-decides}
+use Rattle.horn.proofs.Equality.{case, chose-true, chose-false, named-decides, sameTerm-decides}
 use Rattle.horn.proofs.Inversion.{onᵣ, on, need-on, found-on}
+use Rattle.horn.proofs.SoundnessReading.{GoalsApart}
 use Rattle.horn.proofs.CompleteUtf8.{All}
 use Rattle.horn.proofs.CompleteTheory.{Lookups}
 use Rattle.horn.proofs.CompleteCount.{_⊆_}
 use Rattle.horn.proofs.CompleteStore.{withTerm, DrawnFrom}
 use Rattle.horn.proofs.CompleteTerms.{on-lift, asked-ok, judgment-back}
-use Rattle.horn.proofs.CompleteGoals.{GoalsApart}
 use Rattle.horn.proofs.CompleteMatching.{pattern-matches, lowest-step, lowest-below, premises-match, numberDue-plain, references-back}
 
 -- An item that is there is found, at depth 1 or 2.
@@ -68,10 +68,12 @@ module _ (limits : Setting) (th : Theory) where
   form-headed head now rest store = on-lift _ _ _ refl ∙ on-lift _ _ _ (asked-name 1 head rest (omega arith))
 
   -- A result closes its goal, and leaves the others open.
-  without-others : (n : Name) (gs : List Goal) → All (λ h. isGoal n h ≡ false) gs → without n gs ≡ gs
+  without-others : (n : Name) (gs : List Goal) → ((h : Goal) → List·Memᴰ h gs → isGoal n h ≡ true → ⊥) → without n gs ≡ gs
   unfolding without
   without-others n [] a = refl
-  without-others n (g ∷ gs) a = chose-false _ _ (a .0) ∙ ap (g ∷_) (without-others n gs (a .1))
+  without-others n (g ∷ gs) a =
+      chose-false _ _ (case (isGoal n g) (λ t. absurd (a g (List·Memᴰ·head refl) t)) (λ f. f))
+      ∙ ap (g ∷_) (without-others n gs (λ h m. a h (List·Memᴰ·tail m)))
 
   own-name : (n : Name) (j : Term) → isGoal n (goal n j) ≡ true
   unfolding isGoal
@@ -95,7 +97,7 @@ module _ (limits : Setting) (th : Theory) where
       ∙ on-lift _ _ _ (found-on _ (c .there))
       ∙ on-lift _ _ _ (need-on _ (ap (λ x. sameTerm x j) (c .concludes) ∙ sameTerm-decides .same j))
       ∙ on-lift _ _ _ refl
-      ∙ ap (λ x. ok (progress x steps, store)) (chose-true _ _ (own-name n j) ∙ without-others n gs (a .0))
+      ∙ ap (λ x. ok (progress x steps, store)) (chose-true _ _ (own-name n j) ∙ without-others n gs (λ h m. a .0 h m n (own-name n j)))
 
   -- A stated conclusion matches, and then the premises do.
   conclude-back : (i : Instance) (steps : List Step) (store : Store)

@@ -19,7 +19,7 @@ use Rattle.horn.proofs.Accepting.{gives-accepted, accepted-run}
 use Rattle.horn.proofs.SoundnessWords.{forced, forced-among-sorted, derivable-well-sorted, derivable-of-forced}
 use Rattle.horn.proofs.SoundnessRulebook.{theory-formed}
 use Rattle.horn.proofs.WasRead.{text-read}
-use Rattle.horn.proofs.SoundnessReading.{one-each-read}
+use Rattle.horn.proofs.SoundnessReading.{text-apart, apart-one-each}
 use Rattle.horn.proofs.SoundnessCertificate.{certificate-sound}
 use Rattle.horn.proofs.GoalsWritten.{read-has, given-reading}
 
@@ -34,8 +34,7 @@ pub soundness : (limits : Setting) (a b c d : ℕ) (rulebook text certificate : 
     → Established limits rulebook text Derivable
 soundness limits a b c d rulebook text certificate zero-number =
     let x = accepted-run limits a b c d rulebook text certificate zero-number in
-    let (some, read) = text-read limits (x .th) text (x .read) in
-    let one = one-each-read read (λ n g h m. elim m [ ]) in
+    let one = apart-one-each (x .goals) (text-apart limits (x .th) text (x .read)) in
     record {
       th = x .th;
       gives = x .gives;
@@ -43,7 +42,7 @@ soundness limits a b c d rulebook text certificate zero-number =
       without-refusal = given-reading limits (x .th) text (x .short-text) (x .read);
       goals = x .goals;
       has = read-has limits (x .th) text (x .read);
-      some-goal = not-empty (x .goals) some;
+      some-goal = not-empty (x .goals) ((text-read limits (x .th) text (x .read)) .0);
       each = certificate-sound limits (x .th) (theory-formed rulebook (x .gives)) (x .goals) certificate (x .store) one (x .taken);
     }
 

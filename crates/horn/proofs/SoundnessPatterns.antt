@@ -13,7 +13,8 @@ use Rattle.horn.specs.NestedLists.{Sexp, leaf, list, Sexps, []ₛ, _∷�
 use Rattle.horn.specs.Rulebook
 use Rattle.horn.specs.Rulebook.{Symbol, symbol, Output, sameOutput, sort, judgment, Variable, variable, Pattern, var, app, Patterns, []ₚ, _∷ₚ_}
 use Rattle.horn.specs.Rulebook.{Theory}
-use Rattle.horn.proofs.Equality.{case, decides-false, differ, both, chosen, eqb-decides, named-decides, sameOutput-decides, first-some, first-none, in-or-last}
+use Rattle.horn.proofs.Equality.{case, decides-false, differ, both, chosen, eqb-decides, named-decides, sameOutput-decides}
+use Rattle.horn.proofs.Equality.{first-some, first-none, in-or-last}
 use Rattle.horn.proofs.Inversion.{not-ok, none-some, ok-equal, afterᵣ, after-needᵣ, was-found, chosen-option}
 use Rattle.horn.proofs.SoundnessWords.{Sorted, a-variable, a-term, AllSorted, no-pattern, pattern-then, SortedJudgment}
 use Rattle.horn.proofs.SoundnessWords.{a-judgment, sorted-in-more, judgment-in-more, Throughout}
