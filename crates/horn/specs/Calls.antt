@@ -113,8 +113,8 @@ pub record Called (R : Type 0) : Type 0 where
 abbrev pub called : {R : Type 0} → R → List ℕ → List ℕ → List ℕ → List ℕ → Called R
 called r a b c d = record { answer = r; firstAfter = a; secondAfter = b; thirdAfter = c; fourthAfter = d }
 
--- The call that answers a report of this number, and was lent these areas: what "every other answer leaves" in each of the four, or, for 1 and
--- 2, the areas as they were.
+-- The call that answers a report of this number and was lent these areas: "Refusals 1 and 2 leave the areas untouched", and "every other
+-- answer leaves the first 16,384 words of each area zero", by the limits' own numbers of words.
 unfoldable pub leaving : {R : Type 0} → Setting → R → ℕ → List ℕ → List ℕ → List ℕ → List ℕ → Called R
 leaving limits r n a b c d =
     called r

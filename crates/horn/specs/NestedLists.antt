@@ -56,7 +56,7 @@ unfoldable mutual
   writtenItem (word bytes) ts = atom bytes ▹ ts
   writtenItem (group inner) ts = opening ▹ written inner ts
 
-  -- The items of a group up to its closing. Where they break off before it, no token is behind.
+  -- The items of a group, up to its closing. Where the end of the text or a bad line breaks them off, that ends the tokens too.
   pub written : Items → Stream Token → Stream Token
   written closed ts = closing ▹ ts
   written ended ts = end
