@@ -22,7 +22,7 @@ use Rattle.horn.specs.Certificate.{Progress, Given, given, FormWord, stepWord, 
 use Rattle.horn.proofs.Equality.{case, both, not-true, named-decides}
 use Rattle.horn.proofs.Inversion.{not-ok, ok-equal, afterᵣ, after, given-is, afterₗ, after-need, after-found}
 use Rattle.horn.proofs.Inversion.{absent-not, lift-absent, lift-refused}
-use Rattle.horn.proofs.WasRead.{is-word, is-group, is-asked, is-asked-word, is-asked-group, is-closed, ReadTerms, read-none, read-next, read-judgment}
+use Rattle.horn.proofs.WasRead.{is-word, is-group, is-asked, is-asked-word, is-asked-group, is-at-closing, ReadTerms, read-none, read-next, read-judgment}
 use Rattle.horn.proofs.WasRead.{ReadGoal, read-goal, goal-read}
 use Rattle.capacity.specs.Costs.{wide, isWord, wordFirst, itemCost, itemsCost, gap, atomBytes, itemBytes, itemsBytes}
 use Rattle.capacity.specs.Budgets.{GoalBudget, Budget}
@@ -187,7 +187,7 @@ module _ (limits : Setting) (th : Theory) where
       let t = two false in (
         ap (λ (x : Progress). length (x .defs)) (sym same) ∙ length-append (now .defs) (def (p .0) (p₁ .0) ∷ []),
         ap (λ (x : Progress). length (x .steps)) (sym same),
-        rw (is-asked-word 1 is e₁, i₂, is-closed (p₁ .1) e₇) (omega arith),
+        rw (is-asked-word 1 is e₁, i₂, is-at-closing (p₁ .1) e₇) (omega arith),
       )
 
   -- "(step I R (I...) item...)", behind its head.

@@ -56,9 +56,9 @@ pub record Gives (limits : Setting) (rulebook : List ℕ) (th : Theory) : Type 0
   pub short : length rulebook ≤ limits .rulebookBytes
   pub gives : theory rulebook ≡ ok th
 
-pub areas-long : {limits : Setting} {a b c d : ℕ} → LongEnough limits a b c d → areasLong limits a b c d ≡ ok tt
+pub areasLong-ok : {limits : Setting} {a b c d : ℕ} → LongEnough limits a b c d → areasLong limits a b c d ≡ ok tt
 unfolding areasLong
-areas-long {limits} {a} {b} {c} {d} l =
+areasLong-ok {limits} {a} {b} {c} {d} l =
     onᵣ _ (need-on _ (le-leb (limits .areaWords) a (l .first-area)))
     ∙ onᵣ _ (need-on _ (le-leb (limits .areaWords) b (l .second-area)))
     ∙ onᵣ _ (need-on _ (le-leb (limits .areaWords) c (l .third-area)))
@@ -74,9 +74,9 @@ pub gives-accepted : {limits : Setting} {rulebook : List ℕ} {th : Theory} → 
 unfolding rulebookCall rulebookJudged rulebookAnswer
 gives-accepted {limits} {rulebook} g =
     record {
-      answer = λ a b c d l.
+      answers-zero = λ a b c d l.
           ap (λ r. (rulebookAnswer r) .number)
-          (onᵣ _ (areas-long l) ∙ onᵣ _ (need-on _ (le-leb (length rulebook) (limits .rulebookBytes) (g .short))) ∙ g .gives);
+          (onᵣ _ (areasLong-ok l) ∙ onᵣ _ (need-on _ (le-leb (length rulebook) (limits .rulebookBytes) (g .short))) ∙ g .gives);
     }
 
 -- A rulebook that is answered 0 once gives a theory.
@@ -96,7 +96,7 @@ answer-gives limits a b c d rulebook e =
 pub accepted-gives : {limits : Setting} {rulebook : List ℕ} → Accepted limits rulebook → (th : Theory) × Gives limits rulebook th
 accepted-gives {limits} {rulebook} acc =
     answer-gives limits (limits .areaWords) (limits .areaWords) (limits .areaWords) (limits .lastAreaWords) rulebook
-    (acc .answer _ _ _ _ record { first-area = omega arith; second-area = omega arith; third-area = omega arith; fourth-area = omega arith })
+    (acc .answers-zero _ _ _ _ record { first-area = omega arith; second-area = omega arith; third-area = omega arith; fourth-area = omega arith })
 
 -- What the call with three texts has met on its way to an answer that is no refusal.
 pub record AcceptedRun (limits : Setting) (rulebook text certificate : List ℕ) (answer : Report) : Type 0 where

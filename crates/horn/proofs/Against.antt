@@ -7,7 +7,7 @@ use lib.ListN.{replicate}
 use Rattle.horn.specs.Names.{codes}
 use Rattle.horn.specs.Setting.{document01}
 use Rattle.horn.specs.Calls.{report, rulebookReport, rulebookCall, releaseCall}
-use Rattle.horn.proofs.Run.{release, rulebook}
+use Rattle.horn.proofs.Run.{openAll}
 use Rattle.horn.proofs.Bench.{R, G, C, tightFor}
 use Rattle.horn.proofs.Firings.{released}
 
@@ -26,7 +26,7 @@ pub record AgainstMisreadings : Type 0 where
   pub arguments-of-constant : released R G (codes "(def ?a (z q))") ≡ report 12 0 0 0 0
 
 pub against-misreadings : AgainstMisreadings
-unfolding R G release rulebook
+unfolding R G openAll
 against-misreadings =
     record {
       count-first = refl;
@@ -74,14 +74,14 @@ pub record AgainstOmissions : Type 0 where
   pub limits-met : releaseCall (tightFor 48) 16_384 16_384 16_384 16_384 R G C ≡ report 0 2 1 4 48
   -- "256 `(` in R is 5": not 4
   pub deepest : rulebookCall document01 16_384 16_384 16_384 16_384 (replicate 256 0x28) ≡ rulebookReport 5 0 0 0 0
-  -- "step 18446744073709551615 is 19, one more 18"
+  -- "step 18446744073709551615 is 19, one more 18": not 18 for the first, not 19 for the second
   pub largest-number : released R G (codes "(step 18446744073709551615") ≡ report 19 0 0 0 0
   pub too-large : released R G (codes "(step 18446744073709551616") ≡ report 18 0 0 0 0
   -- row 27, the judgment of a result: not 0
   pub other-judgment : released R G (codes "(step 0 base ())(result g 0)") ≡ report 27 0 0 0 0
 
 pub against-omissions : AgainstOmissions
-unfolding R G C twoSorted looped release rulebook
+unfolding R G C twoSorted looped openAll
 against-omissions =
     record {
       bad-line = refl;

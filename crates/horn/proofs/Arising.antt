@@ -39,7 +39,7 @@ declares-few : {th later : Theory} {xs : Sexps} → Declares th xs later → len
 unfolding count
 declares-few declares-none = omega arith
 declares-few (declares-next {th} {next} {later} {x} {xs} e d) =
-    let h = larger-declared ((declaration-by th x e) .declared) in
+    let h = larger-declared ((declaration-by th x e) .has-declared) in
     let k = declares-few d in
     omega arith
 
@@ -55,8 +55,8 @@ pub few-symbols : {limits : Setting} {rulebook : List ℕ} {th : Theory} → The
     → length (th .symbols) ≤ limits .rulebookBytes
 unfolding emptyTheory
 few-symbols {rulebook} a =
-    let d = declares-few (a .declared) in
-    let c = count-sexps (items (tokens rulebook)) (a .read) in
+    let d = declares-few (a .declares) in
+    let c = count-sexps (items (tokens rulebook)) (a .read-whole) in
     let f = few-items rulebook in
     let s = a .short in
     omega arith
@@ -66,7 +66,7 @@ pub last-theory : (limits : Setting) (rulebook : List ℕ) {th : Theory} → len
     → TheoryArises limits rulebook th
 unfolding theory
 last-theory limits rulebook short e =
-    afterᵣ _ e λ xs e₁ e₂. record { short = short; forms = xs; read = e₁; declared = declares-last xs emptyTheory e₂ }
+    afterᵣ _ e λ xs e₁ e₂. record { short = short; rulebookForms = xs; read-whole = e₁; declares = declares-last xs emptyTheory e₂ }
 
 -- The stores that a reading passes.
 module _ (limits : Setting) where
@@ -115,12 +115,7 @@ module _ (limits : Setting) where
       let q = reads-made limits (reads-goalsOf limits th text) in
       passes-keep Small small-intern p (passes-keep Small small-intern q (omega arith) (passes-last q e₁)) h
 
-  -- The stores in which the reading of the goals and the reading of the certificate end arise.
-  pub goals-store : (rulebook text certificate : List ℕ) {th : Theory} {goals : List Goal} {s : Store} → theory rulebook ≡ ok th
-      → goalsOf limits th text [] ≡ ok (goals, s)
-      → StoreArises limits rulebook text certificate s
-  goals-store rulebook text certificate {th} e e₁ = let p = reads-made limits (reads-goalsOf limits th text) in in-goals e p (passes-last p e₁)
-
+  -- The store in which the reading of the certificate ends arises.
   pub last-store : (rulebook text certificate : List ℕ) {th : Theory} {goals : List Goal} {steps : List Step} {s u : Store} → theory rulebook ≡ ok th
       → goalsOf limits th text [] ≡ ok (goals, s)
       → certificateOf limits th goals certificate s ≡ ok (steps, u)

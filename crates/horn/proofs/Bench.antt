@@ -8,7 +8,7 @@ use Rattle.horn.specs.Names.{codes}
 use Rattle.horn.specs.Rulebook.{Symbol, symbol, sort, judgment, variable, var, app, []ₚ, _∷ₚ_, Rule, rule, Theory, theory}
 use Rattle.horn.specs.StoredTerms.{Term, node, []ₜ, _∷ₜ_, Store}
 use Rattle.horn.specs.Checker.{Goal, goal, goalsOf}
-use Rattle.horn.proofs.Run.{release}
+use Rattle.horn.proofs.Run.{openAll}
 
 -- The three texts.
 unfoldable pub R : List ℕ
@@ -19,6 +19,10 @@ G = codes "(goal g (hold (s z)))"
 
 unfoldable pub C : List ℕ
 C = codes "(step 0 base ())\n(step 1 more (0))\n(result g 1)\n"
+
+-- C with its result twice.
+unfoldable pub resultTwice : List ℕ
+resultTwice = codes "(step 0 base ())\n(step 1 more (0))\n(result g 1)\n(result g 1)\n"
 
 -- The symbols and the rules of R.
 abbrev pub z : Symbol
@@ -60,14 +64,14 @@ abbrev pub benchGoals : List Goal
 benchGoals = goal (codes "g") benchJudgment ∷ []
 
 pub bench-gives : theory R ≡ ok benchTheory
-unfolding release R G
+unfolding openAll R G
 bench-gives = refl
 
 abbrev pub benchStore : Store
 benchStore = zeroTerm ∷ oneTerm ∷ benchJudgment ∷ []
 
 pub bench-read : goalsOf document01 benchTheory G [] ≡ ok (benchGoals, benchStore)
-unfolding release R G
+unfolding openAll R G
 bench-read = refl
 
 -- The store after C.

@@ -23,17 +23,18 @@ use Rattle.horn.specs.Layout.{stepSexps, layoutForms, laidOut, height, d
 use Rattle.horn.specs.Layout.{subterms, allSubterms, distinct, distinctTerms, WithinLimits, Supported, no-instance, instance-then, Proves}
 use Rattle.horn.specs.Demand3.{Complete}
 use Rattle.horn.proofs.Inversion.{onᵣ, on, need-on}
-use Rattle.horn.proofs.Accepting.{areas-long, accepted-gives}
+use Rattle.horn.proofs.Accepting.{areasLong-ok, accepted-gives}
 use Rattle.horn.proofs.GoalsWritten.{read-has, reading-gives}
 use Rattle.horn.proofs.GoalsFixed.{goals-fixed}
 use Rattle.horn.proofs.SoundnessWords.{WellFormed, conclusion-well-sorted}
 use Rattle.horn.proofs.SoundnessRulebook.{theory-formed}
+use Rattle.horn.proofs.SoundnessReading.{GoalsApart, text-apart}
 use Rattle.horn.proofs.CompleteItems.{items-printed}
 use Rattle.horn.proofs.CompleteTheory.{Lookups, theory-looks}
 use Rattle.horn.proofs.CompleteCount.{_⊆_, to-distinct}
-use Rattle.horn.proofs.CompleteStore.{at-most, withTerm, withAll, withAll-append, Fits, fits-none, fits-term, fits-all, stored-count}
+use Rattle.horn.proofs.CompleteStore.{withinLimits-holds, withTerm, withAll, withAll-append, DrawnFrom, drawn-none, drawn-term, drawn-all, stored-count}
 use Rattle.horn.proofs.CompleteTerms.{on-lift}
-use Rattle.horn.proofs.CompleteGoals.{Known, read-known, GoalsApart}
+use Rattle.horn.proofs.CompleteGoals.{Known, read-known}
 use Rattle.horn.proofs.CompleteSteps.{progress, result-back, step-back}
 use Rattle.horn.proofs.CompleteLayout.{forms-words, layout-long}
 
@@ -70,7 +71,7 @@ module _ (limits : Setting) (th : Theory) (l : Lookups th) (formed : WellFormed 
       → length steps + length is ≤ 2 ^ 64
       → depth (stepSexps earlier is ++ rest) ≤ 256
       → allSubterms (map conclusion is) ⊆ us
-      → Fits us store
+      → DrawnFrom us store
       → certificateForms limits th (progress goals steps) (topItems (stepSexps earlier is ++ rest)) store
       ≡ certificateForms limits th (progress goals (stepsMade steps is)) (topItems rest) (withAll (map conclusion is) store)
   unfolding stepSexps stepsMade withAll topItems certificateForms depth allSubterms
@@ -88,7 +89,7 @@ module _ (limits : Setting) (th : Theory) (l : Lookups th) (formed : WellFormed 
       e form prem (omega arith))
       ∙ steps-back s goals next rest (withTerm j store) (conclusions-more steps i e)
       (omega (arith, length-append steps (step j (i .byRule) ∷ []))) (omega arith)
-      (λ u m. sub u (Memᴰ·append-right (subterms j) m)) (fits-term us j store f sub-here)
+      (λ u m. sub u (Memᴰ·append-right (subterms j) m)) (drawn-term us j store f sub-here)
 
   results-back : (goals : List Goal) (steps : List Step) (store : Store) → GoalsApart goals → length steps ≤ 2 ^ 64
       → Each (λ j. List·Memᴰ j (map judgmentOf steps)) (map goalJudgment goals)
@@ -101,13 +102,14 @@ module _ (limits : Setting) (th : Theory) (l : Lookups th) (formed : WellFormed 
 
   -- The whole certificate is read, after goals whose judgments are among the instances' conclusions.
   certificate-back : (goals : List Goal) (is : List Instance) (store : Store) → Proves th goals is → Known goals store
+      → GoalsApart goals
       → length is ≤ 2 ^ 64
       → depth (layoutForms goals is) ≤ 256
       → allSubterms (map conclusion is) ⊆ us
-      → Fits us store
+      → DrawnFrom us store
       → certificateOf limits th goals (laidOut goals is) store ≡ ok (stepsMade [] is, withAll (map conclusion is) store)
   unfolding certificateOf laidOut layoutForms judgments isZero give
-  certificate-back goals is store p k n d sub f =
+  certificate-back goals is store p k apart n d sub f =
       let cs = map conclusion is in
       let results = map (Layout.resultSexp cs) goals in
       let final = withAll cs store in
@@ -118,7 +120,7 @@ module _ (limits : Setting) (th : Theory) (l : Lookups th) (formed : WellFormed 
       (λ x. Each (λ j. List·Memᴰ j x) (map goalJudgment goals)
       → certificateForms limits th (progress goals (stepsMade [] is)) (topItems (map (Layout.resultSexp x) goals)) final
       ≡ ok (progress [] (stepsMade [] is), final))
-      concluded (results-back goals (stepsMade [] is) final (k .others) (omega arith)) (p .reached) in
+      concluded (results-back goals (stepsMade [] is) final apart (omega arith)) (p .reached) in
       on _ _ _
       (ap (λ x. certificateForms limits th (progress goals []) x store)
       (items-printed (layoutForms goals is) (forms-words th l formed goals (p .supported) (k .words)))
@@ -156,18 +158,18 @@ module _ (limits : Setting) (a b c d : ℕ) (rulebook text : List ℕ) {th : The
       let us = distinct (allSubterms js) in
       let k = read-known limits th text read in
       let in-us : allSubterms js ⊆ us = to-distinct (allSubterms js) in
-      let f : Fits us store =
-      subst (Fits us) (sym (k .has))
-      (fits-all us (judgments goals) [] (fits-none us) (λ u m. in-us u (first-part (judgments goals) (map conclusion is) u m))) in
+      let f : DrawnFrom us store =
+      subst (DrawnFrom us) (sym (k .has))
+      (drawn-all us (judgments goals) [] (drawn-none us) (λ u m. in-us u (first-part (judgments goals) (map conclusion is) u m))) in
       let n : length is ≤ 2 ^ 64 = omega (arith, layout-long goals is, w .short) in
       let certificate =
       certificate-back limits th (theory-looks rulebook e) (theory-formed rulebook e) us
-      (at-most limits us (w .few) (w .small)) goals is store p k n (w .shallow)
+      (withinLimits-holds limits us (w .few) (w .small)) goals is store p k (text-apart limits th text read) n (w .shallow)
       (λ u m. in-us u (second-part (judgments goals) (map conclusion is) u m)) f in
       let final = ap (withAll (map conclusion is)) (k .has) ∙ sym (withAll-append (judgments goals) (map conclusion is) []) in
       let count : length (stepsMade [] is) ≡ length is = let h = stepsMade-length [] is in omega arith in
       ap releaseAnswer
-      (onᵣ _ (areas-long (w .areas))
+      (onᵣ _ (areasLong-ok (w .areas))
       ∙ onᵣ _ (need-on _ (le-leb (length rulebook) (limits .rulebookBytes) short))
       ∙ onᵣ _ (need-on _ (le-leb (length text) (limits .goalsBytes) short-text))
       ∙ onᵣ _ (need-on _ (le-leb (length (laidOut goals is)) (limits .certificateBytes) (w .short)))

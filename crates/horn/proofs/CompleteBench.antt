@@ -14,7 +14,7 @@ use Rattle.horn.specs.Forced.{Ground, ground, no-ground, Instance, IsIns
 use Rattle.horn.specs.Forced.{substitute, premises, conclusion, judgments}
 use Rattle.horn.specs.Layout
 use Rattle.horn.specs.Layout.{laidOut, WithinLimits, no-instance, instance-then, Proves}
-use Rattle.horn.proofs.Run.{release}
+use Rattle.horn.proofs.Run.{openAll}
 use Rattle.horn.proofs.Bench.{R, G, tightFor, base, more, zeroTerm, benchTheory, benchGoals, bench-gives, benchStore, bench-read}
 use Rattle.horn.proofs.Accepting.{gives-accepted}
 use Rattle.horn.proofs.GoalsWritten.{given-reading}
@@ -27,15 +27,15 @@ abbrev tight : Setting
 tight = tightFor 70
 
 tight-accepted : Accepted tight R
-unfolding release R
+unfolding openAll R
 tight-accepted = gives-accepted record { short = omega arith; gives = bench-gives }
 
 tight-read : ReadWithoutRefusal tight benchTheory G
-unfolding release G
+unfolding openAll G
 tight-read = given-reading tight benchTheory G {q = (benchGoals, benchStore)} (omega arith) refl
 
 read-01 : ReadWithoutRefusal document01 benchTheory G
-unfolding release G
+unfolding openAll G
 read-01 = given-reading document01 benchTheory G (omega arith) bench-read
 
 -- The two instances: `?x` is z.
@@ -67,7 +67,7 @@ bench-proves =
 
 -- The layout, computed. To unfold `laid` is to unfold all that the layout is made by.
 unfoldable laid : List ℕ
-unfolding release Layout.next Layout.countedTo Layout.plain Layout.plainAll Written.symbolName Layout.ruleName Written.constantOr
+unfolding openAll Layout.next Layout.countedTo Layout.plain Layout.plainAll Written.symbolName Layout.ruleName Written.constantOr
     Written.termSexp Written.judgmentSexp Layout.lowest Layout.stepSexp Layout.stepSexps Layout.resultSexp Layout.layoutForms Layout.printed
     Layout.printedLines Layout.laidOut Layout.height Layout.depth Layout.subterms Layout.allSubterms Layout.distinct Layout.distinctTerms
     premises conclusion premisesOf conclusionOf substitute judgments goalJudgment

@@ -81,7 +81,7 @@ size-below xs ys d s = rw (size-total xs, size-total ys) (total-below nodeSize x
 pub length-same : (xs ys : List Term) → Distinct xs → Distinct ys → xs ⊆ ys → ys ⊆ xs → length xs ≡ length ys
 length-same xs ys d e s t = let h = length-below xs ys d s in let k = length-below ys xs e t in omega arith
 
--- What `distinct` gives.
+-- What the test for a member says.
 pub held-member : (t : Term) (xs : List Term) → someOf (sameTerm t) xs ≡ true → List·Memᴰ t xs
 held-member t xs e =
     let (u, m, h) = some-of-true (sameTerm t) xs e in
@@ -90,6 +90,7 @@ held-member t xs e =
 pub not-held : (t : Term) (xs : List Term) → someOf (sameTerm t) xs ≡ false → List·Memᴰ t xs → ⊥
 not-held t xs e m = differ sameTerm-decides t t (some-of-false (sameTerm t) xs e t m) refl
 
+-- What `distinct` gives.
 pub from-distinct : (xs : List Term) → distinct xs ⊆ xs
 unfolding distinct
 from-distinct [] t m = m

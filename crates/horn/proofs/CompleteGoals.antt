@@ -1,18 +1,16 @@
--- A goals text that was read: the store has the goals' judgments with all their subterms and nothing else, each goal's
--- name is a word, and no goal has the name of another.
+-- A goals text that was read: the store has the goals' judgments with all their subterms and nothing else, and each goal's name is a
+-- word.
 use Prim.Native.Nat.{ℕ}
 use mathlib.Core.Path.{_≡_, refl, sym, ap, subst, _∙_}
-use mathlib.Core.Bool.{false}
-use mathlib.Core.List.{List, [], _∷_, _++_, map, map-append, List·Memᴰ, List·Memᴰ·head, List·Memᴰ·tail}
+use mathlib.Core.List.{List, [], _∷_, _++_, map, map-append}
 use Rattle.horn.specs.Refusals.{ok}
 use Rattle.horn.specs.Setting.{Setting}
-use Rattle.horn.specs.Names.{Name, first, someOf}
+use Rattle.horn.specs.Names.{Name, first}
 use Rattle.horn.specs.NestedLists.{Item, word, group, Items, _then_}
 use Rattle.horn.specs.Rulebook.{Theory}
 use Rattle.horn.specs.StoredTerms.{Term, node, Terms, []ₜ, Store}
-use Rattle.horn.specs.Checker.{Goal, goal, goalJudgment, isGoal, goalsOf}
+use Rattle.horn.specs.Checker.{Goal, goal, goalJudgment, goalsOf}
 use Rattle.horn.specs.Forced.{judgments}
-use Rattle.horn.proofs.Equality.{named-decides, some-of-false, apart, differ}
 use Rattle.horn.proofs.Inversion.{none-some}
 use Rattle.horn.proofs.WasRead.{ReadTerm, read-abbreviation, read-constant, read-compound, ReadTerms, read-none, read-next, ReadJudgment}
 use Rattle.horn.proofs.WasRead.{read-judgment, read-goal, ReadGoals, no-goal-read, next-goal-read, text-read}
@@ -39,46 +37,24 @@ module _ {limits : Setting} {th : Theory} where
   unfolding withTerm
   judgment-with (read-judgment {c = c} {ts = ts} {s₁ = s₁} e rs a i) = intern-kept limits (node c ts) s₁ i ∙ ap (kept (node c ts)) (terms-with rs)
 
--- No goal has the name of a later one.
-abbrev Other : Goal → Goal → Type 0
-Other (goal n j) h = isGoal n h ≡ false
-
-abbrev pub GoalsApart : List Goal → Type 0
-GoalsApart [] = Unit
-GoalsApart (g ∷ gs) = All (Other g) gs × GoalsApart gs
-
+-- The name of a goal is a word.
 abbrev pub GoalWord : Goal → Type 0
 GoalWord (goal n j) = Word n
-
-other-last : (g : Goal) (n : Name) (j : Term) → isGoal n g ≡ false → Other g (goal n j)
-unfolding isGoal
-other-last (goal m k) n j e = apart named-decides m n (λ p. differ named-decides n m e (sym p))
-
-goals-apart-more : (gs : List Goal) (n : Name) (j : Term) → GoalsApart gs → ((h : Goal) → List·Memᴰ h gs → isGoal n h ≡ false)
-    → GoalsApart (gs ++ (goal n j ∷ []))
-goals-apart-more [] n j a e = (tt, tt)
-goals-apart-more (g ∷ gs) n j a e = (
-  all-append (Other g) gs (goal n j ∷ []) (a .0) (other-last g n j (e g (List·Memᴰ·head refl)), tt),
-  goals-apart-more gs n j (a .1) (λ h m. e h (List·Memᴰ·tail m)),
-)
 
 -- What is known of goals that were read, and of the store.
 pub record Known (goals : List Goal) (store : Store) : Type 0 where
   pub has : store ≡ withAll (judgments goals) []
   pub words : All GoalWord goals
-  pub others : GoalsApart goals
 
-known-more : (goals : List Goal) (s : Store) (n : Name) (j : Term) → Known goals s → Word n → someOf (isGoal n) goals ≡ false
-    → Known (goals ++ (goal n j ∷ [])) (withTerm j s)
+known-more : (goals : List Goal) (s : Store) (n : Name) (j : Term) → Known goals s → Word n → Known (goals ++ (goal n j ∷ [])) (withTerm j s)
 unfolding judgments goalJudgment withAll
-known-more goals s n j k w e =
+known-more goals s n j k w =
     record {
       has =
           ap (withTerm j) (k .has)
           ∙ sym (withAll-append (map goalJudgment goals) (j ∷ []) [])
           ∙ ap (λ js. withAll js []) (sym (map-append goalJudgment goals (goal n j ∷ [])));
       words = all-append GoalWord goals (goal n j ∷ []) (k .words) (w, tt);
-      others = goals-apart-more goals n j (k .others) (some-of-false (isGoal n) goals e);
     }
 
 -- The name of a goal is a word, where every atom of its form is one.
@@ -91,9 +67,9 @@ goals-known : {limits : Setting} {th : Theory} {goals more : List Goal} {is : It
     → Known more s′
 goals-known no-goal-read ws k = k
 goals-known {goals} {s} (next-goal-read (read-goal {name = n} {j = j} new r) rs) (w then-words ws) k =
-    goals-known rs ws (subst (Known (goals ++ (goal n j ∷ []))) (sym (judgment-with r)) (known-more goals s n j k (goal-name w) new))
+    goals-known rs ws (subst (Known (goals ++ (goal n j ∷ []))) (sym (judgment-with r)) (known-more goals s n j k (goal-name w)))
 
 pub read-known : (limits : Setting) (th : Theory) (text : List ℕ) {store : Store} {goals : List Goal} → goalsOf limits th text [] ≡ ok (goals, store)
     → Known goals store
 unfolding judgments withAll
-read-known limits th text e = goals-known ((text-read limits th text e) .1) (items-words text) record { has = refl; words = tt; others = tt }
+read-known limits th text e = goals-known ((text-read limits th text e) .1) (items-words text) record { has = refl; words = tt }

@@ -78,7 +78,7 @@ WordMove m = All WordToken (m .0) × WordPlace (m .1)
 
 pub first-word : (bs : List ℕ) (v : ℕ) → Proper (char bs v) → kind v ≡ ordinary → Word bs
 first-word bs v p o =
-    record { first = char bs v; others = []; decodes = p; bytes = append-nil bs; ordinarily = (o, tt) }
+    record { firstChar = char bs v; otherChars = []; decodes = p; bytes = append-nil bs; ordinarily = (o, tt) }
 
 bytesOf-append : (cs ds : List Char) → bytesOf (cs ++ ds) ≡ bytesOf cs ++ bytesOf ds
 bytesOf-append [] ds = refl
@@ -87,14 +87,14 @@ bytesOf-append (char bs v ∷ cs) ds = ap (bs ++_) (bytesOf-append cs ds) ∙ sy
 pub word-append : {as′ bs : List ℕ} → Word as′ → Word bs → Word (as′ ++ bs)
 word-append {as′} {bs} w v =
     record {
-      first = w .first;
-      others = w .others ++ (v .first ∷ v .others);
+      firstChar = w .firstChar;
+      otherChars = w .otherChars ++ (v .firstChar ∷ v .otherChars);
       decodes = decoded-append as′ bs (w .decodes) (v .decodes);
       bytes =
-          bytesOf-append (w .first ∷ w .others) (v .first ∷ v .others)
-          ∙ ap (_++ bytesOf (v .first ∷ v .others)) (w .bytes)
+          bytesOf-append (w .firstChar ∷ w .otherChars) (v .firstChar ∷ v .otherChars)
+          ∙ ap (_++ bytesOf (v .firstChar ∷ v .otherChars)) (w .bytes)
           ∙ ap (as′ ++_) (v .bytes);
-      ordinarily = all-append Ordinary (w .first ∷ w .others) (v .first ∷ v .others) (w .ordinarily) (v .ordinarily);
+      ordinarily = all-append Ordinary (w .firstChar ∷ w .otherChars) (v .firstChar ∷ v .otherChars) (w .ordinarily) (v .ordinarily);
     }
 
 begins-words : (k : Kind) (bs : List ℕ) (v : ℕ) → Proper (char bs v) → kind v ≡ k → WordMove (begins k bs)

@@ -18,7 +18,7 @@ use Rattle.horn.proofs.SoundnessWords.{WellFormed, conclusion-well-sort
 use Rattle.horn.proofs.CompleteUtf8.{All, all-append}
 use Rattle.horn.proofs.CompleteTokens.{Word, WordsIn, leaf-word, list-words, AllWords, no-words, _and-words_}
 use Rattle.horn.proofs.CompleteTheory.{Lookups}
-use Rattle.horn.proofs.CompleteNumbers.{plain-word, step-word, result-word}
+use Rattle.horn.proofs.CompleteNumbers.{plain-word, step-is-word, result-is-word}
 use Rattle.horn.proofs.CompleteGoals.{GoalWord}
 
 constant-words : (name : Name) (xs : Sexps) → Word name → AllWords xs → WordsIn (constantOr name xs)
@@ -37,7 +37,7 @@ module _ (th : Theory) (l : Lookups th) where
 
     term-words : {s : Name} {t : Term} → Ground th s t → WordsIn (termSexp t)
     term-words (ground {name = name} {s = s} {ins = ins} {ts = ts} m gs) =
-        constant-words name (termSexps ts) ((l .symbol-word (symbol name ins (sort s)) m) .0) (terms-words gs)
+        constant-words name (termSexps ts) ((l .symbol-is-word (symbol name ins (sort s)) m) .0) (terms-words gs)
 
     terms-words : {ins : List Name} {ts : Terms} → Grounds th ins ts → AllWords (termSexps ts)
     terms-words Forced.no-ground = no-words
@@ -46,15 +46,15 @@ module _ (th : Theory) (l : Lookups th) where
   judgment-words : {j : Term} → WellSorted th j → WordsIn (judgmentSexp j)
   unfolding judgmentSexp symbolName
   judgment-words (well-sorted {name = name} {ins = ins} m gs) =
-      list-words (leaf-word ((l .symbol-word (symbol name ins judgment) m) .0) and-words terms-words gs)
+      list-words (leaf-word ((l .symbol-is-word (symbol name ins judgment) m) .0) and-words terms-words gs)
 
   step-words : (earlier : List Term) (i : Instance) → IsInstance th i → WellSorted th (conclusion i) → WordsIn (stepSexp earlier i)
   unfolding stepSexp
   step-words earlier i is w =
       list-words
-      (leaf-word step-word
+      (leaf-word step-is-word
       and-words leaf-word (plain-word (length earlier))
-      and-words leaf-word ((l .rule-word (i .byRule) (is .declared)) .0)
+      and-words leaf-word ((l .rule-is-word (i .byRule) (is .declared)) .0)
       and-words list-words (plain-words _)
       and-words judgment-words w
       and-words no-words)
@@ -70,7 +70,7 @@ module _ (th : Theory) (l : Lookups th) where
   results-words cs [] ws = tt
   results-words cs (goal n j ∷ gs) ws = (
     list-words
-        (leaf-word result-word and-words leaf-word (ws .0) and-words leaf-word (plain-word _) and-words no-words),
+        (leaf-word result-is-word and-words leaf-word (ws .0) and-words leaf-word (plain-word _) and-words no-words),
     results-words cs gs (ws .1),
   )
 

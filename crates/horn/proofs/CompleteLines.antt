@@ -58,7 +58,7 @@ inner b e =
     )
     e
 
--- 0A begins a character that it ends.
+-- A character that 0A begins has no further byte.
 alone : (b : ℕ) {a : Range} {m : ℕ} {r : List Range} → b ≡ 0x0A → startedBy b sequences ≡ some (sequence a m r) → r ≡ []
 unfolding startedBy sequences within
 alone b {a} {m} {r} h e =
@@ -93,17 +93,17 @@ characters-cons l ls {cs} ds p q = rw (p, characters) (ap (before cs) q ∙ sym 
 
 -- A text that begins in the midst of a character: the characters of its first line, and those of its other lines.
 record Split (taken : List ℕ) (value : ℕ) (rs : List Range) (bs : List ℕ) (cs : List Char) : Type 0 where
-  first : List Char
-  later : List Char
-  in-line : resumed taken value rs (headLine (lines bs)) ≡ some first
-  in-rest : characters (tailLines (lines bs)) ≡ before later end
-  whole : cs ≡ first ++ later
+  headChars : List Char
+  tailChars : List Char
+  in-line : resumed taken value rs (headLine (lines bs)) ≡ some headChars
+  in-rest : characters (tailLines (lines bs)) ≡ before tailChars end
+  whole : cs ≡ headChars ++ tailChars
 
 split-nil : (taken : List ℕ) (value : ℕ) (rs : List Range) {cs : List Char} → resumed taken value rs [] ≡ some cs
     → Split taken value rs [] cs
 unfolding lines headLine tailLines characters before
 split-nil taken value rs {cs} e =
-    record { first = cs; later = []; in-line = e; in-rest = refl; whole = sym (append-nil cs) }
+    record { headChars = cs; tailChars = []; in-line = e; in-rest = refl; whole = sym (append-nil cs) }
 
 not-last : (b : ℕ) (r : Range) → Inner r → within r b ≡ true → eqb b 0x0A ≡ false
 not-last b r i w =
@@ -121,8 +121,8 @@ split-inner b bs taken value r rs i e ih =
     let d = ih _ q in
     let l = line-on b bs (not-last b r i w) in
     record {
-      first = d .first;
-      later = d .later;
+      headChars = d .headChars;
+      tailChars = d .tailChars;
       in-line = ap (λ x. resumed taken value (r ∷ rs) (headLine x)) l ∙ chose-true _ _ w ∙ d .in-line;
       in-rest = ap (λ x. characters (tailLines x)) l ∙ d .in-rest;
       whole = d .whole;
@@ -139,8 +139,8 @@ unfolding headLine tailLines
 split-next b bs taken value s e n d =
     let l = line-on b bs n in
     record {
-      first = char taken value ∷ d .first;
-      later = d .later;
+      headChars = char taken value ∷ d .headChars;
+      tailChars = d .tailChars;
       in-line =
           ap (λ x. resumed taken value [] (headLine x)) l
           ∙ resumed-done taken value (b ∷ headLine (lines bs))
@@ -174,8 +174,8 @@ unfolding headLine tailLines
 split-end b bs taken value {m} {us} s h e₁ e₂ n p =
     let l = line-end b bs n in
     record {
-      first = char taken value ∷ char (b ∷ []) (b - m) ∷ [];
-      later = us;
+      headChars = char taken value ∷ char (b ∷ []) (b - m) ∷ [];
+      tailChars = us;
       in-line =
           ap (λ x. resumed taken value [] (headLine x)) l
           ∙ resumed-done taken value (b ∷ [])
@@ -191,7 +191,7 @@ lines-on : (b : ℕ) (bs : List ℕ) {a : Range} {m : ℕ} {r : List Range} {cs 
     → characters (lines (b ∷ bs)) ≡ before cs end
 lines-on b bs s n d =
     ap characters (line-on b bs n)
-    ∙ characters-cons (b ∷ headLine (lines bs)) (tailLines (lines bs)) (d .later) (decoded-begun b (headLine (lines bs)) s ∙ d .in-line) (d .in-rest)
+    ∙ characters-cons (b ∷ headLine (lines bs)) (tailLines (lines bs)) (d .tailChars) (decoded-begun b (headLine (lines bs)) s ∙ d .in-line) (d .in-rest)
     ∙ ap (λ x. before x end) (sym (d .whole))
 
 lines-end : (b : ℕ) (bs : List ℕ) {a : Range} {m : ℕ} {r : List Range} {cs us : List Char}

@@ -119,13 +119,13 @@ lowest-below (c ∷ cs) j (List·Memᴰ·tail m) =
     case (sameTerm c j) (λ p. rw (p, lowest) (omega arith)) (λ p. rw (p, lowest) (omega arith))
 
 -- Matching the premises of an instance succeeds, where some step concludes each of them.
-pub record Premised (σ : Assignment) (r : Result (List Bind)) : Type 0 where
+pub record Premised (r : Result (List Bind)) : Type 0 where
   pub binds : List Bind
   pub answered : r ≡ ok binds
 
 pub premises-match : (steps : List Step) (σ : Assignment) (ps : List Pattern) (binds : List Bind) → All (By σ) binds
     → Each (λ j. List·Memᴰ j (map judgmentOf steps)) (map (substitute σ) ps)
-    → Premised σ (matchPremises steps ps (map (lowest (map judgmentOf steps)) (map (substitute σ) ps)) binds)
+    → Premised (matchPremises steps ps (map (lowest (map judgmentOf steps)) (map (substitute σ) ps)) binds)
 unfolding matchPremises
 premises-match steps σ [] binds a e = record { binds = binds; answered = refl }
 premises-match steps σ (p ∷ ps) binds a e =
@@ -141,12 +141,12 @@ premises-match steps σ (p ∷ ps) binds a e =
     }
 
 -- The references of the layout are read as the numbers that they are.
-pub number-due : (n : ℕ) → n < 2 ^ 64 → numberDue (word (plain n)) ≡ ok n
+pub numberDue-plain : (n : ℕ) → n < 2 ^ 64 → numberDue (word (plain n)) ≡ ok n
 unfolding numberDue wordDue
-number-due n h = onᵣ _ refl ∙ found-on _ (numeral-plain n h)
+numberDue-plain n h = onᵣ _ refl ∙ found-on _ (numeral-plain n h)
 
 pub references-back : (ns : List ℕ) → All (λ n. n < 2 ^ 64) ns → references (asItems (plainAll ns)) ≡ ok ns
 unfolding references plainAll asItem
 references-back [] a = refl
 references-back (n ∷ ns) a =
-    onᵣ _ (asked-ok 2 (omega arith)) ∙ onᵣ _ (number-due n (a .0)) ∙ onᵣ _ (references-back ns (a .1))
+    onᵣ _ (asked-ok 2 (omega arith)) ∙ onᵣ _ (numberDue-plain n (a .0)) ∙ onᵣ _ (references-back ns (a .1))

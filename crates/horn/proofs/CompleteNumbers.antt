@@ -168,16 +168,16 @@ pub plain-word : (n : ℕ) → Word (plain n)
 unfolding plain
 plain-word n = digits-word (reverse (countedTo n)) (plain-digits n) (plain-long n)
 
-pub step-word : Word (codes "step")
+pub step-is-word : Word (codes "step")
 unfolding decoded resumed startedBy sequences within kind white whiteRanges inSome codes
-step-word =
+step-is-word =
     word-append (first-word (0x73 ∷ []) 0x73 refl refl)
     (word-append (first-word (0x74 ∷ []) 0x74 refl refl)
     (word-append (first-word (0x65 ∷ []) 0x65 refl refl) (first-word (0x70 ∷ []) 0x70 refl refl)))
 
-pub result-word : Word (codes "result")
+pub result-is-word : Word (codes "result")
 unfolding decoded resumed startedBy sequences within kind white whiteRanges inSome codes
-result-word =
+result-is-word =
     word-append (first-word (0x72 ∷ []) 0x72 refl refl)
     (word-append (first-word (0x65 ∷ []) 0x65 refl refl)
     (word-append (first-word (0x73 ∷ []) 0x73 refl refl)

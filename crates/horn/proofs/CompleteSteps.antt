@@ -2,8 +2,8 @@
 use Prim.Native.Nat.{ℕ, suc, _^_, _≤_, _<_}
 use native.Mathlib.Omega.{arith}
 use mathlib.Core.Path.{_≡_, refl, ap, _∙_}
-use mathlib.Core.Bool.{true, false}
-use mathlib.Core.List.{List, [], _∷_, _++_, map, List·Memᴰ}
+use mathlib.Core.Bool.{true}
+use mathlib.Core.List.{List, [], _∷_, _++_, map, List·Memᴰ, List·Memᴰ·head, List·Memᴰ·tail}
 use mathlib.Core.Option.{none, some}
 use lib.ListN.{length, length-map}
 use borrow.Author.Tests.{eq-eqb}
@@ -22,15 +22,15 @@ use Rattle.horn.specs.Forced.{WellSorted, well-sorted, Instance, IsInsta
 use Rattle.horn.specs.Layout
 use Rattle.horn.specs.Written.{symbolName, termSexps, judgmentSexp}
 use Rattle.horn.specs.Layout.{plain, plainAll, ruleName, lowest, height, subterms}
-use Rattle.horn.proofs.Equality.{chose-true, chose-false, named-decides, sameTerm-decides}
+use Rattle.horn.proofs.Equality.{case, chose-true, chose-false, named-decides, sameTerm-decides}
 use Rattle.horn.proofs.Inversion.{onᵣ, on, need-on, found-on}
+use Rattle.horn.proofs.SoundnessReading.{GoalsApart}
 use Rattle.horn.proofs.CompleteUtf8.{All}
 use Rattle.horn.proofs.CompleteTheory.{Lookups}
 use Rattle.horn.proofs.CompleteCount.{_⊆_}
-use Rattle.horn.proofs.CompleteStore.{withTerm, Fits}
+use Rattle.horn.proofs.CompleteStore.{withTerm, DrawnFrom}
 use Rattle.horn.proofs.CompleteTerms.{on-lift, asked-ok, judgment-back}
-use Rattle.horn.proofs.CompleteGoals.{GoalsApart}
-use Rattle.horn.proofs.CompleteMatching.{pattern-matches, lowest-step, lowest-below, premises-match, number-due, references-back}
+use Rattle.horn.proofs.CompleteMatching.{pattern-matches, lowest-step, lowest-below, premises-match, numberDue-plain, references-back}
 
 -- An item that is there is found, at depth 1 or 2.
 asked : (depth : ℕ) (item : Item) (rest : Items) → depth ≤ 2 → ask depth (item then rest) ≡ ok (item, rest)
@@ -47,15 +47,15 @@ asked-group depth inner rest h = onᵣ _ (asked depth (group inner) rest h) ∙ 
 
 asked-number : (depth n : ℕ) (rest : Items) → depth ≤ 2 → n < 2 ^ 64 → askNumber depth (word (plain n) then rest) ≡ ok (n, rest)
 unfolding askNumber
-asked-number depth n rest h b = onᵣ _ (asked depth (word (plain n)) rest h) ∙ onᵣ _ (number-due n b)
+asked-number depth n rest h b = onᵣ _ (asked depth (word (plain n)) rest h) ∙ onᵣ _ (numberDue-plain n b)
 
-step-keyword : formWord (codes "step") ≡ stepWord
+formWord-step : formWord (codes "step") ≡ stepWord
 unfolding formWord named sameList codes
-step-keyword = refl
+formWord-step = refl
 
-result-keyword : formWord (codes "result") ≡ resultWord
+formWord-result : formWord (codes "result") ≡ resultWord
 unfolding formWord named sameList codes
-result-keyword = refl
+formWord-result = refl
 
 abbrev pub progress : List Goal → List Step → Progress
 progress goals steps = record { defs = []; openGoals = goals; steps = steps }
@@ -68,10 +68,12 @@ module _ (limits : Setting) (th : Theory) where
   form-headed head now rest store = on-lift _ _ _ refl ∙ on-lift _ _ _ (asked-name 1 head rest (omega arith))
 
   -- A result closes its goal, and leaves the others open.
-  without-others : (n : Name) (gs : List Goal) → All (λ h. isGoal n h ≡ false) gs → without n gs ≡ gs
+  without-others : (n : Name) (gs : List Goal) → ((h : Goal) → List·Memᴰ h gs → isGoal n h ≡ true → ⊥) → without n gs ≡ gs
   unfolding without
   without-others n [] a = refl
-  without-others n (g ∷ gs) a = chose-false _ _ (a .0) ∙ ap (g ∷_) (without-others n gs (a .1))
+  without-others n (g ∷ gs) a =
+      chose-false _ _ (case (isGoal n g) (λ t. absurd (a g (List·Memᴰ·head refl) t)) (λ f. f))
+      ∙ ap (g ∷_) (without-others n gs (λ h m. a h (List·Memᴰ·tail m)))
 
   own-name : (n : Name) (j : Term) → isGoal n (goal n j) ≡ true
   unfolding isGoal
@@ -88,14 +90,14 @@ module _ (limits : Setting) (th : Theory) where
       let l = length-map steps judgmentOf in
       let c = lowest-step steps j m in
       form-headed (codes "result") (progress (goal n j ∷ gs) steps) _ store
-      ∙ ap (λ w. Certificate.headedForm limits th w (progress (goal n j ∷ gs) steps) (word n then word (plain k) then closed) store) result-keyword
+      ∙ ap (λ w. Certificate.headedForm limits th w (progress (goal n j ∷ gs) steps) (word n then word (plain k) then closed) store) formWord-result
       ∙ on-lift _ _ _ (asked-name 1 n (word (plain k) then closed) (omega arith))
       ∙ on-lift _ _ _ (found-on _ (chose-true _ _ (own-name n j)))
       ∙ on-lift _ _ _ (asked-number 1 k closed (omega arith) (omega arith))
       ∙ on-lift _ _ _ (found-on _ (c .there))
       ∙ on-lift _ _ _ (need-on _ (ap (λ x. sameTerm x j) (c .concludes) ∙ sameTerm-decides .same j))
       ∙ on-lift _ _ _ refl
-      ∙ ap (λ x. ok (progress x steps, store)) (chose-true _ _ (own-name n j) ∙ without-others n gs (a .0))
+      ∙ ap (λ x. ok (progress x steps, store)) (chose-true _ _ (own-name n j) ∙ without-others n gs (λ h m. a .0 h m n (own-name n j)))
 
   -- A stated conclusion matches, and then the premises do.
   conclude-back : (i : Instance) (steps : List Step) (store : Store)
@@ -112,7 +114,7 @@ module _ (limits : Setting) (th : Theory) where
     -- The one item of a laid-out step: its conclusion.
     item-back : {j : Term} → WellSorted th j → (r : Rule) (store : Store) → suc (height (judgmentSexp j)) ≤ 256
         → subterms j ⊆ us
-        → Fits us store
+        → DrawnFrom us store
         → Certificate.stepItems limits th [] r (asItem (judgmentSexp j) then closed) (given [] none) store
         ≡ ok (given [] (some j), withTerm j store)
     unfolding Certificate.stepItems Certificate.stepItem Certificate.conclusionItem judgmentSexp symbolName asItem groupDue height isStated give
@@ -121,7 +123,7 @@ module _ (limits : Setting) (th : Theory) where
         ∙ on _ _ _
         (on-lift _ _ _ refl
         ∙ on-lift _ _ _ (asked-name 2 name (asItems (termSexps ts)) (omega arith))
-        ∙ ap (λ (x : Reading Given). x store) (chose-false _ _ ((l .symbol-word (symbol name ins judgment) m) .1))
+        ∙ ap (λ (x : Reading Given). x store) (chose-false _ _ ((l .symbol-is-word (symbol name ins judgment) m) .1))
         ∙ on _ _ _ (judgment-back limits th l us within name ins ts m gs 2 store (omega arith) sub f)
         ∙ on-lift _ _ _ (need-on _ refl))
 
@@ -137,9 +139,9 @@ module _ (limits : Setting) (th : Theory) where
     references-small cs [] e b = tt
     references-small cs (j ∷ js) e b = (let h = lowest-below cs j (e .0) in omega arith, references-small cs js (e .1) b)
 
-    reference-count : (i : Instance) (cs : List Term) → length (map (lowest cs) (premises i)) ≡ length (premisesOf (i .byRule))
+    references-counted : (i : Instance) (cs : List Term) → length (map (lowest cs) (premises i)) ≡ length (premisesOf (i .byRule))
     unfolding premises
-    reference-count i cs =
+    references-counted i cs =
         length-map (map (substitute (i .assignment)) (premisesOf (i .byRule))) (lowest cs)
         ∙ length-map (premisesOf (i .byRule)) (substitute (i .assignment))
 
@@ -147,7 +149,7 @@ module _ (limits : Setting) (th : Theory) where
         → WellSorted th (conclusion i)
         → length steps < 2 ^ 64
         → subterms (conclusion i) ⊆ us
-        → Fits us store
+        → DrawnFrom us store
         → Each (λ j. List·Memᴰ j (map judgmentOf steps)) (premises i)
         → height (Layout.stepSexp (map judgmentOf steps) i) ≤ 256
         → Certificate.certificateForm limits th (progress goals steps) (asItem (Layout.stepSexp (map judgmentOf steps) i)) store
@@ -163,13 +165,13 @@ module _ (limits : Setting) (th : Theory) where
         let is₂ = group (asItems (plainAll refs)) then item then closed in
         let is₁ = word (ruleName r) then is₂ in
         form-headed (codes "step") (progress goals steps) _ store
-        ∙ ap (λ x. Certificate.headedForm limits th x (progress goals steps) (word (plain n) then is₁) store) step-keyword
+        ∙ ap (λ x. Certificate.headedForm limits th x (progress goals steps) (word (plain n) then is₁) store) formWord-step
         ∙ on-lift _ _ _ (asked-number 1 n is₁ (omega arith) (omega arith))
         ∙ on-lift _ _ _ (need-on _ (eq-eqb n (length steps) k))
         ∙ on-lift _ _ _ (asked-name 1 (ruleName r) is₂ (omega arith))
         ∙ on-lift _ _ _ (rule-ok r (is .declared))
         ∙ on-lift _ _ _ (asked-group 1 (asItems (plainAll refs)) (item then closed) (omega arith))
         ∙ on-lift _ _ _ (references-back refs (references-small cs (premises i) e (omega arith)))
-        ∙ on-lift _ _ _ (need-on _ (eq-eqb (length refs) (length (premisesOf r)) (reference-count i cs)))
+        ∙ on-lift _ _ _ (need-on _ (eq-eqb (length refs) (length (premisesOf r)) (references-counted i cs)))
         ∙ on _ _ _ (item-back w r store (omega arith) sub f)
         ∙ on _ _ _ (conclude-back i steps (withTerm (conclusion i) store) e)

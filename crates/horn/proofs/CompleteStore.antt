@@ -1,5 +1,5 @@
--- A store into which only terms of some list are put, a list that is within the limits, refuses none of them; and what the store holds
--- in the end.
+-- If all terms that are put into a store come from a list that is within the limits, none of them is refused; and what the store holds in
+-- the end.
 use Prim.Native.Nat.{_≤_}
 use native.Mathlib.Omega.{arith}
 use mathlib.Core.Path.{_≡_, refl, sym, subst, _∙_}
@@ -102,89 +102,89 @@ new-all (t ∷ ts) store u m =
     (λ k. new-all ts (withTerm t store) u k)
     (List·Memᴰ·append-cases (subterms t) m)
 
--- A store without repetition whose terms are all in a list.
-pub record Fits (us : List Term) (store : Store) : Type 0 where
-  pub apart : Distinct store
+-- A store drawn from a list: without repetition, and all its terms are in the list.
+pub record DrawnFrom (us : List Term) (store : Store) : Type 0 where
+  pub once : Distinct store
   pub among : store ⊆ us
 
-pub fits-none : (us : List Term) → Fits us []
-fits-none us = record { apart = tt; among = λ t m. elim m [ ] }
+pub drawn-none : (us : List Term) → DrawnFrom us []
+drawn-none us = record { once = tt; among = λ t m. elim m [ ] }
 
-fits-new : (us : List Term) (t : Term) (store : Store) → Fits us store → List·Memᴰ t us → holds store t ≡ false
-    → Fits us (store ++ (t ∷ []))
+drawn-new : (us : List Term) (t : Term) (store : Store) → DrawnFrom us store → List·Memᴰ t us → holds store t ≡ false
+    → DrawnFrom us (store ++ (t ∷ []))
 unfolding holds
-fits-new us t store f m h =
+drawn-new us t store f m h =
     record {
-      apart = distinct-more store t (f .apart) (not-held t store h);
+      once = distinct-more store t (f .once) (not-held t store h);
       among = λ u n. in-or-last store n (f .among u) (λ e. subst (λ z. List·Memᴰ z us) (sym e) m);
     }
 
-fits-kept : (us : List Term) (t : Term) (store : Store) → Fits us store → List·Memᴰ t us → Fits us (kept t store)
+drawn-kept : (us : List Term) (t : Term) (store : Store) → DrawnFrom us store → List·Memᴰ t us → DrawnFrom us (kept t store)
 unfolding kept
-fits-kept us t store f m =
-    case (holds store t) (λ h. rw (h, kept) f) (λ h. rw (h, kept) (fits-new us t store f m h))
+drawn-kept us t store f m =
+    case (holds store t) (λ h. rw (h, kept) f) (λ h. rw (h, kept) (drawn-new us t store f m h))
 
 mutual
   unfolding withTerm subterms
 
-  pub fits-term : (us : List Term) (t : Term) (store : Store) → Fits us store → subterms t ⊆ us → Fits us (withTerm t store)
-  fits-term us (node c ts) store f s =
-      fits-kept us (node c ts) (withTerms ts store)
-      (fits-terms us ts store f (λ u m. s u (List·Memᴰ·tail m))) (s (node c ts) (List·Memᴰ·head refl))
+  pub drawn-term : (us : List Term) (t : Term) (store : Store) → DrawnFrom us store → subterms t ⊆ us → DrawnFrom us (withTerm t store)
+  drawn-term us (node c ts) store f s =
+      drawn-kept us (node c ts) (withTerms ts store)
+      (drawn-terms us ts store f (λ u m. s u (List·Memᴰ·tail m))) (s (node c ts) (List·Memᴰ·head refl))
 
-  pub fits-terms : (us : List Term) (ts : Terms) (store : Store) → Fits us store → subtermsOf ts ⊆ us → Fits us (withTerms ts store)
-  fits-terms us []ₜ store f s = f
-  fits-terms us (t ∷ₜ ts) store f s =
-      fits-terms us ts (withTerm t store)
-      (fits-term us t store f (λ u m. s u (Memᴰ·append-left (subtermsOf ts) m)))
+  pub drawn-terms : (us : List Term) (ts : Terms) (store : Store) → DrawnFrom us store → subtermsOf ts ⊆ us → DrawnFrom us (withTerms ts store)
+  drawn-terms us []ₜ store f s = f
+  drawn-terms us (t ∷ₜ ts) store f s =
+      drawn-terms us ts (withTerm t store)
+      (drawn-term us t store f (λ u m. s u (Memᴰ·append-left (subtermsOf ts) m)))
       (λ u m. s u (Memᴰ·append-right (subterms t) m))
 
-pub fits-all : (us ts : List Term) (store : Store) → Fits us store → allSubterms ts ⊆ us → Fits us (withAll ts store)
+pub drawn-all : (us ts : List Term) (store : Store) → DrawnFrom us store → allSubterms ts ⊆ us → DrawnFrom us (withAll ts store)
 unfolding withAll allSubterms
-fits-all us [] store f s = f
-fits-all us (t ∷ ts) store f s =
-    fits-all us ts (withTerm t store)
-    (fits-term us t store f (λ u m. s u (Memᴰ·append-left (allSubterms ts) m)))
+drawn-all us [] store f s = f
+drawn-all us (t ∷ ts) store f s =
+    drawn-all us ts (withTerm t store)
+    (drawn-term us t store f (λ u m. s u (Memᴰ·append-left (allSubterms ts) m)))
     (λ u m. s u (Memᴰ·append-right (subterms t) m))
 
 -- A store is within the limits exactly if it has at most so many nodes and at most so many words.
-pub at-most : (limits : Setting) (store : Store) → length store ≤ limits .nodes → size store ≤ limits .nodeWords
+pub withinLimits-holds : (limits : Setting) (store : Store) → length store ≤ limits .nodes → size store ≤ limits .nodeWords
     → withinLimits limits store ≡ true
 unfolding withinLimits
-at-most limits store h k =
+withinLimits-holds limits store h k =
     and-eq-true-iff _ _ .1 (le-leb (length store) (limits .nodes) h, le-leb (size store) (limits .nodeWords) k)
 
-pub no-more : (limits : Setting) (store : Store) → withinLimits limits store ≡ true
+pub withinLimits-says : (limits : Setting) (store : Store) → withinLimits limits store ≡ true
     → (length store ≤ limits .nodes) × (size store ≤ limits .nodeWords)
 unfolding withinLimits
-no-more limits store w =
+withinLimits-says limits store w =
     let (h, k) = both (leb (length store) (limits .nodes)) (leb (size store) (limits .nodeWords)) w in
     (leb-true (length store) (limits .nodes) h, leb-true (size store) (limits .nodeWords) k)
 
--- A store that fits a list is within the limits if the list is, and so no term of the list is refused.
-within-fits : (limits : Setting) (us : List Term) (store : Store) → withinLimits limits us ≡ true → Fits us store
+-- A store drawn from a list is within the limits if the list is, and so no term of the list is refused.
+withinLimits-drawn : (limits : Setting) (us : List Term) (store : Store) → withinLimits limits us ≡ true → DrawnFrom us store
     → withinLimits limits store ≡ true
-within-fits limits us store w f =
-    let m = no-more limits us w in
-    let l = length-below store us (f .apart) (f .among) in
-    let s = size-below store us (f .apart) (f .among) in
-    at-most limits store (omega arith) (omega arith)
+withinLimits-drawn limits us store w f =
+    let m = withinLimits-says limits us w in
+    let l = length-below store us (f .once) (f .among) in
+    let s = size-below store us (f .once) (f .among) in
+    withinLimits-holds limits store (omega arith) (omega arith)
 
-pub intern-fits : (limits : Setting) (us : List Term) (t : Term) (store : Store) → withinLimits limits us ≡ true
-    → Fits us store
+pub intern-drawn : (limits : Setting) (us : List Term) (t : Term) (store : Store) → withinLimits limits us ≡ true
+    → DrawnFrom us store
     → List·Memᴰ t us
     → intern limits t store ≡ ok (kept t store)
 unfolding intern kept need _>>=_
-intern-fits limits us t store w f m =
+intern-drawn limits us t store w f m =
     case (holds store t)
     (λ h. rw (h, intern, kept))
-    (λ h. rw (h, intern, kept, within-fits limits us (store ++ (t ∷ [])) w (fits-new us t store f m h)))
+    (λ h. rw (h, intern, kept, withinLimits-drawn limits us (store ++ (t ∷ [])) w (drawn-new us t store f m h)))
 
 -- Once some judgments are put into the empty store, it has as many terms as they have distinct subterms.
 pub stored-count : (js : List Term) → length (withAll js []) ≡ length (distinct (allSubterms js))
 stored-count js =
     let us = allSubterms js in
-    let f = fits-all us js [] (fits-none us) (λ u m. m) in
-    length-same (withAll js []) (distinct us) (f .apart) (distinct-distinct us)
+    let f = drawn-all us js [] (drawn-none us) (λ u m. m) in
+    length-same (withAll js []) (distinct us) (f .once) (distinct-distinct us)
     (λ u m. to-distinct us u (f .among u m))
     (λ u m. new-all js [] u (from-distinct us u m))

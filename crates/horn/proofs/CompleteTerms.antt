@@ -20,7 +20,7 @@ use Rattle.horn.proofs.Equality.{named-decides, sameOutput-decides}
 use Rattle.horn.proofs.Inversion.{onᵣ, on, lift-on, need-on, found-on}
 use Rattle.horn.proofs.CompleteTheory.{Lookups}
 use Rattle.horn.proofs.CompleteCount.{_⊆_}
-use Rattle.horn.proofs.CompleteStore.{kept, withTerm, withTerms, Fits, fits-term, fits-terms, intern-fits}
+use Rattle.horn.proofs.CompleteStore.{kept, withTerm, withTerms, DrawnFrom, drawn-term, drawn-terms, intern-drawn}
 
 pub on-lift : {A B : Type 0} (r : Result A) (f : A → Reading B) (s : Store) {a : A} → r ≡ ok a → (lift r >>= f) s ≡ f a s
 on-lift r f s e = on (lift r) f s (lift-on s e)
@@ -54,12 +54,12 @@ module _ (limits : Setting) (th : Theory) (l : Lookups th) (us : List Term) (wit
   unquestioned : (name : Name) (ins : List Name) (s : Name) → List·Memᴰ (symbol name ins (sort s)) (th .symbols)
       → questioned name ≡ false
   unfolding symbolName
-  unquestioned name ins s m = (l .symbol-word (symbol name ins (sort s)) m) .1
+  unquestioned name ins s m = (l .symbol-is-word (symbol name ins (sort s)) m) .1
 
-  made : (c : Symbol) (ts : Terms) (store : Store) → accepts (inputs c) ts ≡ true → Fits us store → List·Memᴰ (node c ts) us
+  make-stored : (c : Symbol) (ts : Terms) (store : Store) → accepts (inputs c) ts ≡ true → DrawnFrom us store → List·Memᴰ (node c ts) us
       → make limits c ts store ≡ ok (node c ts, kept (node c ts) store)
   unfolding make stored
-  made c ts store a f m = on-lift _ _ _ (need-on _ a) ∙ onᵣ _ (intern-fits limits us (node c ts) store within f m)
+  make-stored c ts store a f m = on-lift _ _ _ (need-on _ a) ∙ onᵣ _ (intern-drawn limits us (node c ts) store within f m)
 
   atom-constant : (name : Name) (store : Store) → questioned name ≡ false
       → atomTerm limits th [] name store ≡ (lift (constructor th name) >>= λ c. make limits c []ₜ) store
@@ -74,21 +74,21 @@ module _ (limits : Setting) (th : Theory) (l : Lookups th) (us : List Term) (wit
       → arguments limits th [] (suc depth) (asItems (termSexps ts)) store ≡ ok (ts, withTerms ts store))
       → depth + height (termSexp (node (symbol name ins (sort s)) ts)) ≤ 256
       → List·Memᴰ (node (symbol name ins (sort s)) ts) us
-      → Fits us (withTerms ts store)
+      → DrawnFrom us (withTerms ts store)
       → term limits th [] depth (asItem (termSexp (node (symbol name ins (sort s)) ts))) store
       ≡ ok (node (symbol name ins (sort s)) ts, kept (node (symbol name ins (sort s)) ts) (withTerms ts store))
   unfolding termSexp constantOr symbolName asItem term height inputs withTerm isZero width wordDue
   over []ₜ name s ins store depth m gs as′ h u f =
       atom-constant name store (unquestioned name ins s m)
       ∙ on-lift _ _ _ (constructor-ok name s ins m)
-      ∙ made (symbol name ins (sort s)) []ₜ store (accepts-grounds gs) f u
+      ∙ make-stored (symbol name ins (sort s)) []ₜ store (accepts-grounds gs) f u
   over (t ∷ₜ ts) name s ins store depth m gs as′ h u f =
       on-lift _ _ _ (asked-ok (suc depth) (omega arith))
       ∙ on-lift _ _ _ refl
       ∙ on-lift _ _ _ (constructor-ok name s ins m)
       ∙ on _ _ _ (as′ (omega arith))
       ∙ on-lift _ _ _ (need-on _ refl)
-      ∙ made (symbol name ins (sort s)) (t ∷ₜ ts) (withTerms (t ∷ₜ ts) store) (accepts-grounds gs) f u
+      ∙ make-stored (symbol name ins (sort s)) (t ∷ₜ ts) (withTerms (t ∷ₜ ts) store) (accepts-grounds gs) f u
 
   mutual
     unfolding term termSexp asItem withTerm heights subterms give
@@ -96,17 +96,17 @@ module _ (limits : Setting) (th : Theory) (l : Lookups th) (us : List Term) (wit
     pub term-back : {s : Name} {t : Term} → Ground th s t → (depth : ℕ) (store : Store)
         → depth + height (termSexp t) ≤ 256
         → subterms t ⊆ us
-        → Fits us store
+        → DrawnFrom us store
         → term limits th [] depth (asItem (termSexp t)) store ≡ ok (t, withTerm t store)
     term-back (ground {name = name} {s = s} {ins = ins} {ts = ts} m gs) depth store h sub f =
         over ts name s ins store depth m gs
         (λ k. terms-back gs (suc depth) store k (λ u n. sub u (List·Memᴰ·tail n)) f)
-        h (sub _ (List·Memᴰ·head refl)) (fits-terms us ts store f (λ u n. sub u (List·Memᴰ·tail n)))
+        h (sub _ (List·Memᴰ·head refl)) (drawn-terms us ts store f (λ u n. sub u (List·Memᴰ·tail n)))
 
     pub terms-back : {ins : List Name} {ts : Terms} → Grounds th ins ts → (depth : ℕ) (store : Store)
         → depth + heights (termSexps ts) ≤ 257
         → subtermsOf ts ⊆ us
-        → Fits us store
+        → DrawnFrom us store
         → arguments limits th [] depth (asItems (termSexps ts)) store ≡ ok (ts, withTerms ts store)
     terms-back no-ground depth store h sub f = refl
     terms-back (ground-then {t = t} {ts = ts} g gs) depth store h sub f =
@@ -114,7 +114,7 @@ module _ (limits : Setting) (th : Theory) (l : Lookups th) (us : List Term) (wit
         ∙ on _ _ _ (term-back g depth store (omega arith) (λ u n. sub u (Memᴰ·append-left (subtermsOf ts) n)) f)
         ∙ on _ _ _
         (terms-back gs depth (withTerm t store) (omega arith) (λ u n. sub u (Memᴰ·append-right (subterms t) n))
-        (fits-term us t store f (λ u n. sub u (Memᴰ·append-left (subtermsOf ts) n))))
+        (drawn-term us t store f (λ u n. sub u (Memᴰ·append-left (subtermsOf ts) n))))
 
   -- A judgment is read, behind its head.
   pub judgment-back : (name : Name) (ins : List Name) (ts : Terms) → List·Memᴰ (symbol name ins judgment) (th .symbols)
@@ -122,7 +122,7 @@ module _ (limits : Setting) (th : Theory) (l : Lookups th) (us : List Term) (wit
       → (depth : ℕ) (store : Store)
       → depth + heights (termSexps ts) ≤ 257
       → subterms (node (symbol name ins judgment) ts) ⊆ us
-      → Fits us store
+      → DrawnFrom us store
       → headedJudgment limits th [] depth name (asItems (termSexps ts)) store
       ≡ ok (node (symbol name ins judgment) ts, withTerm (node (symbol name ins judgment) ts) store)
   unfolding headedJudgment inputs subterms withTerm
@@ -130,5 +130,5 @@ module _ (limits : Setting) (th : Theory) (l : Lookups th) (us : List Term) (wit
       let below : subtermsOf ts ⊆ us = λ u n. sub u (List·Memᴰ·tail n) in
       on-lift _ _ _ (predicate-ok name ins m)
       ∙ on _ _ _ (terms-back gs depth store h below f)
-      ∙ made (symbol name ins judgment) ts (withTerms ts store) (accepts-grounds gs) (fits-terms us ts store f below)
+      ∙ make-stored (symbol name ins judgment) ts (withTerms ts store) (accepts-grounds gs) (drawn-terms us ts store f below)
       (sub _ (List·Memᴰ·head refl))

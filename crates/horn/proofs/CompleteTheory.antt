@@ -56,8 +56,8 @@ pub record Lookups (th : Theory) : Type 0 where
   pub finds-constructor : Finds isConstructor symbolName (th .symbols)
   pub finds-predicate : Finds isPredicate symbolName (th .symbols)
   pub finds-rule : Finds isRule ruleName (th .rules)
-  pub symbol-word : (c : Symbol) → List·Memᴰ c (th .symbols) → NameWord (symbolName c)
-  pub rule-word : (r : Rule) → List·Memᴰ r (th .rules) → NameWord (ruleName r)
+  pub symbol-is-word : (c : Symbol) → List·Memᴰ c (th .symbols) → NameWord (symbolName c)
+  pub rule-is-word : (r : Rule) → List·Memᴰ r (th .rules) → NameWord (ruleName r)
 
 words-more : {A : Type 0} (name : A → Name) (xs : List A) (b : A) → ((a : A) → List·Memᴰ a xs → NameWord (name a))
     → NameWord (name b)
@@ -85,8 +85,8 @@ declared-looks l w (sort-declared e) =
       finds-constructor = l .finds-constructor;
       finds-predicate = l .finds-predicate;
       finds-rule = l .finds-rule;
-      symbol-word = l .symbol-word;
-      rule-word = l .rule-word;
+      symbol-is-word = l .symbol-is-word;
+      rule-is-word = l .rule-is-word;
     }
 declared-looks {th} {n = n} l w (symbol-declared {name = name} ins out e f g) =
     let c = symbol name ins out in
@@ -94,8 +94,8 @@ declared-looks {th} {n = n} l w (symbol-declared {name = name} ins out e f g) =
       finds-constructor = finds-more isConstructor symbolName (th .symbols) c (l .finds-constructor) f;
       finds-predicate = finds-more isPredicate symbolName (th .symbols) c (l .finds-predicate) g;
       finds-rule = l .finds-rule;
-      symbol-word = words-more symbolName (th .symbols) c (l .symbol-word) (name-word n w e);
-      rule-word = l .rule-word;
+      symbol-is-word = words-more symbolName (th .symbols) c (l .symbol-is-word) (name-word n w e);
+      rule-is-word = l .rule-is-word;
     }
 declared-looks {th} {n = n} l w (rule-declared {name = name} xs j {q = q} {r = r} e₁ e₂ e f) =
     let new = rule name (r .1) (q .0) (r .0) in
@@ -103,8 +103,8 @@ declared-looks {th} {n = n} l w (rule-declared {name = name} xs j {q = q} {r = r
       finds-constructor = l .finds-constructor;
       finds-predicate = l .finds-predicate;
       finds-rule = finds-more isRule ruleName (th .rules) new (l .finds-rule) (λ t. f);
-      symbol-word = l .symbol-word;
-      rule-word = words-more ruleName (th .rules) new (l .rule-word) (name-word n w e);
+      symbol-is-word = l .symbol-is-word;
+      rule-is-word = words-more ruleName (th .rules) new (l .rule-is-word) (name-word n w e);
     }
 
 second-words : {h n : Sexp} {xs : Sexps} → WordsIn (list (h ∷ₛ n ∷ₛ xs)) → WordsIn n
@@ -114,7 +114,7 @@ declares-look : {th later : Theory} {xs : Sexps} → AllWords xs → Lookups th 
 declares-look ws l declares-none = l
 declares-look (w and-words ws) l (declares-next {th} {x = x} e d) =
     let b = declaration-by th x e in
-    declares-look ws (declared-looks l (second-words (subst WordsIn (b .shape) w)) (b .declared)) d
+    declares-look ws (declared-looks l (second-words (subst WordsIn (b .shape) w)) (b .has-declared)) d
 
 pub theory-looks : (text : List ℕ) {th : Theory} → Rulebook.theory text ≡ ok th → Lookups th
 unfolding Rulebook.theory Rulebook.emptyTheory
@@ -125,7 +125,7 @@ theory-looks text e =
       finds-constructor = λ a m. elim m [ ];
       finds-predicate = λ a m. elim m [ ];
       finds-rule = λ a m. elim m [ ];
-      symbol-word = λ a m. elim m [ ];
-      rule-word = λ a m. elim m [ ];
+      symbol-is-word = λ a m. elim m [ ];
+      rule-is-word = λ a m. elim m [ ];
     }
     (declares-last xs _ e₂)

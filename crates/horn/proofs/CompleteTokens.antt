@@ -20,11 +20,11 @@ bytesOf (char bs v ∷ cs) = bs ++ bytesOf cs
 
 -- Bytes that are read as one atom.
 pub record Word (name : List ℕ) : Type 0 where
-  pub first : Char
-  pub others : List Char
-  pub decodes : decoded name ≡ some (first ∷ others)
-  pub bytes : bytesOf (first ∷ others) ≡ name
-  pub ordinarily : All Ordinary (first ∷ others)
+  pub firstChar : Char
+  pub otherChars : List Char
+  pub decodes : decoded name ≡ some (firstChar ∷ otherChars)
+  pub bytes : bytesOf (firstChar ∷ otherChars) ≡ name
+  pub ordinarily : All Ordinary (firstChar ∷ otherChars)
 
 -- A text that is UTF-8 as a whole, with its tokens; and such a text that ends an atom which stands before it.
 pub record Lexed (text : List ℕ) (ts : Stream Token) : Type 0 where
@@ -84,26 +84,26 @@ unfolding decoded resumed startedBy sequences within kind white whiteRanges inSo
 newline-before l = white-before 0x0A refl refl l
 
 -- A word, in front of a text that ends it.
-in-atom : (cs : List Char) (bs : List ℕ) (s : Stream Char) → All Ordinary cs
+stays-in-atom : (cs : List Char) (bs : List ℕ) (s : Stream Char) → All Ordinary cs
     → tokensFrom (inAtom bs) (before cs s) ≡ tokensFrom (inAtom (bs ++ bytesOf cs)) s
 unfolding before tokensFrom move continues
-in-atom [] bs s o = ap (λ x. tokensFrom (inAtom x) s) (sym (append-nil bs))
-in-atom (char b v ∷ cs) bs s o =
-    rw (o .0) (in-atom cs (bs ++ b) s (o .1) ∙ ap (λ x. tokensFrom (inAtom x) s) (append-assoc bs b (bytesOf cs)))
+stays-in-atom [] bs s o = ap (λ x. tokensFrom (inAtom x) s) (sym (append-nil bs))
+stays-in-atom (char b v ∷ cs) bs s o =
+    rw (o .0) (stays-in-atom cs (bs ++ b) s (o .1) ∙ ap (λ x. tokensFrom (inAtom x) s) (append-assoc bs b (bytesOf cs)))
 
 begins-atom : (c : Char) (cs : List Char) (s : Stream Char) → All Ordinary (c ∷ cs)
     → tokensFrom between (before (c ∷ cs) s) ≡ tokensFrom (inAtom (bytesOf (c ∷ cs))) s
 unfolding before tokensFrom move begins
-begins-atom (char b v) cs s o = rw (o .0) (in-atom cs b s (o .1))
+begins-atom (char b v) cs s o = rw (o .0) (stays-in-atom cs b s (o .1))
 
 word-lexed : {name tl : List ℕ} {ts : Stream Token} → Word name → Delimiting tl ts → Lexed (name ++ tl) (atom name ▹ ts)
 word-lexed {name} {tl} {ts} w d =
     record {
-      chars = (w .first ∷ w .others) ++ d .lexed .chars;
+      chars = (w .firstChar ∷ w .otherChars) ++ d .lexed .chars;
       decodes = decoded-append name tl (w .decodes) (d .lexed .decodes);
       lexes =
-          ap (tokensFrom between) (before-append (w .first ∷ w .others) (d .lexed .chars) end)
-          ∙ begins-atom (w .first) (w .others) (before (d .lexed .chars) end) (w .ordinarily)
+          ap (tokensFrom between) (before-append (w .firstChar ∷ w .otherChars) (d .lexed .chars) end)
+          ∙ begins-atom (w .firstChar) (w .otherChars) (before (d .lexed .chars) end) (w .ordinarily)
           ∙ ap (λ x. tokensFrom (inAtom x) (before (d .lexed .chars) end)) (w .bytes)
           ∙ d .ends name;
     }

@@ -1,7 +1,7 @@
 -- The cut of a text into items is faithful: what stands around a reader, written out as tokens, is the tokens that are still to be read.
 use mathlib.Core.Path.{_≡_, refl, sym, ap, _∙_}
 use Rattle.horn.specs.Tokens.{Stream, end, bad, _▹_, Token, opening, closing, atom}
-use Rattle.horn.specs.NestedLists.{Around, atEnd, atBadLine, _inside_, innermost, outer, add, around, items, written, writtenOut}
+use Rattle.horn.specs.NestedLists.{Around, atEnd, atBadLine, _inside_, innermost, outer, add, around, written, writtenOut}
 
 -- What stands around a reader is what is left of its own list, then what stands around that.
 pub in-front : (a : Around) → writtenOut a ≡ written (innermost a) (writtenOut (outer a))
@@ -22,8 +22,3 @@ cut (atom bytes ▹ ts) = ap (λ x. atom bytes ▹ x) (sym (in-front (around ts)
 cut (opening ▹ ts) =
     ap (λ x. opening ▹ x)
     (ap (written (innermost (around ts))) (sym (in-front (outer (around ts)))) ∙ sym (in-front (around ts)) ∙ cut ts)
-
--- The same of a whole text: its items, then what stands behind a closing that closes nothing.
-pub cut-whole : (ts : Stream Token) → written (items ts) (writtenOut (outer (around ts))) ≡ ts
-unfolding items
-cut-whole ts = sym (in-front (around ts)) ∙ cut ts

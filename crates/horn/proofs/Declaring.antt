@@ -32,10 +32,10 @@ pub data Declared (th : Theory) (n : Sexp) : Theory → Type 0 where
 -- A declaration: its head, the member that is its name, those behind, and what it has declared.
 pub record DeclaredBy (th : Theory) (x : Sexp) (next : Theory) : Type 0 where
   pub head : Sexp
-  pub name-member : Sexp
+  pub nameMember : Sexp
   pub behind : Sexps
-  pub shape : x ≡ list (head ∷ₛ name-member ∷ₛ behind)
-  pub declared : Declared th name-member next
+  pub shape : x ≡ list (head ∷ₛ nameMember ∷ₛ behind)
+  pub has-declared : Declared th nameMember next
 
 module _ (th : Theory) where
   sort-is : (n : Sexp) {next : Theory} → Rulebook.declareSort th n ≡ ok next → Declared th n next
@@ -75,7 +75,7 @@ module _ (th : Theory) where
       subst (Declared th n) (ok-equal e₉) (rule-declared xs j e₃ e₅ e₇ (not-true _ p))
 
   named-by : (h : Sexp) {n : Sexp} {xs : Sexps} (ys : Sexps) {next : Theory} → xs ≡ n ∷ₛ ys → Declared th n next → DeclaredBy th (list (h ∷ₛ xs)) next
-  named-by h {n} ys e d = record { head = h; name-member = n; behind = ys; shape = ap (λ zs. list (h ∷ₛ zs)) e; declared = d }
+  named-by h {n} ys e d = record { head = h; nameMember = n; behind = ys; shape = ap (λ zs. list (h ∷ₛ zs)) e; has-declared = d }
 
   declare-by : (h : Sexp) (k : DeclarationWord) (xs : Sexps) {next : Theory} → Rulebook.declare th k xs ≡ ok next → DeclaredBy th (list (h ∷ₛ xs)) next
   unfolding Rulebook.declare

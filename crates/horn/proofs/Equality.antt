@@ -140,8 +140,8 @@ pub sameTerm-decides : Decides sameTerm
 sameTerm-decides = record { equal = sameTerm-equal; same = sameTerm-same }
 
 -- A test that decides equality is false exactly where the two are not equal.
-pub apart : {A : Type 0} {test : A → A → Bool} → Decides test → (a b : A) → (a ≡ b → ⊥) → test a b ≡ false
-apart {test} d a b n = case (test a b) (λ p. absurd (n (d .equal a b p))) (λ p. p)
+pub decides-false : {A : Type 0} {test : A → A → Bool} → Decides test → (a b : A) → (a ≡ b → ⊥) → test a b ≡ false
+decides-false {test} d a b n = case (test a b) (λ p. absurd (n (d .equal a b p))) (λ p. p)
 
 pub differ : {A : Type 0} {test : A → A → Bool} → Decides test → (a b : A) → test a b ≡ false → a ≡ b → ⊥
 differ {test} d a b e p = true≢false (sym (d .same a) ∙ ap (test a) p ∙ e)

@@ -6,8 +6,8 @@ use mathlib.Core.List.{List, []}
 use Rattle.horn.specs.Names.{codes}
 use Rattle.horn.specs.Setting.{document01}
 use Rattle.horn.specs.Calls.{Report, report, rulebookReport, rulebookCall, releaseCall}
-use Rattle.horn.proofs.Run.{release, rulebook}
-use Rattle.horn.proofs.Bench.{R, G, C}
+use Rattle.horn.proofs.Run.{openAll}
+use Rattle.horn.proofs.Bench.{R, G, C, resultTwice}
 
 -- The call with three texts, on areas just long enough.
 abbrev pub released : List ℕ → List ℕ → List ℕ → Report
@@ -27,12 +27,12 @@ pub record Firings : Type 0 where
   -- `+0` for the first 0 in C
   pub plus : released R G (codes "(step +0 base ())\n(step 1 more (0))\n(result g 1)\n") ≡ report 0 2 1 4 49
   -- C with its result twice
-  pub twice : released R G (codes "(step 0 base ())\n(step 1 more (0))\n(result g 1)\n(result g 1)\n") ≡ report 12 0 0 0 0
+  pub twice : released R G resultTwice ≡ report 12 0 0 0 0
   -- G `(goal g (hold z))` with C `(step 0 base () (hold z))(result g 0)`
   pub stated : released R (codes "(goal g (hold z))") (codes "(step 0 base () (hold z))(result g 0)") ≡ report 0 1 1 2 37
 
 pub firings : Firings
-unfolding R G C release rulebook
+unfolding R G C resultTwice openAll
 firings =
     record {
       bench-rulebook = refl;

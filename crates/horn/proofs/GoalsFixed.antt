@@ -120,7 +120,7 @@ pub goals-fixed : (rulebook text : List ℕ) {th : Theory} {goals others : List 
     → goals ≡ others
 unfolding judgments
 goals-fixed rulebook text {goals} {others} e g h =
-    goals-told (theory-looks rulebook e) goals others (g .sorted) (h .sorted)
+    goals-told (theory-looks rulebook e) goals others (g .sorted-judgments) (h .sorted-judgments)
     (sym (top-back (map goalSexp goals)) ∙ ap topForms (sym (g .forms) ∙ h .forms) ∙ top-back (map goalSexp others))
 
 -- A goals text that is read without refusal has exactly the goals that reading gives.

@@ -90,7 +90,7 @@ module _ (limits : Setting) (th : Theory) where
   unfolding judgments
   read-has text e =
       let ws = goals-written ((text-read limits th text e) .1) in
-      subst (HasGoals th text) (sym (ws .all-added)) record { forms = ws .forms; sorted = ws .all-sorted }
+      subst (HasGoals th text) (sym (ws .all-added)) record { forms = ws .forms; sorted-judgments = ws .all-sorted }
 
   -- A goals text is read without refusal exactly if it is short enough and reading gives goals and a store.
   pub reading-gives : (text : List ℕ) → ReadWithoutRefusal limits th text

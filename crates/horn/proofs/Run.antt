@@ -1,6 +1,5 @@
--- The two calls with all that they compute by: an example is proved by `unfolding release` and `refl`.
+-- What the two calls compute by, to be unfolded: an example is proved by `unfolding openAll` and `refl`.
 use Prim.Native.Nat.{ℕ}
-use mathlib.Core.List.{List}
 use Rattle.horn.specs.Refusals
 use Rattle.horn.specs.Setting
 use Rattle.horn.specs.Utf8
@@ -14,9 +13,8 @@ use Rattle.horn.specs.Matching
 use Rattle.horn.specs.Certificate
 use Rattle.horn.specs.Calls
 use Rattle.horn.specs.Setting.{Setting, document01}
-use Rattle.horn.specs.Calls.{Report, RulebookReport, rulebookCall, releaseCall}
 
--- To unfold one of these is to unfold the definitions of the module that it is named after.
+-- To unfold one of these is to unfold those definitions of the module that it is named after by which the calls compute.
 unfoldable pub openRefusals : Unit {0}
 unfolding Refusals.number Refusals._>>=_ Refusals.need Refusals.found
 openRefusals = tt
@@ -93,23 +91,8 @@ storeOf nodes words =
       nodeWords = words;
     }
 
--- The call with three texts, on areas of given lengths (`releaseOn`) and on areas just long enough (`release`), for a store of given
--- limits.
-unfoldable pub releaseOn : ℕ → ℕ → ℕ → ℕ → ℕ → ℕ → List ℕ → List ℕ → List ℕ → Report
-unfolding storeOf openRefusals openSetting openUtf8 openTokens openNestedLists openNames openRulebook openStoredTerms openChecker
-    openMatching openCertificate openCalls
-releaseOn a b c d nodes words rulebook goals certificate = releaseCall (storeOf nodes words) a b c d rulebook goals certificate
-
-unfoldable pub release : ℕ → ℕ → List ℕ → List ℕ → List ℕ → Report
-unfolding releaseOn
-release = releaseOn 16_384 16_384 16_384 16_384
-
--- The same for the call with the rulebook alone.
-unfoldable pub rulebookOn : ℕ → ℕ → ℕ → ℕ → List ℕ → RulebookReport
-unfolding openRefusals openSetting openUtf8 openTokens openNestedLists openNames openRulebook openStoredTerms openChecker openMatching
+-- To unfold this is to unfold all that the two calls compute by, and `storeOf`.
+unfoldable pub openAll : Unit {0}
+unfolding storeOf openRefusals openSetting openUtf8 openTokens openNestedLists openNames openRulebook openStoredTerms openChecker openMatching
     openCertificate openCalls
-rulebookOn a b c d text = rulebookCall document01 a b c d text
-
-unfoldable pub rulebook : List ℕ → RulebookReport
-unfolding rulebookOn
-rulebook = rulebookOn 16_384 16_384 16_384 16_384
+openAll = tt

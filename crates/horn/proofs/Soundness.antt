@@ -13,13 +13,13 @@ use Rattle.horn.specs.Rulebook.{Theory, theory}
 use Rattle.horn.specs.StoredTerms.{Term}
 use Rattle.horn.specs.Checker.{Goal, goalJudgment}
 use Rattle.horn.specs.Calls.{releaseCall}
-use Rattle.horn.specs.Forced.{WellSorted, Derivable, Forced, ForcedAmongSorted, IsClosed}
+use Rattle.horn.specs.Forced.{WellSorted, Derivable, Forced, ForcedAmongSorted}
 use Rattle.horn.specs.Demand3.{Established, Sound}
 use Rattle.horn.proofs.Accepting.{gives-accepted, accepted-run}
-use Rattle.horn.proofs.SoundnessWords.{forced, forced-among-sorted, derivable-closed, derivable-well-sorted, derivable-of-forced}
+use Rattle.horn.proofs.SoundnessWords.{forced, forced-among-sorted, derivable-well-sorted, derivable-of-forced}
 use Rattle.horn.proofs.SoundnessRulebook.{theory-formed}
 use Rattle.horn.proofs.WasRead.{text-read}
-use Rattle.horn.proofs.SoundnessReading.{one-each-read}
+use Rattle.horn.proofs.SoundnessReading.{text-apart, apart-one-each}
 use Rattle.horn.proofs.SoundnessCertificate.{certificate-sound}
 use Rattle.horn.proofs.GoalsWritten.{read-has, given-reading}
 
@@ -34,16 +34,15 @@ pub soundness : (limits : Setting) (a b c d : ℕ) (rulebook text certificate : 
     → Established limits rulebook text Derivable
 soundness limits a b c d rulebook text certificate zero-number =
     let x = accepted-run limits a b c d rulebook text certificate zero-number in
-    let (some, read) = text-read limits (x .th) text (x .read) in
-    let one = one-each-read read (λ n g h m. elim m [ ]) in
+    let one = apart-one-each (x .goals) (text-apart limits (x .th) text (x .read)) in
     record {
       th = x .th;
       gives = x .gives;
       accepted = gives-accepted record { short = x .short; gives = x .gives };
-      read = given-reading limits (x .th) text (x .short-text) (x .read);
+      without-refusal = given-reading limits (x .th) text (x .short-text) (x .read);
       goals = x .goals;
       has = read-has limits (x .th) text (x .read);
-      some-goal = not-empty (x .goals) some;
+      some-goal = not-empty (x .goals) ((text-read limits (x .th) text (x .read)) .0);
       each = certificate-sound limits (x .th) (theory-formed rulebook (x .gives)) (x .goals) certificate (x .store) one (x .taken);
     }
 
@@ -62,7 +61,7 @@ established-by less x =
       th = x .th;
       gives = x .gives;
       accepted = x .accepted;
-      read = x .read;
+      without-refusal = x .without-refusal;
       goals = x .goals;
       has = x .has;
       some-goal = x .some-goal;
@@ -83,11 +82,9 @@ pub soundness-among-sorted {ℓ} : (limits : Setting) (a b c d : ℕ) (rulebook 
 soundness-among-sorted limits a b c d rulebook text certificate zero-number =
     established-by (λ th j f. forced-among-sorted f) (soundness-forced limits a b c d rulebook text certificate zero-number)
 
--- The judgments derivable from a rulebook's theory are themselves a closed set of well-sorted judgments, and what lies in every such set,
--- at any level, is derivable. So neither of these says less than the first theorem.
-pub derivable-is-closed : {th : Theory} → IsClosed th (Derivable th)
-derivable-is-closed = derivable-closed
-
+-- The judgments derivable from a rulebook's theory are themselves a closed set (`derivable-closed` in SoundnessWords) of well-sorted
+-- judgments, and what lies in every such set, at any level, is derivable. So neither `soundness-forced` nor `soundness-among-sorted` says
+-- less than `soundness`.
 pub derivable-is-sorted : (rulebook : List ℕ) {th : Theory} → theory rulebook ≡ ok th → (j : Term) → Derivable th j → WellSorted th j
 derivable-is-sorted rulebook e = derivable-well-sorted (theory-formed rulebook e)
 

@@ -16,7 +16,7 @@ use Rattle.horn.specs.Calls.{releaseCall}
 use Rattle.horn.specs.Written.{symbolName, constantOr, termSexp, judgmentSexp, goalSexp}
 use Rattle.horn.specs.Forced.{substitute, Instance, premises, conclusion, Derivable, Derivables, Forced, ForcedAmongSorted, Concluded, HasGoals}
 use Rattle.horn.proofs.Inversion.{ok-equal}
-use Rattle.horn.proofs.Run.{release}
+use Rattle.horn.proofs.Run.{openAll}
 use Rattle.horn.proofs.Bench.{R, G, C, hold, base, more, zeroTerm}
 use Rattle.horn.proofs.Bench.{benchTheory, benchJudgment, benchGoals, bench-gives, benchStore, bench-read, benchFinal}
 use Rattle.horn.proofs.GoalsFixed.{read-exactly}
@@ -25,7 +25,7 @@ use Rattle.horn.proofs.Soundness.{soundness, soundness-forced, soundnes
 use Rattle.horn.proofs.SoundnessOfSteps.{release-steps}
 
 bench-zero : (releaseCall document01 16_384 16_384 16_384 16_384 R G C) .number ≡ 0
-unfolding release R G C
+unfolding openAll R G C
 bench-zero = refl
 
 -- The text has this goal, and no other list of goals: its items are the form of the goal.
@@ -69,7 +69,7 @@ bench-among-sorted = said ForcedAmongSorted (soundness-among-sorted document01 1
 bench-taken :
     certificateOf document01 benchTheory benchGoals C benchStore
     ≡ ok (step (node hold (zeroTerm ∷ₜ []ₜ)) base ∷ step benchJudgment more ∷ [], benchFinal)
-unfolding release R G C
+unfolding openAll R G C
 bench-taken = refl
 
 of-run : (th : Theory) → benchTheory ≡ th → (goals : List Goal) (store : Store) → goalsOf document01 th G [] ≡ ok (goals, store)
@@ -93,7 +93,7 @@ bench-step =
     (x .run .goals) (x .run .store) (x .run .read) (x .run .steps) (x .run .final) (x .run .taken)
     (x .each)
 
--- Its only premise is `(hold z)`.
+-- The only premise of the instance that concludes the second step is `(hold z)`.
 of-more : (i : Instance) → i .byRule ≡ more → benchJudgment ≡ conclusion i → Derivables benchTheory (premises i)
     → Derivables benchTheory (node hold (zeroTerm ∷ₜ []ₜ) ∷ [])
 unfolding premises conclusion premisesOf conclusionOf substitute

@@ -114,7 +114,7 @@ module _ (limits : Setting) (th : Theory) (w : WellFormed th) (goals : List Goal
   sound-begun : OneEach goals → SoundProgress th goals (record { defs = []; openGoals = goals; steps = [] })
   sound-begun one = record { ground-defs = λ d m. elim m [ ]; sound-steps = λ t m. elim m [ ]; one-each = one; open-or-derived = λ x m. inl m }
 
-  -- A certificate that is not refused ends in such progress, without an open goal.
+  -- A certificate that is not refused ends in progress that is sound and has no open goal.
   sound-end : (text : List ℕ) (s : Store) {s′ : Store} {steps : List Step} → OneEach goals
       → Certificate.certificateOf limits th goals text s ≡ ok (steps, s′)
       → (final : Progress) × SoundProgress th goals final × (isZero (length (final .openGoals)) ≡ true) × (final .steps ≡ steps)
@@ -125,7 +125,7 @@ module _ (limits : Setting) (th : Theory) (w : WellFormed th) (goals : List Goal
       given-is e₃ λ same q.
       (final, sound-proceeds (sound-begun one) (proceeds-last limits th (items (tokens text)) _ s e₁), h, same)
 
-  -- So the judgment of each goal is derivable.
+  -- If a certificate is not refused, the judgment of each goal is derivable.
   pub certificate-sound : (text : List ℕ) (s : Store) {s′ : Store} {steps : List Step} → OneEach goals
       → Certificate.certificateOf limits th goals text s ≡ ok (steps, s′)
       → (g : Goal)
@@ -135,7 +135,7 @@ module _ (limits : Setting) (th : Theory) (w : WellFormed th) (goals : List Goal
       let (final, sp, none, same) = sound-end text s one e in
       ⊎-elim (λ o. none-open (final .openGoals) none o) (λ d. d) (sp .open-or-derived g m)
 
-  -- And an instance of its own rule concludes each step.
+  -- If a certificate is not refused, an instance of its own rule concludes each step, from derivable premises.
   pub steps-sound : (text : List ℕ) (s : Store) {s′ : Store} {steps : List Step} → OneEach goals
       → Certificate.certificateOf limits th goals text s ≡ ok (steps, s′)
       → SoundSteps th steps

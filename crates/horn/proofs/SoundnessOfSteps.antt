@@ -7,8 +7,7 @@ use Rattle.horn.specs.Matching.{Step, judgmentOf, ruleOf}
 use Rattle.horn.specs.Calls.{Report, releaseCall}
 use Rattle.horn.specs.Forced.{Concluded}
 use Rattle.horn.proofs.SoundnessRulebook.{theory-formed}
-use Rattle.horn.proofs.SoundnessReading.{one-each-read}
-use Rattle.horn.proofs.WasRead.{text-read}
+use Rattle.horn.proofs.SoundnessReading.{text-apart, apart-one-each}
 use Rattle.horn.proofs.SoundnessCertificate.{steps-sound}
 use Rattle.horn.proofs.Accepting.{AcceptedRun, accepted-run}
 
@@ -22,8 +21,7 @@ pub release-steps : (limits : Setting) (a b c d : ℕ) (rulebook text certificat
     → Stepwise limits rulebook text certificate (releaseCall limits a b c d rulebook text certificate)
 release-steps limits a b c d rulebook text certificate zero-number =
     let x = accepted-run limits a b c d rulebook text certificate zero-number in
-    let (some, read) = text-read limits (x .th) text (x .read) in
-    let one = one-each-read read (λ n g h m. elim m [ ]) in
+    let one = apart-one-each (x .goals) (text-apart limits (x .th) text (x .read)) in
     record {
       run = x;
       each = steps-sound limits (x .th) (theory-formed rulebook (x .gives)) (x .goals) certificate (x .store) one (x .taken);

@@ -13,7 +13,8 @@ use Rattle.horn.specs.NestedLists.{Sexp, leaf, list, Sexps, []ₛ, _∷�
 use Rattle.horn.specs.Rulebook
 use Rattle.horn.specs.Rulebook.{Symbol, symbol, Output, sameOutput, sort, judgment, Variable, variable, Pattern, var, app, Patterns, []ₚ, _∷ₚ_}
 use Rattle.horn.specs.Rulebook.{Theory}
-use Rattle.horn.proofs.Equality.{case, apart, differ, both, chosen, eqb-decides, named-decides, sameOutput-decides, first-some, first-none, in-or-last}
+use Rattle.horn.proofs.Equality.{case, decides-false, differ, both, chosen, eqb-decides, named-decides, sameOutput-decides}
+use Rattle.horn.proofs.Equality.{first-some, first-none, in-or-last}
 use Rattle.horn.proofs.Inversion.{not-ok, none-some, ok-equal, afterᵣ, after-needᵣ, was-found, chosen-option}
 use Rattle.horn.proofs.SoundnessWords.{Sorted, a-variable, a-term, AllSorted, no-pattern, pattern-then, SortedJudgment}
 use Rattle.horn.proofs.SoundnessWords.{a-judgment, sorted-in-more, judgment-in-more, Throughout}
@@ -87,7 +88,7 @@ apart-more name s (name-apart {name = m} {s = t} {vs} f a) e =
     (λ p. none-some {a = variable m t} (sym e ∙ rw (p, first)))
     (λ p.
     name-apart
-    (none-behind m name s vs f (apart named-decides m name (λ q. differ named-decides name m p (sym q))))
+    (none-behind m name s vs f (decides-false named-decides m name (λ q. differ named-decides name m p (sym q))))
     (apart-more name s a (rw (p, first) at e)))
 
 extends-new : (name s : Name) (vs : List Variable) → first (Rulebook.isVariable name) vs ≡ none
@@ -121,11 +122,11 @@ pub record AllReadAs (symbols : List Symbol) (vs : List Variable) (ss : List Nam
   pub extends : Extends (λ P. ThroughoutAll P (q .0)) vs (q .1)
   pub sorted : AllSorted symbols (q .1) ss (q .0)
 
-pub record JudgmentRead (symbols : List Symbol) (vs : List Variable) (q : Pattern × List Variable) : Type 1 where
+pub record JudgmentReadAs (symbols : List Symbol) (vs : List Variable) (q : Pattern × List Variable) : Type 1 where
   pub extends : Extends (λ P. Throughout P (q .0)) vs (q .1)
   pub sorted : SortedJudgment symbols (q .1) (q .0)
 
-pub record JudgmentsRead (symbols : List Symbol) (vs : List Variable) (q : List Pattern × List Variable) : Type 1 where
+pub record JudgmentsReadAs (symbols : List Symbol) (vs : List Variable) (q : List Pattern × List Variable) : Type 1 where
   pub extends : Extends (λ P. (p : Pattern) → List·Memᴰ p (q .0) → Throughout P p) vs (q .1)
   pub sorted : (p : Pattern) → List·Memᴰ p (q .0) → SortedJudgment symbols (q .1) p
 
@@ -159,25 +160,25 @@ read-variable-pattern symbols name s vs e =
     subst (ReadAs symbols vs s) (ok-equal e₃) (known-variable symbols name s n t vs (f ∙ ap some is) h))
 
 -- A constructor, or a predicate, with arguments that were read.
-read-term : {symbols : List Symbol} {vs : List Variable} (name s : Name) (n : ℕ) (c : Symbol) {q : Patterns × List Variable}
+read-pattern-over : {symbols : List Symbol} {vs : List Variable} (name s : Name) (n : ℕ) (c : Symbol) {q : Patterns × List Variable}
     → List·Memᴰ c symbols × (Rulebook.isConstructor name c ≡ true)
     → Rulebook.fits c (sort s) n ≡ true
     → AllReadAs symbols vs (Rulebook.inputs c) q
     → ReadAs symbols vs s (app c (q .0), q .1)
 unfolding Rulebook.isConstructor Rulebook.fits Rulebook.inputs
-read-term {symbols} name s n (symbol m ins (sort t)) {q} (declared, is) f a =
+read-pattern-over {symbols} name s n (symbol m ins (sort t)) {q} (declared, is) f a =
     let same = sameOutput-decides .equal (sort t) (sort s) ((both _ _ f) .0) in
     let same-sort : t ≡ s = cc in
     record {
       extends = extends-by (a .extends) (λ P u. in-term-of u);
       sorted = subst (λ z. Sorted symbols (q .1) z (app (symbol m ins (sort t)) (q .0))) same-sort (a-term declared (a .sorted));
     }
-read-term name s n (symbol m ins judgment) (declared, is) f a = absurd (true≢false (sym is))
+read-pattern-over name s n (symbol m ins judgment) (declared, is) f a = absurd (true≢false (sym is))
 
 read-judgment-over : {symbols : List Symbol} {vs : List Variable} (name : Name) (c : Symbol) {q : Patterns × List Variable}
     → List·Memᴰ c symbols × (Rulebook.isPredicate name c ≡ true)
     → AllReadAs symbols vs (Rulebook.inputs c) q
-    → JudgmentRead symbols vs (app c (q .0), q .1)
+    → JudgmentReadAs symbols vs (app c (q .0), q .1)
 unfolding Rulebook.isPredicate Rulebook.inputs
 read-judgment-over name (symbol m ins (sort t)) (declared, is) a = absurd (true≢false (sym is))
 read-judgment-over name (symbol m ins judgment) (declared, is) a =
@@ -202,16 +203,16 @@ read-next-pattern x y =
       sorted = pattern-then (sorted-in-more (λ c m. m) (y .extends .grow) (x .sorted)) (y .sorted);
     }
 
-read-no-judgment : {symbols : List Symbol} (vs : List Variable) → JudgmentsRead symbols vs ([], vs)
+read-no-judgment : {symbols : List Symbol} (vs : List Variable) → JudgmentsReadAs symbols vs ([], vs)
 read-no-judgment {symbols} vs = record { extends = extends-none vs; sorted = none-sorted }
   where
     none-sorted : (p : Pattern) → List·Memᴰ p [] → SortedJudgment symbols vs p
     none-sorted p m = elim m [ ]
 
 read-next-judgment : {symbols : List Symbol} {vs : List Variable} {q : Pattern × List Variable} {r : List Pattern × List Variable}
-    → JudgmentRead symbols vs q
-    → JudgmentsRead symbols (q .1) r
-    → JudgmentsRead symbols vs (q .0 ∷ r .0, r .1)
+    → JudgmentReadAs symbols vs q
+    → JudgmentsReadAs symbols (q .1) r
+    → JudgmentsReadAs symbols vs (q .0 ∷ r .0, r .1)
 read-next-judgment {symbols} {q} {r} x y =
     record {
       extends =
@@ -233,7 +234,7 @@ module _ (th : Theory) where
       afterᵣ _ e λ c e₁ e₂.
       after-needᵣ _ _ _ e₂ λ f e₃.
       subst (ReadAs (th .symbols) vs s) (ok-equal e₃)
-      (read-term name s zero c (constructor-declared th name e₁) f (read-no-arguments c (sort s) f))
+      (read-pattern-over name s zero c (constructor-declared th name e₁) f (read-no-arguments c (sort s) f))
 
   mutual
     unfolding Rulebook.pattern
@@ -254,7 +255,7 @@ module _ (th : Theory) where
         after-needᵣ _ _ _ e₅ λ f e₆.
         afterᵣ _ e₆ λ q e₇ e₈.
         subst (ReadAs (th .symbols) vs s) (ok-equal e₈)
-        (read-term name s (Rulebook.count xs) c (constructor-declared th name e₄) f (read-patterns xs (Rulebook.inputs c) vs e₇))
+        (read-pattern-over name s (Rulebook.count xs) c (constructor-declared th name e₄) f (read-patterns xs (Rulebook.inputs c) vs e₇))
 
     read-patterns : (xs : Sexps) (ss : List Name) (vs : List Variable) {q : Patterns × List Variable} → Rulebook.patterns th xs ss vs ≡ ok q
         → AllReadAs (th .symbols) vs ss q
@@ -267,7 +268,7 @@ module _ (th : Theory) where
         subst (AllReadAs (th .symbols) vs (s ∷ ss)) (ok-equal e₄) (read-next-pattern (read-pattern x s vs e₁) (read-patterns xs ss (q .1) e₃))
 
   read-judgment-members : (xs : Sexps) (vs : List Variable) {q : Pattern × List Variable} → Rulebook.judgmentMembers th xs vs ≡ ok q
-      → JudgmentRead (th .symbols) vs q
+      → JudgmentReadAs (th .symbols) vs q
   unfolding Rulebook.judgmentMembers
   read-judgment-members []ₛ vs e = not-ok e
   read-judgment-members (x ∷ₛ xs) vs e =
@@ -275,21 +276,21 @@ module _ (th : Theory) where
       afterᵣ _ e₂ λ c e₃ e₄.
       after-needᵣ _ _ _ e₄ λ f e₅.
       afterᵣ _ e₅ λ q e₆ e₇.
-      subst (JudgmentRead (th .symbols) vs) (ok-equal e₇)
+      subst (JudgmentReadAs (th .symbols) vs) (ok-equal e₇)
       (read-judgment-over name c (predicate-declared th name e₃) (read-patterns xs (Rulebook.inputs c) vs e₆))
 
   pub read-judgment-pattern : (x : Sexp) (vs : List Variable) {q : Pattern × List Variable} → Rulebook.judgmentPattern th x vs ≡ ok q
-      → JudgmentRead (th .symbols) vs q
+      → JudgmentReadAs (th .symbols) vs q
   unfolding Rulebook.judgmentPattern
   read-judgment-pattern x vs e = afterᵣ _ e λ xs e₁ e₂. read-judgment-members xs vs e₂
 
   pub read-judgment-patterns : (xs : Sexps) (vs : List Variable) {q : List Pattern × List Variable} → Rulebook.judgmentPatterns th xs vs ≡ ok q
-      → JudgmentsRead (th .symbols) vs q
+      → JudgmentsReadAs (th .symbols) vs q
   unfolding Rulebook.judgmentPatterns
   read-judgment-patterns []ₛ vs e =
-      subst (JudgmentsRead (th .symbols) vs) (ok-equal e) (read-no-judgment vs)
+      subst (JudgmentsReadAs (th .symbols) vs) (ok-equal e) (read-no-judgment vs)
   read-judgment-patterns (x ∷ₛ xs) vs e =
       afterᵣ _ e λ q e₁ e₂.
       afterᵣ _ e₂ λ r e₃ e₄.
-      subst (JudgmentsRead (th .symbols) vs) (ok-equal e₄)
+      subst (JudgmentsReadAs (th .symbols) vs) (ok-equal e₄)
       (read-next-judgment (read-judgment-pattern x vs e₁) (read-judgment-patterns xs (q .1) e₃))

@@ -1,18 +1,20 @@
 -- Every term that is read is a ground term of some sort, every judgment that is read is well-sorted, and no two goals
 -- that are read share a name.
-use mathlib.Core.Path.{_≡_, sym, subst, _∙_}
+use Prim.Native.Nat.{ℕ}
+use mathlib.Core.Path.{_≡_, refl, sym, subst, _∙_}
 use mathlib.Core.Bool.{true, false, true≢false}
-use mathlib.Core.List.{List, [], _∷_, _++_, List·Memᴰ}
+use mathlib.Core.List.{List, [], _∷_, _++_, List·Memᴰ, List·Memᴰ·head, List·Memᴰ·tail}
+use Rattle.horn.specs.Refusals.{ok}
 use Rattle.horn.specs.Setting.{Setting}
-use Rattle.horn.specs.Names.{Name, someOf}
+use Rattle.horn.specs.Names.{Name}
 use Rattle.horn.specs.NestedLists.{Item, Items}
 use Rattle.horn.specs.Rulebook.{Symbol, symbol, sort, judgment, inputs, output, Theory, isConstructor, isPredicate}
 use Rattle.horn.specs.StoredTerms.{Term, node, Terms, []ₜ, _∷ₜ_, Store}
-use Rattle.horn.specs.Checker.{Def, isDef, meaning, Goal, goal, isGoal, hasSort, accepts}
+use Rattle.horn.specs.Checker.{Def, isDef, meaning, Goal, goal, isGoal, goalsOf, hasSort, accepts}
 use Rattle.horn.specs.Forced.{Ground, ground, Grounds, no-ground, ground-then, WellSorted, well-sorted}
 use Rattle.horn.proofs.Equality.{both, named-decides, sameOutput-decides, first-some, some-of-false, in-or-last}
 use Rattle.horn.proofs.WasRead.{ReadTerm, read-abbreviation, read-constant, read-compound, ReadTerms, read-none, read-next, ReadJudgment}
-use Rattle.horn.proofs.WasRead.{read-judgment, read-goal, ReadGoals, no-goal-read, next-goal-read}
+use Rattle.horn.proofs.WasRead.{read-judgment, read-goal, ReadGoals, no-goal-read, next-goal-read, text-read}
 use Rattle.horn.proofs.SoundnessPatterns.{constructor-declared, predicate-declared}
 
 -- A ground term of some sort, and terms each of which is one.
@@ -32,8 +34,8 @@ of-sort {th} s (ground {name = n} {s = r} {ins = ins} {ts = ts} m gs) e =
     let same-sort : r ≡ s = cc in
     subst (λ z. Ground th z (node (symbol n ins (sort r)) ts)) same-sort (ground m gs)
 
-pub has-sort : {th : Theory} {t : Term} (s : Name) → SomeSort th t → hasSort s t ≡ true → Ground th s t
-has-sort s g e = of-sort s (g .is) e
+pub hasSort-ground : {th : Theory} {t : Term} (s : Name) → SomeSort th t → hasSort s t ≡ true → Ground th s t
+hasSort-ground s g e = of-sort s (g .is) e
 
 accepted-grounds : {th : Theory} (ins : List Name) {ts : Terms} → AllSomeSort th ts → accepts ins ts ≡ true → Grounds th ins ts
 unfolding accepts
@@ -42,7 +44,7 @@ accepted-grounds [] (term-then g gs) e = absurd (true≢false (sym e))
 accepted-grounds (s ∷ ss) no-term e = absurd (true≢false (sym e))
 accepted-grounds (s ∷ ss) (term-then {t = t} {ts = ts} g gs) e =
     let (h, r) = both (hasSort s t) (accepts ss ts) e in
-    ground-then (has-sort s g h) (accepted-grounds ss gs r)
+    ground-then (hasSort-ground s g h) (accepted-grounds ss gs r)
 
 -- A constructor with accepted arguments is a ground term, a predicate with them a well-sorted judgment.
 term-over : {th : Theory} {ts : Terms} (name : Name) (c : Symbol) → List·Memᴰ c (th .symbols) × (isConstructor name c ≡ true)
@@ -79,30 +81,44 @@ module _ {limits : Setting} {th : Theory} {defs : List Def} (ground-defs : Groun
   pub judgment-sorted : {name : Name} {is : Items} {s s′ : Store} {t : Term} → ReadJudgment limits th defs name is s t s′ → WellSorted th t
   judgment-sorted {name} (read-judgment {c = c} e ts a i) = judgment-over name c (predicate-declared th name e) a (terms-sorted ts)
 
--- Two goals of one name are one goal.
+-- No goal has the name of a later one.
+abbrev Other : Goal → Goal → Type 0
+Other g h = (name : Name) → isGoal name g ≡ true → isGoal name h ≡ true → ⊥
+
+abbrev pub GoalsApart : List Goal → Type 0
+GoalsApart [] = Unit
+GoalsApart (g ∷ gs) = ((h : Goal) → List·Memᴰ h gs → Other g h) × GoalsApart gs
+
+other-last : (g : Goal) (n : Name) (j : Term) → isGoal n g ≡ false → Other g (goal n j)
+unfolding isGoal
+other-last g n j new name p q = true≢false (sym (subst (λ z. isGoal z g ≡ true) (named-decides .equal name n q) p) ∙ new)
+
+goals-apart-more : (gs : List Goal) (n : Name) (j : Term) → ((g : Goal) → List·Memᴰ g gs → isGoal n g ≡ false) → GoalsApart gs
+    → GoalsApart (gs ++ (goal n j ∷ []))
+goals-apart-more [] n j new a = (λ h m. elim m [ ], tt)
+goals-apart-more (g ∷ gs) n j new a = (
+  λ h m. in-or-last gs m (a .0 h) (λ last. subst (Other g) (sym last) (other-last g n j (new g (List·Memᴰ·head refl)))),
+  goals-apart-more gs n j (λ h m. new h (List·Memᴰ·tail m)) (a .1),
+)
+
+goals-apart-read : {limits : Setting} {th : Theory} {goals more : List Goal} {is : Items} {s s′ : Store} → ReadGoals limits th goals is s more s′
+    → GoalsApart goals
+    → GoalsApart more
+goals-apart-read no-goal-read a = a
+goals-apart-read {goals} (next-goal-read (read-goal {name = n} {j = j} new r) rs) a =
+    goals-apart-read rs (goals-apart-more goals n j (some-of-false (isGoal n) goals new) a)
+
+-- No goal of a text that was read has the name of a later one.
+pub text-apart : (limits : Setting) (th : Theory) (text : List ℕ) {store : Store} {goals : List Goal} → goalsOf limits th text [] ≡ ok (goals, store)
+    → GoalsApart goals
+text-apart limits th text e = goals-apart-read ((text-read limits th text e) .1) tt
+
+-- Where no goal has the name of a later one, two goals of one name are one goal.
 abbrev pub OneEach : List Goal → Type 0
 OneEach goals = (name : Name) (g h : Goal) → List·Memᴰ g goals → List·Memᴰ h goals → isGoal name g ≡ true → isGoal name h ≡ true → g ≡ h
 
-goal-named : (name n : Name) (j : Term) → isGoal name (goal n j) ≡ true → name ≡ n
-unfolding isGoal
-goal-named name n j e = named-decides .equal name n e
-
-one-each-more : (goals : List Goal) (n : Name) (j : Term) → someOf (isGoal n) goals ≡ false → OneEach goals
-    → OneEach (goals ++ (goal n j ∷ []))
-one-each-more goals n j new one name g h m m′ e e′ =
-    in-or-last goals m
-    (λ k. in-or-last goals m′ (λ k′. one name g h k k′ e e′) (λ last. absurd (other g k e (subst (λ z. isGoal name z ≡ true) last e′))))
-    (λ last. in-or-last goals m′
-    (λ k′. absurd (other h k′ e′ (subst (λ z. isGoal name z ≡ true) last e)))
-    (λ last′. last ∙ sym last′))
-  where
-    other : (x : Goal) → List·Memᴰ x goals → isGoal name x ≡ true → isGoal name (goal n j) ≡ true → ⊥
-    other x k p q =
-        true≢false (sym (subst (λ z. isGoal z x ≡ true) (goal-named name n j q) p) ∙ some-of-false (isGoal n) goals new x k)
-
--- No two goals that were read share a name.
-pub one-each-read : {limits : Setting} {th : Theory} {goals more : List Goal} {is : Items} {s s′ : Store} → ReadGoals limits th goals is s more s′
-    → OneEach goals
-    → OneEach more
-one-each-read no-goal-read one = one
-one-each-read {goals} (next-goal-read (read-goal {name = n} {j = j} new r) rs) one = one-each-read rs (one-each-more goals n j new one)
+pub apart-one-each : (goals : List Goal) → GoalsApart goals → OneEach goals
+apart-one-each (x ∷ gs) a name g h (List·Memᴰ·head e) (List·Memᴰ·head f) p q = e ∙ sym f
+apart-one-each (x ∷ gs) a name g h (List·Memᴰ·head e) (List·Memᴰ·tail n) p q = absurd (a .0 h n name (subst (λ z. isGoal name z ≡ true) e p) q)
+apart-one-each (x ∷ gs) a name g h (List·Memᴰ·tail m) (List·Memᴰ·head f) p q = absurd (a .0 g m name (subst (λ z. isGoal name z ≡ true) f q) p)
+apart-one-each (x ∷ gs) a name g h (List·Memᴰ·tail m) (List·Memᴰ·tail n) p q = apart-one-each gs (a .1) name g h m n p q

@@ -11,7 +11,7 @@ use Rattle.horn.proofs.Equality.{in-or-last}
 use Rattle.horn.proofs.Inversion.{afterᵣ}
 use Rattle.horn.proofs.Declaring.{Declared, sort-declared, symbol-declared, rule-declared, declaration-by, declares-last}
 use Rattle.horn.proofs.SoundnessWords.{judgment-in-more, no-names, RuleFormed, WellFormed}
-use Rattle.horn.proofs.SoundnessPatterns.{JudgmentRead, JudgmentsRead, read-judgment-pattern}
+use Rattle.horn.proofs.SoundnessPatterns.{JudgmentReadAs, JudgmentsReadAs, read-judgment-pattern}
 use Rattle.horn.proofs.SoundnessPatterns.{read-judgment-patterns}
 
 -- Rules stay well-formed where symbols are added.
@@ -29,8 +29,8 @@ formed-in-more f w =
 
 -- Premises and then a conclusion, read with no variable known before them, make a well-formed rule.
 rule-formed : {symbols : List Symbol} (name : Name) {q : List Pattern × List Variable} {r : Pattern × List Variable}
-    → JudgmentsRead symbols [] q
-    → JudgmentRead symbols (q .1) r
+    → JudgmentsReadAs symbols [] q
+    → JudgmentReadAs symbols (q .1) r
     → RuleFormed symbols (rule name (r .1) (q .0) (r .0))
 unfolding premisesOf conclusionOf variablesOf
 rule-formed name x y =
@@ -56,7 +56,7 @@ declared-formed {th} w (rule-declared {name = name} xs j {q = q} e₁ e₂ e f) 
 
 declares-formed : {th later : Theory} {xs : Sexps} → WellFormed th → Declares th xs later → WellFormed later
 declares-formed w declares-none = w
-declares-formed w (declares-next {th} {x = x} e d) = declares-formed (declared-formed w ((declaration-by th x e) .declared)) d
+declares-formed w (declares-next {th} {x = x} e d) = declares-formed (declared-formed w ((declaration-by th x e) .has-declared)) d
 
 pub theory-formed : (text : List ℕ) {th : Theory} → theory text ≡ ok th → WellFormed th
 unfolding theory emptyTheory

@@ -23,7 +23,7 @@ use Rattle.horn.proofs.SoundnessWords.{SortedJudgment, Throughout, OneS
 use Rattle.horn.proofs.SoundnessMatching.{Bound, KeepsBinds, Agrees, GroundBinds, ground-binds-more, bound-in-more, Matched, matched}
 use Rattle.horn.proofs.SoundnessMatching.{match-judgment-ground, built}
 use Rattle.horn.proofs.Inversion.{lift-absent, lift-refused}
-use Rattle.horn.proofs.SoundnessReading.{SomeSort, has-sort, GroundDefs, term-sorted, judgment-sorted}
+use Rattle.horn.proofs.SoundnessReading.{SomeSort, hasSort-ground, GroundDefs, term-sorted, judgment-sorted}
 use Rattle.horn.proofs.WasRead.{asked-term-read, judgment-read}
 
 pub concluded-derivable : {th : Theory} {j : Term} {r : Rule} → Concluded th j r → Derivable th j
@@ -153,7 +153,7 @@ module _ (limits : Setting) (th : Theory) (w : WellFormed th) where
       → GroundBinds th vs (binds ++ (bind name t ∷ []))
   unfolding isVariable sortOf
   binding-ground {vs} binds name (variable n s) one (m, is) g h b =
-      ground-binds-more binds one (subst (λ z. List·Memᴰ (variable z s) vs) (sym (named-decides .equal name n is)) m) (has-sort s g h) b
+      ground-binds-more binds one (subst (λ z. List·Memᴰ (variable z s) vs) (sym (named-decides .equal name n is)) m) (hasSort-ground s g h) b
 
   module _ (defs : List Def) (ground-defs : GroundDefs th defs) (r : Rule) (one : OneSort (variablesOf r)) where
     binding-given : (name : Name) (is : Items) (g : Given) → SoundGiven th (variablesOf r) g → (s : Store) {s′ : Store} {more : Given}

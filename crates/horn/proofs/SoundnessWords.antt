@@ -150,7 +150,7 @@ lowered th (j ∷ js) ds = (ds .0 .lower, lowered th js (ds .1))
 
 derivable-closed-at {ℓ} : (th : Theory) → IsClosed th (λ j. Lift {0, ℓ} (Derivable th j))
 derivable-closed-at th =
-    record { has-conclusion = λ i is ds. record { lower = derive i is (derivables (premises i) (lowered th (premises i) ds)) refl } }
+    record { has-conclusion = λ i is ds. record { lower = derivable-closed .has-conclusion i is (lowered th (premises i) ds) } }
 
 pub derivable-of-forced {ℓ} : {th : Theory} {j : Term} → WellFormed th → ForcedAmongSorted {ℓ} th j → Derivable th j
 derivable-of-forced {th} w f =

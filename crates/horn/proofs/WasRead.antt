@@ -50,12 +50,12 @@ is-asked-group depth is e =
     afterᵣ _ e₂ λ inner e₃ e₄.
     is-asked depth is e₁ ∙ ap (λ x. x then p .1) (is-group (p .0) e₃) ∙ ap (λ q. group (q .0) then q .1) (ok-equal e₄)
 
-pub is-closed : (is : Items) {u : Unit {0}} → closingDue is ≡ ok u → is ≡ closed
+pub is-at-closing : (is : Items) {u : Unit {0}} → closingDue is ≡ ok u → is ≡ closed
 unfolding closingDue
-is-closed closed e = refl
-is-closed ended e = not-ok e
-is-closed badLine e = not-ok e
-is-closed (item then rest) e = not-ok e
+is-at-closing closed e = refl
+is-at-closing ended e = not-ok e
+is-at-closing badLine e = not-ok e
+is-at-closing (item then rest) e = not-ok e
 
 -- A term that was stored, and one that was made.
 pub after-stored {ℓ} : {C : Type ℓ} (limits : Setting) (t : Term) (s : Store) {s′ : Store} {u : Term} → stored limits t s ≡ ok (u, s′)
@@ -216,7 +216,7 @@ module _ (limits : Setting) (th : Theory) where
             (is-asked-word 1 inner e₃
             ∙ ap₂ (λ x is. word x then is) (named-decides .equal (p .0) (codes "goal") h)
             (is-asked-word 1 (p .1) e₆
-            ∙ ap (λ is. word (p₁ .0) then is) (at ∙ ap (λ is. group (word head then rest) then is) (is-closed (p₂ .1) f₁))))))
+            ∙ ap (λ is. word (p₁ .0) then is) (at ∙ ap (λ is. group (word head then rest) then is) (is-at-closing (p₂ .1) f₁))))))
             (read-goal (not-true _ new) r)),
       )
 

@@ -1,9 +1,10 @@
 -- The theorems on the cut into items, on acceptance and on what arises in a run, at the bench set, with their conclusions computed.
 -- SoundnessBench has those on goals and steps.
-use Prim.Native.Nat.{ℕ, _<_, _^_}
+use Prim.Native.Nat.{_<_, _^_}
 use mathlib.Core.Path.{_≡_, refl, sym, ap, subst, _∙_}
-use mathlib.Core.List.{List, [], _∷_}
+use mathlib.Core.List.{[], _∷_}
 use native.Mathlib.Omega.{arith}
+use lib.ListN.{length}
 use Rattle.horn.specs.Setting.{document01}
 use Rattle.horn.specs.Names.{codes}
 use Rattle.horn.specs.Tokens.{end, bad, _▹_, opening, closing, atom, tokens}
@@ -15,8 +16,8 @@ use Rattle.horn.specs.Certificate.{Progress, begun}
 use Rattle.horn.specs.Calls.{rulebookCall}
 use Rattle.horn.specs.Arising.{TheoryArises, declares-none, declares-next, Proceeds, proceeds-none, proceeds-next, StoreArises, ProgressArises}
 use Rattle.horn.specs.Forced.{Accepted}
-use Rattle.horn.proofs.Run.{release}
-use Rattle.horn.proofs.Bench.{R, G, z, hold, base, more, zeroTerm}
+use Rattle.horn.proofs.Run.{openAll}
+use Rattle.horn.proofs.Bench.{R, G, resultTwice, z, hold, base, more, zeroTerm}
 use Rattle.horn.proofs.Bench.{benchTheory, benchJudgment, benchGoals, bench-gives, benchStore, bench-read, benchFinal}
 use Rattle.horn.proofs.Firings.{firings}
 use Rattle.horn.proofs.Inversion.{ok-equal}
@@ -30,23 +31,23 @@ pub bench-cut :
     writtenOut (around (tokens G))
     ≡ opening ▹ atom (codes "goal") ▹ atom (codes "g") ▹ opening ▹ atom (codes "hold") ▹ opening ▹ atom (codes "s") ▹ atom (codes "z")
     ▹ closing ▹ closing ▹ closing ▹ end
-unfolding release G
+unfolding openAll G
 bench-cut = cut (tokens G)
 
--- So is the cut of a text whose lists a bad line breaks off: `(a(` and, on the next line, FF.
+-- The cut of a text whose lists a bad line breaks off, written out, is its tokens up to that line: `(a(` and, on the next line, FF.
 pub broken-cut : writtenOut (around (tokens (0x28 ∷ 0x61 ∷ 0x28 ∷ 0x0A ∷ 0xFF ∷ []))) ≡ opening ▹ atom (codes "a") ▹ opening ▹ bad
-unfolding release
+unfolding openAll
 broken-cut = cut (tokens (0x28 ∷ 0x61 ∷ 0x28 ∷ 0x0A ∷ 0xFF ∷ []))
 
 -- R is accepted, so that its number is 0 on longer areas too. Its theory follows from that, and from one answer 0.
 pub bench-accepted : Accepted document01 R
-unfolding release R
+unfolding openAll R
 bench-accepted = gives-accepted record { short = omega arith; gives = bench-gives }
 
 pub bench-answer : (rulebookCall document01 16_384 20_000 16_384 65_536 R) .number ≡ 0
-unfolding release
+unfolding openAll
 bench-answer =
-    bench-accepted .answer 16_384 20_000 16_384 65_536
+    bench-accepted .answers-zero 16_384 20_000 16_384 65_536
     record { first-area = omega arith; second-area = omega arith; third-area = omega arith; fourth-area = omega arith }
 
 pub bench-accepted-theory : (accepted-gives bench-accepted) .0 ≡ benchTheory
@@ -61,16 +62,13 @@ abbrev begunTheory : Theory
 begunTheory = record { sorts = codes "t" ∷ []; symbols = z ∷ []; rules = [] }
 
 pub bench-symbols-arise : TheoryArises document01 R begunTheory
-unfolding release R
-bench-symbols-arise = record { short = omega arith; forms = _; read = refl; declared = declares-next refl (declares-next refl declares-none) }
+unfolding openAll R
+bench-symbols-arise = record { short = omega arith; rulebookForms = _; read-whole = refl; declares = declares-next refl (declares-next refl declares-none) }
 
-pub bench-symbols : 1 < 2 ^ 16
+pub bench-symbols : length (begunTheory .symbols) < 2 ^ 16
 bench-symbols = sixteen-bits-symbols bench-symbols-arise
 
 -- C with its result twice is refused 12. Before that, after three forms, there are two steps and four terms.
-unfoldable pub resultTwice : List ℕ
-resultTwice = codes "(step 0 base ())\n(step 1 more (0))\n(result g 1)\n(result g 1)\n"
-
 abbrev resultItem : Item
 resultItem = group (word (codes "result") then word (codes "g") then word (codes "1") then closed)
 
@@ -83,7 +81,7 @@ twiceItems =
     then ended
 
 twice-forms : items (tokens resultTwice) ≡ twiceItems
-unfolding release resultTwice
+unfolding openAll resultTwice
 twice-forms = refl
 
 abbrev firstStep : Step
@@ -93,14 +91,14 @@ abbrev threeForms : Progress
 threeForms = progress [] (firstStep ∷ step benchJudgment more ∷ [])
 
 twice-proceeds : Proceeds document01 benchTheory (begun benchGoals) twiceItems benchStore threeForms benchFinal
-unfolding release
+unfolding openAll
 twice-proceeds =
     proceeds-next {next = progress benchGoals (firstStep ∷ [])} {t = benchFinal} refl
     (proceeds-next {next = progress benchGoals (firstStep ∷ step benchJudgment more ∷ [])} {t = benchFinal} refl
     (proceeds-next {next = threeForms} {t = benchFinal} refl proceeds-none))
 
 pub twice-arises : ProgressArises document01 R G resultTwice threeForms
-unfolding release resultTwice
+unfolding openAll resultTwice
 twice-arises =
     record {
       short = omega arith;
@@ -113,12 +111,12 @@ twice-arises =
       proceeds = subst (λ is. Proceeds document01 benchTheory (begun benchGoals) is benchStore threeForms benchFinal) (sym twice-forms) twice-proceeds;
     }
 
-pub twice-steps : 2 < 2 ^ 16
+pub twice-steps : length (threeForms .steps) < 2 ^ 16
 twice-steps = sixteen-bits-steps twice-arises
 
 pub twice-store-arises : StoreArises document01 R G resultTwice benchFinal
 unfolding twice-arises
 twice-store-arises = between-forms document01 twice-arises
 
-pub twice-terms : 4 < 2 ^ 16
+pub twice-terms : length benchFinal < 2 ^ 16
 twice-terms = sixteen-bits-terms twice-store-arises

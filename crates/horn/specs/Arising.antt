@@ -21,12 +21,12 @@ pub data Declares : Theory → Sexps → Theory → Type 0 where
   declares-next : {th next later : Theory} {x : Sexp} {xs : Sexps} → declaration th x ≡ ok next → Declares next xs later
       → Declares th (x ∷ₛ xs) later
 
--- A theory that arises in judging a rulebook, in either call. A longer rulebook is refused before any arises.
+-- A theory that arises in judging a rulebook, in either call. A rulebook longer than the limits allow is refused before any arises.
 pub record TheoryArises (limits : Setting) (rulebook : List ℕ) (th : Theory) : Type 0 where
   pub short : length rulebook ≤ limits .rulebookBytes
-  pub forms : Sexps
-  pub read : sexps (items (tokens rulebook)) ≡ ok forms
-  pub declared : Declares emptyTheory forms th
+  pub rulebookForms : Sexps
+  pub read-whole : sexps (items (tokens rulebook)) ≡ ok rulebookForms
+  pub declares : Declares emptyTheory rulebookForms th
 
 module _ (limits : Setting) where
   -- How a reading is put together: a value, a result that does not touch the store, a term that is stored, and one reading
@@ -62,7 +62,7 @@ module _ (limits : Setting) where
         → (p : Made (List Step) (certificateOf limits th goals certificate)) → Passes p s u
         → StoreArises rulebook text certificate u
 
-  -- Progress that arises in reading the certificate. A longer certificate is refused before any arises.
+  -- Progress that arises in reading the certificate. A certificate longer than the limits allow is refused before any arises.
   pub record ProgressArises (rulebook text certificate : List ℕ) (now : Progress) : Type 0 where
     pub short : length certificate ≤ limits .certificateBytes
     pub th : Theory

@@ -34,13 +34,13 @@ pub record Report : Type 0 where
 abbrev pub report : ℕ → ℕ → ℕ → ℕ → ℕ → Report
 report n s g t b = record { number = n; steps = s; goals = g; terms = t; bytes = b }
 
--- How many symbols are constructors.
+-- How many symbols are constructors, for "the counts of sorts, constructors, predicates and rules".
 unfoldable pub constructorCount : List Symbol → ℕ
 constructorCount [] = zero
 constructorCount (symbol name ins (sort s) ∷ rest) = suc (constructorCount rest)
 constructorCount (symbol name ins judgment ∷ rest) = constructorCount rest
 
--- How many symbols are predicates.
+-- How many symbols are predicates, for "the counts of sorts, constructors, predicates and rules".
 unfoldable pub predicateCount : List Symbol → ℕ
 predicateCount [] = zero
 predicateCount (symbol name ins (sort s) ∷ rest) = predicateCount rest
@@ -104,16 +104,17 @@ areaAfter words answer area =
 -- A call whole: its report, and what the four areas hold afterwards. The contracts of the code are equations of these.
 pub record Called (R : Type 0) : Type 0 where
   pub answer : R
-  pub first : List ℕ
-  pub second : List ℕ
-  pub third : List ℕ
-  pub fourth : List ℕ
+  pub firstAfter : List ℕ
+  pub secondAfter : List ℕ
+  pub thirdAfter : List ℕ
+  pub fourthAfter : List ℕ
 
 -- A call by its parts.
 abbrev pub called : {R : Type 0} → R → List ℕ → List ℕ → List ℕ → List ℕ → Called R
-called r a b c d = record { answer = r; first = a; second = b; third = c; fourth = d }
+called r a b c d = record { answer = r; firstAfter = a; secondAfter = b; thirdAfter = c; fourthAfter = d }
 
--- The call that answers a report of this number, and was lent these areas.
+-- The call that answers a report of this number and was lent these areas: "Refusals 1 and 2 leave the areas untouched", and "every other
+-- answer leaves the first 16,384 words of each area zero", by the limits' own numbers of words.
 unfoldable pub leaving : {R : Type 0} → Setting → R → ℕ → List ℕ → List ℕ → List ℕ → List ℕ → Called R
 leaving limits r n a b c d =
     called r
@@ -122,13 +123,14 @@ leaving limits r n a b c d =
     (areaAfter (limits .areaWords) n c)
     (areaAfter (limits .lastAreaWords) n d)
 
--- The call with the rulebook alone, from the areas and the text.
+-- The call with the rulebook alone, from the areas and the text: "its answer and the lent areas afterwards, refusals included".
 unfoldable pub rulebookLeft : Setting → List ℕ → List ℕ → List ℕ → List ℕ → List ℕ → Called RulebookReport
 rulebookLeft limits a b c d rulebook =
     let r = rulebookCall limits (length a) (length b) (length c) (length d) rulebook in
     leaving limits r (r .number) a b c d
 
--- The call with three texts, from the areas and the texts. Document 01's calls are these two at its limits, `document01`.
+-- The call with three texts, from the areas and the texts: "its answer and the lent areas afterwards, refusals included". Document 01's calls
+-- are these two at its limits, `document01`.
 unfoldable pub releaseLeft : Setting → List ℕ → List ℕ → List ℕ → List ℕ → List ℕ → List ℕ → List ℕ → Called Report
 releaseLeft limits a b c d rulebook goals certificate =
     let r = releaseCall limits (length a) (length b) (length c) (length d) rulebook goals certificate in

@@ -28,7 +28,7 @@ pub record Progress : Type 0 where
 abbrev pub begun : List Goal → Progress
 begun goals = record { defs = []; openGoals = goals; steps = [] }
 
--- What the items of a step have given: bindings, and a stated conclusion.
+-- What the items of a step have given: bindings, and the conclusion, if one is stated.
 pub data Given : Type 0 where
   given : List Bind → Option Term → Given
 
@@ -52,7 +52,7 @@ unfoldable pub isStated : Option Term → Bool
 isStated none = false
 isStated (some j) = true
 
--- The goals that are still open once the goal of a name has its result.
+-- "A goal still open": those of a list that are so once the goal of a name has its result.
 unfoldable pub without : Name → List Goal → List Goal
 without name [] = []
 without name (g ∷ gs) = elim (isGoal name g) [ true ↦ without name gs | false ↦ g ∷ without name gs ]

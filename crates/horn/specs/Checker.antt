@@ -38,23 +38,24 @@ unfoldable pub wordDue : Item → Result Name
 wordDue (word name) = ok name
 wordDue (group inner) = refused atomOrList
 
--- "Or the reverse": what must be a list.
+-- "A list where an atom is due, or the reverse, is 7." What must be a list.
 unfoldable pub groupDue : Item → Result Items
 groupDue (word name) = refused atomOrList
 groupDue (group inner) = ok inner
 
--- The next item, asked for without a look ahead, and what follows it: "All members are asked for as above."
+-- "All members are asked for as above": the next item, and what follows it. No look ahead comes first: "in goals and certificate a head is
+-- asked for without it", and for any other member that is asked for here, at depth 1 or 2, it would make no difference.
 unfoldable pub ask : ℕ → Items → Result (Item × Items)
 ask depth closed = absent depth strayClosing
 ask depth ended = absent depth textEnds
 ask depth badLine = absent depth notUtf8
 ask depth (item then rest) = askedAt depth >>=ᵣ λ _. ok (item, rest)
 
--- The next item, where an atom is due.
+-- The next item, where an atom is due: "A list where an atom is due, or the reverse, is 7."
 unfoldable pub askWord : ℕ → Items → Result (Name × Items)
 askWord depth is = ask depth is >>=ᵣ λ p. wordDue (p .0) >>=ᵣ λ name. ok (name, p .1)
 
--- The next item, where a list is due.
+-- The next item, where a list is due: "A list where an atom is due, or the reverse, is 7."
 unfoldable pub askGroup : ℕ → Items → Result (Items × Items)
 askGroup depth is = ask depth is >>=ᵣ λ p. groupDue (p .0) >>=ᵣ λ inner. ok (inner, p .1)
 
@@ -112,7 +113,7 @@ goalJudgment (goal name j) = j
 unfoldable pub isGoal : Name → Goal → Bool
 isGoal name (goal n j) = named name n
 
--- Whether a term has this sort.
+-- Whether a term has this sort: for "15 for arity and sorts" and for "wrong sort 21".
 unfoldable pub hasSort : Name → Term → Bool
 hasSort s (node c ts) = sameOutput (output c) (sort s)
 

@@ -24,6 +24,7 @@ mutual
     ground : {name s : Name} {ins : List Name} {ts : Terms}
         → List·Memᴰ (symbol name ins (sort s)) (th .symbols) → Grounds th ins ts → Ground th s (node (symbol name ins (sort s)) ts)
 
+  -- "For each input in order, a ground term of the input's sort".
   pub data Grounds (th : Theory) : List Name → Terms → Type 0 where
     no-ground : Grounds th [] []ₜ
     ground-then : {s : Name} {ss : List Name} {t : Term} {ts : Terms} → Ground th s t → Grounds th ss ts → Grounds th (s ∷ ss) (t ∷ₜ ts)
@@ -43,6 +44,7 @@ unfoldable mutual
   substitute σ (var name) = σ name
   substitute σ (app c ps) = node c (substituteAll σ ps)
 
+  -- The same of arguments.
   pub substituteAll : Assignment → Patterns → Terms
   substituteAll σ []ₚ = []ₜ
   substituteAll σ (p ∷ₚ ps) = substitute σ p ∷ₜ substituteAll σ ps
@@ -79,17 +81,18 @@ pub record IsClosed {ℓ} (th : Theory) (S : Term → Type ℓ) : Type ℓ where
 abbrev pub Forced {ℓ} : Theory → Term → Type (ℓ + 1)
 Forced th j = (S : Term → Type ℓ) → IsClosed th S → S j
 
--- The narrower reading of it: a judgment lies in every such set that has only well-sorted ground judgments.
+-- The narrower reading of "forced": a judgment lies in every closed set that has only well-sorted ground judgments.
 abbrev pub ForcedAmongSorted {ℓ} : Theory → Term → Type (ℓ + 1)
 ForcedAmongSorted th j = (S : Term → Type ℓ) → IsClosed th S → ((k : Term) → S k → WellSorted th k) → S j
 
--- The least closed set, as a type that a contract may name. It is proved that it is closed (`derivable-is-closed` in proofs/Soundness) and
--- lies in every closed set (`derivable-least` in proofs/SoundnessWords), and, for the theory of a rulebook, that its members are well-sorted
--- and that all that is forced among well-sorted judgments is in it (`derivable-is-sorted`, `forced-is-derivable` in proofs/Soundness).
+-- The least closed set, as a type that a contract may name. It is proved that it is closed and lies in every closed set (`derivable-closed`,
+-- `derivable-least` in proofs/SoundnessWords), and, for the theory of a rulebook, that its members are well-sorted and that all that is
+-- forced among well-sorted judgments is in it (`derivable-is-sorted`, `forced-is-derivable` in proofs/Soundness).
 mutual
   pub data Derivable (th : Theory) : Term → Type 0 where
     derive : {j : Term} (i : Instance) → IsInstance th i → Derivables th (premises i) → j ≡ conclusion i → Derivable th j
 
+  -- Each judgment of a list is derivable.
   pub data Derivables (th : Theory) : List Term → Type 0 where
     all-derived : Derivables th []
     derived : {j : Term} {js : List Term} → Derivable th j → Derivables th js → Derivables th (j ∷ js)
@@ -112,7 +115,7 @@ judgments = map goalJudgment
 -- has at most one list of goals (proofs/GoalsFixed).
 pub record HasGoals (th : Theory) (text : List ℕ) (goals : List Goal) : Type 0 where
   pub forms : items (tokens text) ≡ topItems (map goalSexp goals)
-  pub sorted : Each (WellSorted th) (judgments goals)
+  pub sorted-judgments : Each (WellSorted th) (judgments goals)
 
 -- "Areas long enough".
 pub record LongEnough (limits : Setting) (a b c d : ℕ) : Type 0 where
@@ -124,7 +127,7 @@ pub record LongEnough (limits : Setting) (a b c d : ℕ) : Type 0 where
 -- "A rulebook is accepted if this paper's rules, whatever a program says, give 0 for the call with it alone on areas long
 -- enough", on any such areas. Exactly then it is short enough and gives a theory (proofs/Accepting).
 pub record Accepted (limits : Setting) (rulebook : List ℕ) : Type 0 where
-  pub answer : (a b c d : ℕ) → LongEnough limits a b c d → (rulebookCall limits a b c d rulebook) .number ≡ 0
+  pub answers-zero : (a b c d : ℕ) → LongEnough limits a b c d → (rulebookCall limits a b c d rulebook) .number ≡ 0
 
 -- "A goals text is read without refusal if by the same rules none is met in it under that rulebook, 2 and 17 included."
 pub record ReadWithoutRefusal (limits : Setting) (th : Theory) (text : List ℕ) : Type 0 where

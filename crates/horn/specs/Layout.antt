@@ -73,10 +73,12 @@ unfoldable mutual
   printed (leaf name) = name
   printed (list xs) = 0x28 ∷ (printedAll xs ++ (0x29 ∷ []))
 
+  -- The bytes of a list's members, with a single space between two.
   pub printedAll : Sexps → List ℕ
   printedAll []ₛ = []
   printedAll (x ∷ₛ xs) = printed x ++ spaced xs
 
+  -- Members behind another, each after a space.
   pub spaced : Sexps → List ℕ
   spaced []ₛ = []
   spaced (x ∷ₛ xs) = 0x20 ∷ (printed x ++ spaced xs)
@@ -90,13 +92,13 @@ printedLines (x ∷ xs) = printed x ++ 0x0A ∷ printedLines xs
 unfoldable pub laidOut : List Goal → List Instance → List ℕ
 laidOut goals is = printedLines (layoutForms goals is)
 
--- By how much the deepest item within a form is deeper than the form: 0 for an atom and for `()`. `heights` says it of a list, by its
--- members.
+-- By how much the deepest item within a form is deeper than the form: 0 for an atom and for `()`.
 unfoldable mutual
   pub height : Sexp → ℕ
   height (leaf name) = zero
   height (list xs) = heights xs
 
+  -- The same of a list, by its members.
   pub heights : Sexps → ℕ
   heights []ₛ = zero
   heights (x ∷ₛ xs) = max (suc (height x)) (heights xs)
@@ -106,21 +108,22 @@ unfoldable pub depth : List Sexp → ℕ
 depth [] = zero
 depth (x ∷ xs) = max (height x) (depth xs)
 
--- A term with all its subterms.
+-- "With all their subterms": a term and all its subterms.
 unfoldable mutual
   pub subterms : Term → List Term
   subterms (node c ts) = node c ts ∷ subtermsOf ts
 
+  -- The same of arguments.
   pub subtermsOf : Terms → List Term
   subtermsOf []ₜ = []
   subtermsOf (t ∷ₜ ts) = subterms t ++ subtermsOf ts
 
--- Some terms with all their subterms.
+-- "With all their subterms": the terms of a list and all subterms of each.
 unfoldable pub allSubterms : List Term → List Term
 allSubterms [] = []
 allSubterms (t ∷ ts) = subterms t ++ allSubterms ts
 
--- Each term once.
+-- "Distinct": each term once.
 unfoldable pub distinct : List Term → List Term
 distinct [] = []
 distinct (t ∷ ts) = elim (someOf (sameTerm t) ts) [ true ↦ distinct ts | false ↦ t ∷ distinct ts ]

@@ -46,6 +46,7 @@ unfoldable mutual
   match (var name) t binds = matchVar name t binds (lookup name binds)
   match (app c ps) (node d ts) binds = elim (sameSymbol c d) [ true ↦ matches ps ts binds | false ↦ none ]
 
+  -- The same of arguments, left to right, each under the bindings that those before it have left.
   pub matches : Patterns → Terms → List Bind → Option (List Bind)
   matches []ₚ []ₜ binds = some binds
   matches []ₚ (t ∷ₜ ts) binds = none
@@ -71,6 +72,7 @@ unfoldable mutual
     ts ← builds limits binds ps
     stored limits (node c ts)
 
+  -- The arguments of a node, "left to right".
   pub builds : Setting → List Bind → Patterns → Reading Terms
   builds limits binds []ₚ = give []ₜ
   builds limits binds (p ∷ₚ ps) = do

@@ -5,13 +5,13 @@ use lib.Dec.{leb}
 use Rattle.horn.specs.Refusals.{Refusal, nesting, notUtf8, textEnds, strayClosing, Result, ok, refused, _>>=_, need}
 use Rattle.horn.specs.Tokens.{Stream, end, bad, _▹_, Token, opening, closing, atom}
 
--- What stands in a text to be asked for: an item is a word, which is an atom's bytes, or a group. What is left of a
--- group is items, up to its closing, to the end of the text or to a line that is not UTF-8.
+-- What stands in a text to be asked for: an item is a word, which is an atom's bytes, or a group.
 mutual
   pub data Item : Type 0 where
     word : List ℕ → Item
     group : Items → Item
 
+  -- What is left of a group: items, up to its closing, to the end of the text or to a line that is not UTF-8.
   pub data Items : Type 0 where
     closed ended badLine : Items
     _then_ : Item → Items → Items
@@ -56,6 +56,7 @@ unfoldable mutual
   writtenItem (word bytes) ts = atom bytes ▹ ts
   writtenItem (group inner) ts = opening ▹ written inner ts
 
+  -- The items of a group, up to its closing. Where the end of the text or a bad line breaks them off, that ends the tokens too.
   pub written : Items → Stream Token → Stream Token
   written closed ts = closing ▹ ts
   written ended ts = end
@@ -88,6 +89,7 @@ mutual
     leaf : List ℕ → Sexp
     list : Sexps → Sexp
 
+  -- The members of a list, in order.
   pub data Sexps : Type 0 where
     []ₛ : Sexps
     _∷ₛ_ : Sexp → Sexps → Sexps
@@ -99,6 +101,7 @@ unfoldable mutual
   asItem (leaf name) = word name
   asItem (list xs) = group (asItems xs)
 
+  -- The members of a list as they stand in a text, up to its closing.
   pub asItems : Sexps → Items
   asItems []ₛ = closed
   asItems (x ∷ₛ xs) = asItem x then asItems xs
@@ -108,13 +111,13 @@ unfoldable pub topItems : List Sexp → Items
 topItems [] = ended
 topItems (x ∷ xs) = asItem x then topItems xs
 
--- "After an opening, members are asked for until a closing is next. That look ahead comes first, so a bad line found by
--- it is 3, not 4".
+-- An item that was asked for at a depth, read whole.
 unfoldable mutual
   pub sexp : ℕ → Item → Result Sexp
   sexp depth (word bytes) = ok (leaf bytes)
   sexp depth (group inner) = members (suc depth) inner >>= λ xs. ok (list xs)
 
+  -- "After an opening, members are asked for until a closing is next. That look ahead comes first, so a bad line found by it is 3, not 4".
   pub members : ℕ → Items → Result Sexps
   members depth closed = ok []ₛ
   members depth badLine = refused notUtf8

@@ -53,6 +53,7 @@ mutual
     var : Name → Pattern
     app : Symbol → Patterns → Pattern
 
+  -- The arguments of a symbol in a rule, in order.
   pub data Patterns : Type 0 where
     []ₚ : Patterns
     _∷ₚ_ : Pattern → Patterns → Patterns
@@ -200,8 +201,7 @@ unfoldable mutual
     (ps, ws) ← patterns th xs ss us
     ok (p ∷ₚ ps, ws)
 
--- "A judgment J is a list (else 7), not empty (8), its head an atom (7) and a predicate (12), its length right (15),
--- then its terms."
+-- A judgment that is a list: "not empty (8), its head an atom (7) and a predicate (12), its length right (15), then its terms."
 unfoldable pub judgmentMembers : Theory → Sexps → List Variable → Read Pattern
 judgmentMembers th []ₛ vs = refused emptyList
 judgmentMembers th (x ∷ₛ xs) vs = do
@@ -298,7 +298,8 @@ declarationWord name =
       ]
     ]
 
--- The four forms, each with its length: `(sort N)`, `(ctor N (S...) S)`, `(pred N (S...))`, `(rule N (J...) J)`.
+-- The four forms, each with its length: `(sort N)`, `(ctor N (S...) S)`, `(pred N (S...))`, `(rule N (J...) J)`. "A head and length other than
+-- these 9."
 unfoldable pub declare : Theory → DeclarationWord → Sexps → Result Theory
 declare th sortWord xs = oneMember xs (declareSort th)
 declare th ctorWord xs = threeMembers xs (declareConstructor th)
@@ -306,7 +307,7 @@ declare th predWord xs = twoMembers xs (declarePredicate th)
 declare th ruleWord xs = threeMembers xs (declareRule th)
 declare th otherDeclaration xs = refused form
 
--- "Declarations, in order: an atom is 7, `()` 8, a head that is a list 7".
+-- A declaration that is a list: "`()` 8, a head that is a list 7".
 unfoldable pub headedDeclaration : Theory → Sexps → Result Theory
 headedDeclaration th []ₛ = refused emptyList
 headedDeclaration th (x ∷ₛ xs) = do
@@ -328,7 +329,7 @@ declarations th (x ∷ₛ xs) = do
 unfoldable pub emptyTheory : Theory
 emptyTheory = record { sorts = []; symbols = []; rules = [] }
 
--- The theory of a rulebook, or the first refusal.
+-- The theory of a rulebook, or the first refusal. "All of the rulebook is read so before any declaration is judged."
 unfoldable pub theory : List ℕ → Result Theory
 theory text = do
   xs ← sexps (items (tokens text))

@@ -1,5 +1,5 @@
 -- "Stored terms" in document 01. A term or a judgment is a tree, and so the store is a list of distinct trees, in the
--- order in which they were first asked for.
+-- order in which they were first stored.
 use Prim.Native.Nat.{ℕ, zero, suc, _+_}
 use mathlib.Core.Bool.{Bool, true, false, _&&_}
 use mathlib.Core.List.{List, [], _∷_, _++_}
@@ -15,6 +15,7 @@ mutual
   pub data Term : Type 0 where
     node : Symbol → Terms → Term
 
+  -- The arguments of a node, in order.
   pub data Terms : Type 0 where
     []ₜ : Terms
     _∷ₜ_ : Term → Terms → Terms
@@ -25,6 +26,7 @@ unfoldable mutual
   pub sameTerm : Term → Term → Bool
   sameTerm (node c ts) (node d us) = elim (sameSymbol c d) [ true ↦ sameTerms ts us | false ↦ false ]
 
+  -- The same of arguments: as many, and equal one by one.
   pub sameTerms : Terms → Terms → Bool
   sameTerms []ₜ []ₜ = true
   sameTerms []ₜ (u ∷ₜ us) = false

@@ -20,6 +20,7 @@ unfoldable mutual
   pub termSexp : Term → Sexp
   termSexp (node c ts) = constantOr (symbolName c) (termSexps ts)
 
+  -- The same of arguments.
   pub termSexps : Terms → Sexps
   termSexps []ₜ = []ₛ
   termSexps (t ∷ₜ ts) = termSexp t ∷ₛ termSexps ts

@@ -10,7 +10,7 @@ use Rattle.horn.specs.Names.{Name, named}
 use Rattle.horn.specs.Rulebook.{Variable, Theory}
 use Rattle.horn.specs.StoredTerms.{Term}
 use Rattle.horn.specs.Matching.{Bind, bind, lookup}
-use Rattle.horn.proofs.Equality.{case, chose-true, chose-false, named-decides, apart}
+use Rattle.horn.proofs.Equality.{case, chose-true, chose-false, named-decides, decides-false}
 use Rattle.names.proofs.Holds.{by-number}
 use Rattle.horn.proofs.SoundnessMatching.{lookup-new}
 use Rattle.horn.proofs.SoundnessWords.{Apart}
@@ -27,7 +27,7 @@ use Rattle.matching_laws.proofs.Relations.{Bound, not-bound, bound-to, 
 -- A new binding touches no other name.
 pub lookup-other : (binds : List Bind) (n : Name) (u : Term) (name : Name) → (name ≡ n → ⊥) → lookup name (binds ++ (bind n u ∷ [])) ≡ lookup name binds
 unfolding lookup
-lookup-other [] n u name d = chose-false _ _ (apart named-decides name n d)
+lookup-other [] n u name d = chose-false _ _ (decides-false named-decides name n d)
 lookup-other (bind m v ∷ binds) n u name d =
     case (named name m)
     (λ p. chose-true _ _ p ∙ sym (chose-true _ _ p))

@@ -13,7 +13,7 @@ use Rattle.horn.specs.Setting.{Setting}
 use Rattle.horn.specs.Rulebook.{Symbol, inputs, sameSymbol, Variable, Pattern, var, app, Patterns, []ₚ, _∷ₚ_, Theory}
 use Rattle.horn.specs.StoredTerms.{Term, node, Terms, []ₜ, _∷ₜ_, sameTerm}
 use Rattle.horn.specs.Matching.{Bind, lookup, matchVar, match, matches}
-use Rattle.horn.proofs.Equality.{case, chose-true, chose-false, sameTerm-decides, sameSymbol-decides, apart}
+use Rattle.horn.proofs.Equality.{case, chose-true, chose-false, sameTerm-decides, sameSymbol-decides, decides-false}
 use Rattle.names.proofs.Holds.{by-number}
 use Rattle.arena.specs.Store.{argumentOf}
 use Rattle.arena.proofs.Trees as trees
@@ -104,7 +104,8 @@ module _ {text heap : List ℕ} {es : Entries} {top : ℕ} {th : Theory} (h : Ho
         rw (z, s, i, j, p, matchVar) (both-match k b))
         (λ c.
         let i : eqb (bindingOf now v) (t + 1) ≡ false = ne-eqb (bindingOf now v) (t + 1) (λ g. c (omega arith)) in
-        let j : sameTerm (treeOf (symbolAt es th) ts t) y ≡ false = apart sameTerm-decides _ _ (λ g. c (one-number st t m l (a .below) (g ∙ sym (a .tree)))) in
+        let j : sameTerm (treeOf (symbolAt es th) ts t) y ≡ false =
+        decides-false sameTerm-decides _ _ (λ g. c (one-number st t m l (a .below) (g ∙ sym (a .tree)))) in
         rw (z, s, i, j, matchVar) (both-differ k))
 
   -- "Matching goes one level of the pattern at a time": where `left` reaches the end of the patterns' words, it suffices.

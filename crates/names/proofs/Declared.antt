@@ -5,7 +5,7 @@ use mathlib.Core.List.{List, [], _∷_, _++_, List·Memᴰ, List·Memᴰ·head, 
 use mathlib.Core.Option.{Option, none, some}
 use Prim.Native.Nat.{ℕ}
 use Rattle.horn.specs.Names.{Name, first, someOf}
-use Rattle.horn.proofs.Equality.{case, named-decides, apart}
+use Rattle.horn.proofs.Equality.{case, named-decides, decides-false}
 use Rattle.horn.proofs.Inversion.{none-some}
 use Rattle.names.specs.Chains.{found}
 use Rattle.names.specs.Tables.{Entry, entry, lookup, Table, Stands, none-yet, other-kind, declared, Agree, both-none, both-some, present}
@@ -112,7 +112,7 @@ module _ {A : Type 0} (test : Name → A → Bool) (Means : ℕ → A → Type 0
       )
       (both-some m))
       (λ t.
-      rw (q, lookup-on e name entries key t, first-before (test key) a things (n key ∙ apart named-decides key name t))
+      rw (q, lookup-on e name entries key t, first-before (test key) a things (n key ∙ decides-false named-decides key name t))
       (lookup-agrees key s))
 
   -- Names are pairwise different where each was new when it was declared.

@@ -8,7 +8,7 @@ use borrow.Author.Tests.{eqb-true, eqb-false, eq-eqb, ne-eqb}
 use lib.Dec.{eqb}
 use lib.ListN.{getD}
 use Rattle.horn.specs.Names.{Name, named}
-use Rattle.horn.proofs.Equality.{case, named-decides, apart, differ}
+use Rattle.horn.proofs.Equality.{case, named-decides, decides-false, differ}
 use Rattle.facts.proofs.Comparing.{same-named}
 use Rattle.names.specs.Chains.{bucketOf, nameAt, chased, found}
 use Rattle.names.specs.Tables.{Entry, entry, lookup, top, newest, Chained, no-entry, one-more, Table}
@@ -28,7 +28,7 @@ module _ (e : ℕ) (name : Name) (entries : List Entry) where
 
   pub lookup-on : (key : Name) → (key ≡ name → ⊥) → lookup key (entry e name ∷ entries) ≡ lookup key entries
   unfolding lookup
-  lookup-on key h = rw (apart named-decides key name h, lookup)
+  lookup-on key h = rw (decides-false named-decides key name h, lookup)
 
   pub newest-here : (count b : ℕ) → bucketOf count name ≡ b → newest count b (entry e name ∷ entries) ≡ e
   unfolding newest
@@ -69,7 +69,7 @@ module _ {area : List ℕ} {count base : ℕ} {text : List ℕ} where
       (λ s.
       let k : getD area (e + 2) 0 ≡ newest count (bucketOf count key) entries = rw s at l in
       rw (newest-here e name entries count (bucketOf count key) s)
-      (chased-on area text key e q (same-named (nameAt area text e) key ∙ rw n (apart named-decides name key (λ u. t (sym u))))
+      (chased-on area text key e q (same-named (nameAt area text e) key ∙ rw n (decides-false named-decides name key (λ u. t (sym u))))
       ∙ ap (chased area text key) (before-link area e (omega (arith, newest-below p (bucketOf count key) c)) ∙ k)
       ∙ chain-found key p c
       ∙ sym (lookup-on e name entries key t)))

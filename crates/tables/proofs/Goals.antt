@@ -14,7 +14,7 @@ use Rattle.horn.specs.Names.{Name, named, first, someOf}
 use Rattle.horn.specs.StoredTerms.{Term}
 use Rattle.horn.specs.Checker.{Goal, goal, isGoal}
 use Rattle.horn.specs.Certificate.{without}
-use Rattle.horn.proofs.Equality.{case, named-decides, apart, differ, first-some}
+use Rattle.horn.proofs.Equality.{case, named-decides, decides-false, differ, first-some}
 use Rattle.names.specs.Tables.{Entry, entry, top, Stands, other-kind, declared, Owns, bucket-word, entry-word, Agree, both-none, both-some, present}
 use Rattle.names.proofs.Kept.{kept-within, kept-put, kept-set, add-law}
 use Rattle.names.proofs.Declared.{stands-kept, find-agrees, find-present}
@@ -42,7 +42,7 @@ at-same table i k h = rw h
 
 -- Names that differ, either way round.
 other-name : (a b : Name) → named a b ≡ false → named b a ≡ false
-other-name a b h = apart named-decides b a (λ e. differ named-decides a b h (sym e))
+other-name a b h = decides-false named-decides b a (λ e. differ named-decides a b h (sym e))
 
 -- A test that some thing of a list passes.
 pub none-of-more : {A : Type 0} (test : A → Bool) (xs : List A) (a : A) → someOf test xs ≡ false → test a ≡ false → someOf test (xs ++ (a ∷ [])) ≡ false

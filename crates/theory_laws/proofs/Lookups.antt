@@ -11,7 +11,7 @@ use lib.ListN.{length, getD, take, drop, length-take, length-drop}
 use lib.Seq.{drop-cons}
 use Rattle.horn.specs.Names.{Name, named, sameList, questioned, bare, codes, first}
 use Rattle.horn.specs.Rulebook.{Output, sameOutput, Variable, variable, isVariable, Theory}
-use Rattle.horn.proofs.Equality.{case, named-decides, apart}
+use Rattle.horn.proofs.Equality.{case, named-decides, decides-false}
 use Rattle.horn.proofs.Inversion.{some-equal}
 use Rattle.words.specs.Parts.{part, sameBytes}
 use Rattle.facts.proofs.Comparing.{same-named}
@@ -30,7 +30,7 @@ pub named-turned : (a b : Name) → named a b ≡ named b a
 named-turned a b =
     by-name a b
     (λ e. rw e)
-    (λ n. apart named-decides a b n ∙ sym (apart named-decides b a (λ e. n (sym e))))
+    (λ n. decides-false named-decides a b n ∙ sym (decides-false named-decides b a (λ e. n (sym e))))
 
 -- A name by its bounds: its length, its first byte, and whether it is `?` alone.
 pub part-length : (s t : ℕ) (text : List ℕ) → t ≤ length text → length (part s t text) ≡ t - s
@@ -101,7 +101,7 @@ module _ {text heap : List ℕ} {es : Entries} {top : ℕ} {th : Theory} (h : Ho
       eq-eqb a b k ∙ sym (rw e (named-decides .same t)))
       (λ u.
       ne-eqb a b (λ k. u (sym (member-named (h .sorts .table .chain) m) ∙ ap (nameAt heap text) k ∙ member-named (h .sorts .table .chain) n))
-      ∙ sym (apart named-decides s t u))
+      ∙ sym (decides-false named-decides s t u))
 
   pub same-output : {a b : ℕ} {o p : Output} → OutputAt es a o → OutputAt es b p → eqb a b ≡ sameOutput o p
   unfolding sameOutput

@@ -9,7 +9,7 @@ use lib.ListN.{length, getD}
 use Rattle.horn.specs.Names.{Name}
 use Rattle.horn.specs.Rulebook.{Output, sort, judgment, Symbol, sameSymbol, inputs, output, Variable, variable, Theory}
 use Rattle.horn.specs.Rulebook.{isConstructor, isPredicate}
-use Rattle.horn.proofs.Equality.{named-decides, sameOutput-decides, sameSymbol-decides, apart}
+use Rattle.horn.proofs.Equality.{named-decides, sameOutput-decides, sameSymbol-decides, decides-false}
 use Rattle.horn.proofs.Inversion.{some-equal}
 use Rattle.names.specs.Tables.{entry}
 use Rattle.names.proofs.Holds.{by-number}
@@ -81,4 +81,4 @@ module _ {text heap : List ℕ} {es : Entries} {top : ℕ} {th : Theory} (h : Ho
   same-symbol {a} {b} {c} {d} x y =
       by-number a b
       (λ e. eq-eqb a b e ∙ sym (rw (symbols-equal (rw e at x) y) (sameSymbol-decides .same d)))
-      (λ n. ne-eqb a b n ∙ sym (apart sameSymbol-decides c d (λ e. n (addresses-equal (rw e at x) y))))
+      (λ n. ne-eqb a b n ∙ sym (decides-false sameSymbol-decides c d (λ e. n (addresses-equal (rw e at x) y))))

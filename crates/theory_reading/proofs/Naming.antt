@@ -5,7 +5,7 @@ use mathlib.Core.Option.{none, some}
 use Prim.Native.Nat.{ℕ, suc}
 use Rattle.horn.specs.Names.{Name, first}
 use Rattle.horn.specs.Rulebook.{Variable, variable, isVariable}
-use Rattle.horn.proofs.Equality.{named-decides, apart}
+use Rattle.horn.proofs.Equality.{named-decides, decides-false}
 use Rattle.horn.proofs.Inversion.{none-some}
 use Rattle.horn.proofs.SoundnessWords.{Apart, name-apart}
 use Rattle.names.proofs.Holds.{by-name}
@@ -19,7 +19,7 @@ module _ (key name s : Name) (vs : List Variable) where
 
   first-on : (key ≡ name → ⊥) → first (isVariable key) (variable name s ∷ vs) ≡ first (isVariable key) vs
   unfolding first isVariable
-  first-on n = rw (apart named-decides key name n, first)
+  first-on n = rw (decides-false named-decides key name n, first)
 
 -- A name that a variable has is found.
 nth-found : {vs : List Variable} {v : ℕ} {key : Name} → Nth vs v key → first (isVariable key) vs ≡ none → ⊥

@@ -12,7 +12,7 @@ use Rattle.horn.specs.Names.{Name}
 use Rattle.horn.specs.Rulebook.{Symbol, inputs, Theory}
 use Rattle.horn.specs.StoredTerms.{Term, node, Terms, width, sameTerm}
 use Rattle.horn.specs.Checker.{hasSort, accepts}
-use Rattle.horn.proofs.Equality.{sameTerm-decides, apart}
+use Rattle.horn.proofs.Equality.{sameTerm-decides, decides-false}
 use Rattle.names.proofs.Holds.{by-number}
 use Rattle.arena.specs.Store.{headOf, internAnswer, internArea}
 use Rattle.arena.proofs.Nodes.{Node}
@@ -50,7 +50,7 @@ module _ {text heap : List ℕ} {es : Entries} {top : ℕ} {th : Theory} (h : Ho
         (λ e. eq-eqb j k e ∙ sym (rw e (sameTerm-decides .same (treeOf (symbolAt es th) ts k))))
         (λ n.
         ne-eqb j k n
-        ∙ sym (apart sameTerm-decides _ _ (λ e. n (one-tree (symbolAt es th) (Used es) nodes words places a ts t j k l u e))))
+        ∙ sym (decides-false sameTerm-decides _ _ (λ e. n (one-tree (symbolAt es th) (Used es) nodes words places a ts t j k l u e))))
 
     -- A number's head is the address of its tree's symbol.
     pub record Headed (k : ℕ) : Type 0 where
