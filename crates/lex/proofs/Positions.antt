@@ -15,7 +15,7 @@ use Rattle.scanning.proofs.Lines.{Clean, clean-le}
 use Rattle.lex.proofs.Standing.{AtomMoved, Stands}
 
 module _ (text : List ℕ) where
-  -- Two atoms are parted by a byte at least: an atom goes on as far as its characters do.
+  -- For a reader: two atoms are parted by a byte at least, since an atom goes on as far as its characters do.
   pub apart : (p a b e q c d f : ℕ) → AtomMoved text p a b e → AtomMoved text q c d f → b ≤ q → b < c
   apart p a b e q c d f m n h =
       lt-of-le-of-ne (omega (arith, n .from))
