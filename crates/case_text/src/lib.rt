@@ -98,7 +98,11 @@ pub fn hex_digit(b: u8) -> u8
 
 // The last digit of a number.
 fn put_digit(out: &mut [u8], len: u32, n: u32) -> u32 {
-    words::put_byte(out, len as usize, words::byte(b"0123456789", (n % 10) as usize));
+    words::put_byte(
+        out,
+        len as usize,
+        words::byte(b"0123456789", (n % 10) as usize),
+    );
     words::plus(len, 1)
 }
 

@@ -13,7 +13,8 @@ use Rattle.lex.specs.declared.Reader.{Reader}
 use Rattle.sexp.specs.declared.Place.{Place}
 use Rattle.sexp.specs.declared.Step.{Step}
 use Rattle.sexp.specs.declared.Step.the-variants.{On, Refused}
-use Rattle.sexp.specs.Walk.{deepest, openLists, turns, place, counted, memberAdded, listOpened, stepped, areaStepped, AnswerAndArea, goesOn, turn, walk, walked}
+use Rattle.sexp.specs.Walk.{deepest, openLists, turns, place, counted, memberAdded, listOpened}
+use Rattle.sexp.specs.Walk.{stepped, areaStepped, AnswerAndArea, goesOn, turn, walk, walked}
 
 abbrev Same : List ℕ → List ℕ → Type 0
 Same area left = length left ≡ length area
