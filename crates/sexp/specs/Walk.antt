@@ -38,7 +38,7 @@ openLists = 8_192
 abbrev pub beforeOpen : ℕ
 beforeOpen = 8_191
 
--- The turns of the walk: a text has at most 8,192 tokens, and one turn more finds its end.
+-- The turns of the walk: a text of at most 8,192 bytes has no more tokens, and one turn more finds its end.
 abbrev pub turns : ℕ
 turns = 8_193
 
