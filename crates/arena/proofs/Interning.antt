@@ -40,7 +40,7 @@ pub data Interned (nodes words places : ℕ) (a : List ℕ) (s : Nodes) (x : Nod
   full : answer ≡ Full → left ≡ a → Absent s x → (length s + 1 ≤ nodes → total s + length x ≤ words → ⊥) →
       Interned nodes words places a s x answer left
 
--- Where probing may end: at the node, or at a free place when the node is not held.
+-- Where probing may end, for `probing-ends`: at the node, or at a free place when the node is not held.
 pub data Ending (s : Nodes) (x : Node) : Probe → Type 0 where
   at-node : (k : ℕ) → k < length s → nodeOf s k ≡ x → Ending s x (Held k)
   at-free : (p : ℕ) → Absent s x → Ending s x (Free p)
@@ -89,7 +89,7 @@ module _ (nodes words places : ℕ) (l : Limits nodes words places) where
           N.ends places (places-positive nodes words places l) (place places) (place-below nodes words places l) places-read s (h .index) x
           (omega (arith, few-nodes nodes words places l, h .nodes-fit)) e
 
-      -- Probing always ends at the node or at a free place.
+      -- For a reader: probing ends at the node or at a free place, and never without either, since the index is never full.
       pub probing-ends : Ending s x (searched a nodes places x)
       unfolding walk
       probing-ends = rw searched-is (go walk refl)
@@ -155,7 +155,7 @@ module _ (nodes words places : ℕ) (l : Limits nodes words places) where
           go (Free p) e = rw (searched-is ∙ e) (added p e)
           go Nowhere e = absurd (not-nowhere e)
 
-  -- Where probing ends never shows in the answer: areas that hold the same nodes give the same answers.
+  -- For a reader: where probing ends never shows in the answer, since areas that hold the same nodes give the same answers.
   pub one-answer : (a b : List ℕ) (s : Nodes) → Kept nodes words places a s → Kept nodes words places b s → (x : Node) →
       internAnswer a nodes words places x ≡ internAnswer b nodes words places x
   one-answer a b s ha hb x = go (interned a s ha x) (interned b s hb x)

@@ -14,16 +14,16 @@ use Rattle.arena.proofs.Interning.{Kept, kept-emptied}
 use Rattle.arena.proofs.Trees.{Trees, treeOf, stand-empty}
 
 module _ (nodes words places : ℕ) (a : List ℕ) (s : Nodes) (h : Kept nodes words places a s) (k : ℕ) (b : k < length s) where
-  first : start a k ≡ total (take k s)
-  first = h .starts k (omega arith)
+  start-read : start a k ≡ total (take k s)
+  start-read = h .starts k (omega arith)
 
   pub size-read : sizeOf a k ≡ length (nodeOf s k)
   unfolding sizeOf
-  size-read = let next = h .starts (k + 1) (omega arith) ∙ total-next s k b in omega (arith, first)
+  size-read = let next = h .starts (k + 1) (omega arith) ∙ total-next s k b in omega (arith, start-read)
 
   -- Number k stands for the k-th node.
   pub node-read : wordsAt a (wordAt nodes places (start a k)) (sizeOf a k) ≡ nodeOf s k
-  node-read = rw (size-read, first) (h .contents k b)
+  node-read = rw (size-read, start-read) (h .contents k b)
 
   word-read : (d : ℕ) → d < length (nodeOf s k) → getD a (wordAt nodes places (start a k) + d) 0 ≡ getD (nodeOf s k) d 0
   word-read d i =

@@ -68,22 +68,22 @@ module _ (a : List ℕ) (nodes limit places : ℕ) (key : List ℕ) (p n : ℕ) 
   no-node h = let t = le-leb nodes (getD a 0 0) (omega arith) in (rw t, rw t)
 
   module _ (w : ℕ) (started : w ≡ getD a (n + 1) 0) (room : n < nodes) where
-    first : leb nodes (getD a 0 0) ≡ false
-    first = lt-leb nodes (getD a 0 0) (omega arith)
+    nodes-left : leb nodes (getD a 0 0) ≡ false
+    nodes-left = lt-leb nodes (getD a 0 0) (omega arith)
 
     last : getD a (getD a 0 0 + 1) 0 ≡ w
     last = rw (← counted) (sym started)
 
     pub words-over : limit < w → (Full ≡ addedAnswer a nodes limit key) × (a ≡ addedArea a nodes limit places key p)
     unfolding addedAnswer addedArea count start
-    words-over h = let t = lt-ltb limit w h in (rw (first, last, t), rw (first, last, t))
+    words-over h = let t = lt-ltb limit w h in (rw (nodes-left, last, t), rw (nodes-left, last, t))
 
     pub key-over : w ≤ limit → limit - w < length key → (Full ≡ addedAnswer a nodes limit key) × (a ≡ addedArea a nodes limit places key p)
     unfolding addedAnswer addedArea count start
     key-over h k =
         let t = le-ltb limit w h in
         let u = lt-ltb (limit - w) (length key) k in
-        (rw (first, last, t, u), rw (first, last, t, u))
+        (rw (nodes-left, last, t, u), rw (nodes-left, last, t, u))
 
     pub node-made : w ≤ limit → length key ≤ limit - w → (a1 a2 a3 a4 : List ℕ) →
         a1 ≡ copied a (wordAt nodes places w) key 0 (length key) →
@@ -95,7 +95,7 @@ module _ (a : List ℕ) (nodes limit places : ℕ) (key : List ℕ) (p n : ℕ) 
     node-made h k a1 a2 a3 a4 e1 e2 e3 e4 =
         let t = le-ltb limit w h in
         let u = le-ltb (limit - w) (length key) k in
-        (rw (first, last, t, u, ← counted), rw (first, last, t, u, e4, e3, e2, e1, counted))
+        (rw (nodes-left, last, t, u, ← counted), rw (nodes-left, last, t, u, e4, e3, e2, e1, counted))
 
 -- The ways through `intern`, each with the answer, the area and 01's numbers.
 pub record Told (a : List ℕ) (nodes limit places : ℕ) (key : List ℕ) (answer : Answer) (left : List ℕ) : Type 0 where

@@ -11,7 +11,8 @@ unfoldable pub startPlace : ℕ → ℕ → ℕ
 startPlace h places =
     elim (eqb (trailingZeros 32 places) 0) [ true ↦ 0 | false ↦ h / 2 ^ (64 - trailingZeros 32 places) ]
 
--- What one place tells: it is free, or it holds node v, which is the one asked for or not.
+-- Where the walk from place i on ends, in at most so many turns: at the node that is asked for, at a free place, or nowhere. A place is free
+-- where it reads 0; else it holds a node, and the walk goes on unless that is the one.
 unfoldable pub probe : ℕ → ℕ → (ℕ → ℕ) → (ℕ → Bool) → ℕ → Probe
 probe places zero read asked i = Nowhere
 probe places (suc fuel) read asked i =

@@ -1,5 +1,5 @@
 -- The store in one area, in this order: the number of nodes; the nodes' starts, one more than there may be nodes, the last in use being
--- the number of words; the index; the nodes' words. The first two words are the counts of an empty store. A key is a node's words, head first, lent
+-- the number of words; the index; the nodes' words. In an empty store the first two words are 0. A key is a node's words, head first, lent
 -- as a part of other words.
 use Prim.Native.Nat.{ℕ, zero, suc, _+_, _-_}
 use mathlib.Core.Bool.{Bool, true, false}

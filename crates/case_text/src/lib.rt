@@ -1,5 +1,8 @@
 // The notation in which docs/paper/cases.md writes texts and numbers. Every place is in 32 bits, and outside of the list zeros are
 // read, so that no function owes a bound.
+ghost use Prim.Native.Nat.{_<_};
+ghost use mathlib.Core.Path.{_≡_};
+ghost use Rattle.case_text.specs.Notation.{hexDigit};
 
 // How far the list is read, and how many bytes of a text are made.
 pub struct Made {
@@ -21,14 +24,6 @@ pub fn byte_at(list: &[u8], i: u32) -> u8 {
 // Whether a place lies behind the last byte.
 pub fn beyond(list: &[u8], i: u32) -> bool {
     list.len() <= i as usize
-}
-
-// Writes a byte, where there is room.
-fn put(out: &mut [u8], i: u32, v: u8) {
-    let p = i as usize;
-    if p < out.len() {
-        out[p] = v;
-    }
 }
 
 // Ten times a number, in 32 bits.
@@ -82,24 +77,32 @@ pub fn number(list: &[u8], from: u32) -> Digits {
 }
 
 // The value of a hexadecimal digit, 0 of any other byte.
-fn hex_digit(b: u8) -> u8 {
-    if b < 58 {
-        if 48 <= b {
-            return b - 48;
-        }
+pub fn hex_digit(b: u8) -> u8
+    ensures value { λ r. ⌜ r ≡ hexDigit b ⌝ }
+    ensures few { λ r. ⌜ r < 16 ⌝ }
+{
+    if b < 0x30 {
         return 0;
     }
-    if 97 <= b {
-        if b <= 102 {
-            return b - 87;
-        }
+    if b <= 0x39 {
+        return b - 0x30;
+    }
+    if b < 0x61 {
+        return 0;
+    }
+    if b <= 0x66 {
+        return b - 0x57;
     }
     0
 }
 
 // The last digit of a number.
 fn put_digit(out: &mut [u8], len: u32, n: u32) -> u32 {
-    put(out, len, words::byte(b"0123456789", (n % 10) as usize));
+    words::put_byte(
+        out,
+        len as usize,
+        words::byte(b"0123456789", (n % 10) as usize),
+    );
     words::plus(len, 1)
 }
 
@@ -153,18 +156,18 @@ fn escape(list: &[u8], i: u32, turn: u32, out: &mut [u8], len: u32) -> Made {
     }
     let after = words::plus(len, 1);
     if e == 120 {
-        let high = hex_digit(byte_at(list, at)) % 16;
-        let low = hex_digit(byte_at(list, words::plus(i, 3))) % 16;
-        put(out, len, high * 16 + low);
+        let high = hex_digit(byte_at(list, at));
+        let low = hex_digit(byte_at(list, words::plus(i, 3)));
+        words::put_byte(out, len as usize, high * 16 + low);
         return Made {
             at: words::plus(i, 4),
             len: after,
         };
     }
     if e == 110 {
-        put(out, len, 10);
+        words::put_byte(out, len as usize, 10);
     } else {
-        put(out, len, e);
+        words::put_byte(out, len as usize, e);
     }
     Made { at, len: after }
 }
@@ -175,7 +178,7 @@ fn sign(list: &[u8], i: u32, turn: u32, out: &mut [u8], len: u32) -> Made {
     if b == 92 {
         return escape(list, i, turn, out, len);
     }
-    put(out, len, b);
+    words::put_byte(out, len as usize, b);
     Made {
         at: words::plus(i, 1),
         len: words::plus(len, 1),

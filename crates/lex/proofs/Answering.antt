@@ -7,6 +7,7 @@ use borrow.Author.Tests.{lt-leb, le-leb, eq-eqb, ne-eqb, eqb-true, eqb-false, lt
 use lib.Dec.{eqb, ltb}
 use lib.ListN.{length, getD, drop}
 use Rattle.horn.specs.Refusals.{number, notUtf8}
+use Rattle.utf8.specs.Classes.{isOrdinary, isOpening, isClosing}
 use Rattle.utf8.specs.Characters.{first, width, kindAt}
 use Rattle.scanning.specs.Scan.{blanks, atomEnd, lineEnd}
 use Rattle.lex.specs.Answers.{token, ended, refused, after, tokenAt, scannedOn}
@@ -72,21 +73,21 @@ module _ (text : List ℕ) (e q : ℕ) where
 
 -- The token at a place, by the kind of the character there.
 module _ (text : List ℕ) (end p k : ℕ) (ek : k ≡ kindAt (first (drop p text))) where
-  pub at-atom : (q : ℕ) → k ≡ 0 → q ≡ atomEnd (suc (length text)) text end p
+  pub at-atom : (q : ℕ) → k ≡ isOrdinary → q ≡ atomEnd (suc (length text)) text end p
       → token (Atom p q) (after q end Nothing) ≡ tokenAt text end p
   unfolding tokenAt
-  at-atom q e h = rw (← ek, eq-eqb k 0 e, ← h, tokenAt)
+  at-atom q e h = rw (← ek, eq-eqb k isOrdinary e, ← h, tokenAt)
 
   module _ (n : ℕ) (en : n ≡ width (first (drop p text))) where
-    pub at-opening : k ≡ 2 → token Opening (after (p + n) end Nothing) ≡ tokenAt text end p
+    pub at-opening : k ≡ isOpening → token Opening (after (p + n) end Nothing) ≡ tokenAt text end p
     unfolding tokenAt
-    at-opening e = rw (en, ← ek, ne-eqb k 0 (λ z. omega arith), ← ek, eq-eqb k 2 e, tokenAt)
+    at-opening e = rw (en, ← ek, ne-eqb k isOrdinary (λ z. omega arith), ← ek, eq-eqb k isOpening e, tokenAt)
 
-    pub at-closing : k ≡ 3 → token Closing (after (p + n) end Nothing) ≡ tokenAt text end p
+    pub at-closing : k ≡ isClosing → token Closing (after (p + n) end Nothing) ≡ tokenAt text end p
     unfolding tokenAt
     at-closing e =
-        rw (en, ← ek, ne-eqb k 0 (λ z. omega arith), ← ek, ne-eqb k 2 (λ z. omega arith), ← ek, eq-eqb k 3 e, tokenAt)
+        rw (en, ← ek, ne-eqb k isOrdinary (λ z. omega arith), ← ek, ne-eqb k isOpening (λ z. omega arith), ← ek, eq-eqb k isClosing e, tokenAt)
 
-  pub at-none : (k ≡ 0 → ⊥) → (k ≡ 2 → ⊥) → (k ≡ 3 → ⊥) → refused (number notUtf8) ≡ tokenAt text end p
+  pub at-none : (k ≡ isOrdinary → ⊥) → (k ≡ isOpening → ⊥) → (k ≡ isClosing → ⊥) → refused (number notUtf8) ≡ tokenAt text end p
   unfolding tokenAt
-  at-none a b c = rw (← ek, ne-eqb k 0 a, ← ek, ne-eqb k 2 b, ← ek, ne-eqb k 3 c, tokenAt)
+  at-none a b c = rw (← ek, ne-eqb k isOrdinary a, ← ek, ne-eqb k isOpening b, ← ek, ne-eqb k isClosing c, tokenAt)

@@ -34,9 +34,9 @@ pub data Sees (text : List ℕ) : Stream Token → lexed.Answer → Type 0 where
 
 module _ (text : List ℕ) where
   pub takes : (r : Reader) (s : Stream Token) → Stands text r s → Takes text s (lexed.taken text r)
-  unfolding standing.Takes standing.Moved standing.meant number
+  unfolding standing.TakenFrom standing.Moved standing.meant number
   takes r s st = by (lexed.taken text r) (standing.token-law text r s st) where
-    by : (a : lexed.Answer) → standing.Takes text (standing.place r) a s → Takes text s a
+    by : (a : lexed.Answer) → standing.TakenFrom text (standing.place r) a s → Takes text s a
     by lexed.ended k = rw k take-end
     by (lexed.refused n) k = rw (k .0, k .1) take-bad
     by (lexed.token Opening q) k = rw (k .next) (take-opening (k .stands))
@@ -48,9 +48,9 @@ module _ (text : List ℕ) where
         rw (k .next) (take-atom (k .stands) refl (m .some) (omega arith))
 
   pub sees : (r : Reader) (s : Stream Token) → Stands text r s → Sees text s (lexed.peeked text r)
-  unfolding standing.Sees standing.meant number
+  unfolding standing.SeenFrom standing.meant number
   sees r s st = by (lexed.peeked text r) (standing.peek-law text r s st) where
-    by : (a : lexed.Answer) → standing.Sees text (standing.place r) a s → Sees text s a
+    by : (a : lexed.Answer) → standing.SeenFrom text (standing.place r) a s → Sees text s a
     by lexed.ended k = rw k see-end
     by (lexed.refused n) k = rw (k .0, k .1) see-bad
     by (lexed.token Opening q) k = rw (k .next) (see-opening (rw (k .next) at (k .stands)))

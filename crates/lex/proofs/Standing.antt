@@ -14,7 +14,7 @@ use Rattle.horn.specs.Tokens.{Stream, end, bad, _▹_, before, between, inAtom,
 use Rattle.horn.specs.Tokens.{kind, Kind, blank, opens, closes, comments, ordinary}
 use Rattle.horn.specs.Tokens as horn
 use Rattle.words.specs.Parts.{part}
-use Rattle.utf8.specs.Classes.{kindNumber}
+use Rattle.utf8.specs.Classes.{isOrdinary, isWhite, isOpening, isClosing, isComment, kindNumber}
 use Rattle.utf8.specs.Characters.{first, kindAt}
 use Rattle.scanning.specs.Scan.{blanks, atomEnd, lineEnd}
 use Rattle.lex.specs.Answers.{Answer, token, ended, refused, after, tokenAt, scannedOn, scanned, holding, peeked, peekedBy, taken, takenBy, start}
@@ -47,8 +47,8 @@ pub record AtomMoved (text : List ℕ) (p a b e : ℕ) : Type 0 where
   pub from : p ≤ a
   pub some : a < b
   pub to : b ≡ e
-  pub begins : kindAt (first (drop a text)) ≡ 0
-  pub stops : b < length text → kindAt (first (drop b text)) ≡ 0 → ⊥
+  pub begins : kindAt (first (drop a text)) ≡ isOrdinary
+  pub stops : b < length text → kindAt (first (drop b text)) ≡ isOrdinary → ⊥
 
 -- A token that is found from p moves the reader to e.
 unfoldable pub Moved : List ℕ → ℕ → Token → ℕ → Type 0
@@ -106,16 +106,16 @@ pub record Saw (text : List ℕ) (p : ℕ) (t : Token) (r : Reader) (s : Stream 
 
 -- What an answer says of the tokens before which the reader stood, at place p: a token was taken; there is none; or the
 -- next line is not UTF-8, which is refusal 3.
-unfoldable pub Takes : List ℕ → ℕ → Answer → Stream horn.Token → Type 0
-Takes text p (token t r) s = Took text p t r s
-Takes text p ended s = s ≡ end
-Takes text p (refused n) s = (s ≡ bad) × (n ≡ number notUtf8)
+unfoldable pub TakenFrom : List ℕ → ℕ → Answer → Stream horn.Token → Type 0
+TakenFrom text p (token t r) s = Took text p t r s
+TakenFrom text p ended s = s ≡ end
+TakenFrom text p (refused n) s = (s ≡ bad) × (n ≡ number notUtf8)
 
 -- The same of a look.
-unfoldable pub Sees : List ℕ → ℕ → Answer → Stream horn.Token → Type 0
-Sees text p (token t r) s = Saw text p t r s
-Sees text p ended s = s ≡ end
-Sees text p (refused n) s = (s ≡ bad) × (n ≡ number notUtf8)
+unfoldable pub SeenFrom : List ℕ → ℕ → Answer → Stream horn.Token → Type 0
+SeenFrom text p (token t r) s = Saw text p t r s
+SeenFrom text p ended s = s ≡ end
+SeenFrom text p (refused n) s = (s ≡ bad) × (n ≡ number notUtf8)
 
 -- At the start it is all of the text's tokens.
 pub start-stands : (text : List ℕ) → Stands text start (tokens text)
@@ -137,9 +137,9 @@ module _ (text : List ℕ) where
   stands-at p e w c = record { line = inr c; inside = clean-le text c .1; passed = w; held = tt; stream = refl }
 
   -- The token at a place where a character stands that is neither white nor `;`.
-  token-takes : (p q e : ℕ) → Passed text e → p ≤ q → Clean text q e → q < e → (kindAt (first (drop q text)) ≡ 1 → ⊥)
-      → (kindAt (first (drop q text)) ≡ 4 → ⊥) → Takes text p (tokenAt text e q) (tokensAt text between q)
-  unfolding Takes Moved meant kindNumber
+  token-takes : (p q e : ℕ) → Passed text e → p ≤ q → Clean text q e → q < e → (kindAt (first (drop q text)) ≡ isWhite → ⊥)
+      → (kindAt (first (drop q text)) ≡ isComment → ⊥) → TakenFrom text p (tokenAt text e q) (tokensAt text between q)
+  unfolding TakenFrom Moved meant kindNumber
   token-takes p q e w l (over z m) h i j = absurd (omega arith)
   token-takes p q e w l (newline k b z) h i j = absurd (i (sym (newline-kind text q k b .0)))
   token-takes p q e w l (on n v k d g c) h i j = by (kind v) refl where
@@ -149,11 +149,11 @@ module _ (text : List ℕ) where
     number-here : (m : Kind) → kind v ≡ m → kindNumber m ≡ kindAt (first (drop q text))
     number-here m z = rw (← z) (kind-here text q n v g)
 
-    by : (m : Kind) → kind v ≡ m → Takes text p (tokenAt text e q) (tokensAt text between q)
+    by : (m : Kind) → kind v ≡ m → TakenFrom text p (tokenAt text e q) (tokensAt text between q)
     by blank z = absurd (i (sym (number-here blank z)))
     by comments z = absurd (j (sym (number-here comments z)))
     by opens z =
-        rw (← at-opening text e q 2 (number-here opens z) n (width-here text q n v g) refl)
+        rw (← at-opening text e q isOpening (number-here opens z) n (width-here text q n v g) refl)
         record {
           others = tokensAt text between (q + n);
           next = o ∙ opening-move (take n (drop q text)) v (charsAt text (q + n)) z;
@@ -162,7 +162,7 @@ module _ (text : List ℕ) where
           moved = omega (arith, found-steps text q n v g);
         }
     by closes z =
-        rw (← at-closing text e q 3 (number-here closes z) n (width-here text q n v g) refl)
+        rw (← at-closing text e q isClosing (number-here closes z) n (width-here text q n v g) refl)
         record {
           others = tokensAt text between (q + n);
           next = o ∙ closing-move (take n (drop q text)) v (charsAt text (q + n)) z;
@@ -173,7 +173,7 @@ module _ (text : List ℕ) where
     by ordinary z =
         let a = past-atom text (length text) q q e (omega arith) (omega arith) (on n v k d g c) in
         let m = number-here ordinary z in
-        rw (← at-atom text e q 0 m (atomEnd (suc (length text)) text e q) refl refl)
+        rw (← at-atom text e q isOrdinary m (atomEnd (suc (length text)) text e q) refl refl)
         record {
           others = tokensAt text between (atomEnd (suc (length text)) text e q);
           next =
@@ -193,14 +193,10 @@ module _ (text : List ℕ) where
           };
         }
 
-  reached-le : {e p q : ℕ} → Reached text e p q → q ≤ e
-  reached-le (at-line-end x y z) = omega arith
-  reached-le (at-token c h y i j z) = omega arith
-
   -- A scan from a place that the reader reached.
   scanned-takes : (f p e q : ℕ) → Passed text e → length text - e ≤ f → e ≤ length text → Reached text e p q
-      → Takes text p (scannedOn (suc f) text e q) (tokensAt text between p)
-  unfolding Takes tokensFrom unended before
+      → TakenFrom text p (scannedOn (suc f) text e q) (tokensAt text between p)
+  unfolding TakenFrom tokensFrom unended before
   scanned-takes zero p e q w l m (at-token c h y i j z) = rw (scan-token text e q zero h, z) (token-takes p q e w y c h i j)
   scanned-takes (suc f) p e q w l m (at-token c h y i j z) = rw (scan-token text e q (suc f) h, z) (token-takes p q e w y c h i j)
   scanned-takes zero p e q w l m (at-line-end x y z) =
@@ -227,7 +223,7 @@ module _ (text : List ℕ) where
       (z ∙ ap (λ (t : Stream Char). tokensFrom between t) (at-end text q (ltb-false _ _ h))))
 
   scan-takes : (p e : ℕ) → Passed text e → (p ≡ e) ⊎ Clean text p e → e ≤ length text
-      → Takes text p (scanned (suc (length text)) text e p) (tokensAt text between p)
+      → TakenFrom text p (scanned (suc (length text)) text e p) (tokensAt text between p)
   unfolding scanned
   scan-takes p e w (inl x) m =
       scanned-takes (length text) p e (blanks (suc (length text)) text e p) w (omega arith) m
@@ -239,8 +235,8 @@ module _ (text : List ℕ) where
   -- `token` takes the first of the tokens before which the reader stands.
   takes-by : (r : Reader) (a : Ahead) (s : Stream horn.Token) → (r .at ≡ r .end) ⊎ Clean text (r .at) (r .end) → r .end ≤ length text
       → Passed text (r .end) → HeldMoved text a (r .at) → s ≡ withAhead text a (tokensAt text between (r .at))
-      → Takes text (placeOf a (r .at)) (takenBy text r a) s
-  unfolding takenBy withAhead HeldMoved placeOf Takes
+      → TakenFrom text (placeOf a (r .at)) (takenBy text r a) s
+  unfolding takenBy withAhead HeldMoved placeOf TakenFrom
   takes-by r Nothing s l m w h e = rw e (scan-takes (r .at) (r .end) w l m)
   takes-by r (Held t) s l m w h e =
       record {
@@ -251,7 +247,7 @@ module _ (text : List ℕ) where
         moved = h;
       }
 
-  pub token-law : (r : Reader) (s : Stream horn.Token) → Stands text r s → Takes text (place r) (taken text r) s
+  pub token-law : (r : Reader) (s : Stream horn.Token) → Stands text r s → TakenFrom text (place r) (taken text r) s
   unfolding place taken
   token-law r s st = takes-by r (r .ahead) s (st .line) (st .inside) (st .passed) (st .held) (st .stream)
 
@@ -262,8 +258,8 @@ module _ (text : List ℕ) where
   start-moved p (Atom a b) e h =
       record { from = omega arith; some = h .some; to = h .to; begins = h .begins; stops = h .stops }
 
-  holding-sees : (p : ℕ) (a : Answer) (s : Stream horn.Token) → Takes text p a s → Sees text p (holding a) s
-  unfolding Takes Sees holding withAhead HeldMoved
+  holding-sees : (p : ℕ) (a : Answer) (s : Stream horn.Token) → TakenFrom text p a s → SeenFrom text p (holding a) s
+  unfolding TakenFrom SeenFrom holding withAhead HeldMoved
   holding-sees p (token t r) s k =
       let e : k .others ≡ tokensAt text between (r .at) = rw (k .cleared) at (k .stands .stream) in
       record {
@@ -286,14 +282,14 @@ module _ (text : List ℕ) where
   -- `peek` looks at it.
   sees-by : (r : Reader) (a : Ahead) (s : Stream horn.Token) → r .ahead ≡ a → Stands text r s
       → HeldMoved text a (r .at) → s ≡ withAhead text a (tokensAt text between (r .at))
-      → Sees text (placeOf a (r .at)) (peekedBy text r a) s
-  unfolding peekedBy withAhead HeldMoved placeOf Sees
+      → SeenFrom text (placeOf a (r .at)) (peekedBy text r a) s
+  unfolding peekedBy withAhead HeldMoved placeOf SeenFrom
   sees-by r Nothing s i st h e =
       holding-sees (r .at) (scanned (suc (length text)) text (r .end) (r .at)) s
       (rw e (scan-takes (r .at) (r .end) (st .passed) (st .line) (st .inside)))
   sees-by r (Held t) s i st h e =
       record { others = tokensAt text between (r .at); next = e; stands = st; holds = i; moved = h }
 
-  pub peek-law : (r : Reader) (s : Stream horn.Token) → Stands text r s → Sees text (place r) (peeked text r) s
+  pub peek-law : (r : Reader) (s : Stream horn.Token) → Stands text r s → SeenFrom text (place r) (peeked text r) s
   unfolding place peeked
   peek-law r s st = sees-by r (r .ahead) s refl st (st .held) (st .stream)

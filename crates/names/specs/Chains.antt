@@ -7,6 +7,7 @@ use mathlib.Core.Option.{Option, none, some}
 use lib.Dec.{eqb, ltb}
 use lib.ListN.{getD, set}
 use Rattle.words.specs.Parts.{part, sameBytes}
+use Rattle.words.specs.Sums.{low32}
 use Rattle.names.specs.declared.Found.{Found}
 use Rattle.names.specs.declared.Found.the-variants.{At, Nothing}
 
@@ -60,4 +61,4 @@ linked area place e start end = set (set (set (set area e start) (e + 1) end) (e
 -- The area with one more entry, at e. Words hold the low 32 bits of a place in a text.
 unfoldable pub added : List ℕ → ℕ → ℕ → ℕ → List ℕ → ℕ → ℕ → List ℕ
 added area buckets count e text start end =
-    linked area (buckets + bucketOf count (part start end text)) e (start % 4294967296) (end % 4294967296)
+    linked area (buckets + bucketOf count (part start end text)) e (low32 start) (low32 end)

@@ -103,8 +103,8 @@ pub fn add(
     let name = words::bytes_part(text, start, end);
     let place = bucket(buckets, count, name);
     let last = words::at(area, place);
-    words::put(area, e as usize, (start % 4294967296) as u32);
-    words::put(area, e as usize + 1, (end % 4294967296) as u32);
+    words::put(area, e as usize, words::low(start));
+    words::put(area, e as usize + 1, words::low(end));
     words::put(area, e as usize + 2, last);
     words::put(area, place, e);
 }

@@ -92,7 +92,7 @@ pub kept-large : (n : ℕ) → 4294967295 ≤ n → 4294967295 ≡ saturated n
 unfolding saturated
 kept-large n h = rw (le-ltb _ _ h, saturated)
 
--- A reference is never cut: among fewer than 2 to the 32 steps, the saturated number has the same step, or none.
+-- For a reader: a reference is never cut. Among fewer than 2 to the 32 steps, the saturated number has the same step, or none.
 pub never-cut : {A : Type 0} (xs : List A) (n : ℕ) → length xs ≤ 4294967295 → getElem? xs (saturated n) ≡ getElem? xs n
 never-cut xs n h =
     case (ltb n 4294967295)

@@ -10,7 +10,7 @@ pub enum Number {
     Nothing,
 }
 
-// All digits of a name from place i on. A number of 2 to the 64 or more is none, whatever follows, so that no sum overflows.
+// All digits of a name from a place on. A number of 2 to the 64 or more is none, whatever follows, so that no sum overflows.
 fn digits(name: &[u8], from: usize) -> Number
     ensures { λ r. ⌜ read r ≡ digitsFrom (now (name .entry)) from ⌝ }
 {

@@ -1,4 +1,4 @@
--- "30 comes only from the program": the line that the program prints.
+-- The line that the program prints for a report.
 use Prim.Native.Nat.{ℕ, _+_}
 use mathlib.Core.List.{List, [], _∷_, _++_}
 use lib.ListN.{set}
@@ -9,7 +9,7 @@ use Rattle.horn.specs.Layout.{plain}
 unfoldable pub field : ℕ → ℕ → List ℕ
 field n end = plain n ++ (end ∷ [])
 
--- "Prints number, steps, goals, terms, bytes, parted by tabs, ended by 0A."
+-- It "prints number, steps, goals, terms, bytes, parted by tabs, ended by 0A".
 unfoldable pub line : Report → List ℕ
 line r =
     field (r .number) 0x09

@@ -1,20 +1,11 @@
 // The line of the program: "number, steps, goals, terms, bytes, parted by tabs, ended by 0A".
 ghost use Prim.Native.Nat.{_≤_};
 ghost use mathlib.Core.Path.{_≡_};
-ghost use lib.ListN.{length, set, take};
+ghost use lib.ListN.{length, take};
 ghost use Rattle.horn.specs.Calls.{report};
 ghost use Rattle.io.specs.Counts.{Counts};
 ghost use Rattle.report_line.specs.Lines as lines;
 ghost use Rattle.report_line.specs.Lines.{written};
-
-// Sets the byte at a place, and nothing outside.
-fn put(out: &mut [u8], i: usize, b: u8)
-    ensures { λ r. ⌜ now (out .exit) ≡ set (now (out .entry)) i b ⌝ }
-{
-    if i < out.len() {
-        out[i] = b;
-    }
-}
 
 // Puts the bytes of a text from a place on.
 fn push(out: &mut [u8], at: u32, text: &[u8])
@@ -23,7 +14,7 @@ fn push(out: &mut [u8], at: u32, text: &[u8])
     let from = at as usize;
     let mut i: usize = 0;
     while i < text.len() {
-        put(out, from + i, text[i]);
+        words::put_byte(out, from + i, text[i]);
         i += 1;
     }
 }
@@ -37,7 +28,7 @@ fn field(out: &mut [u8], at: u32, n: u32, end: u8) -> u32
     let mut text = [0u8; 20];
     let k = io::decimal(n as u64, &mut text);
     push(out, at, &text[..k]);
-    put(out, at as usize + k, end);
+    words::put_byte(out, at as usize + k, end);
     k as u32 + 1
 }
 

@@ -12,7 +12,7 @@ use Rattle.horn.specs.Tokens.{Stream, _▹_, before, Token, opening, closing, a
 use Rattle.horn.specs.Tokens.{kind, Kind, blank, opens, closes, comments, ordinary, white, whiteRanges, inSome}
 use Rattle.horn.specs.Tokens.{Place, between, inComment, inAtom, begins, continues, move, unended, tokensFrom}
 use Rattle.words.specs.Parts.{part}
-use Rattle.utf8.specs.Classes.{kindNumber}
+use Rattle.utf8.specs.Classes.{isOrdinary, isWhite, isComment, kindNumber}
 use Rattle.utf8.specs.Characters.{found, first, width, kindAt}
 use Rattle.scanning.specs.Scan.{blanks, atomEnd}
 use Rattle.horn.proofs.Equality.{case}
@@ -80,7 +80,7 @@ module _ (text : List ℕ) where
       rw (over-char text p n v e h d f c)
       (in-comment-move (take n (drop p text)) v (charsAt text (p + n)) (value-inner text p n v e h d f c) ∙ past-comment c)
 
-kind-blank : (k : Kind) → kindNumber k ≡ 1 → k ≡ blank
+kind-blank : (k : Kind) → kindNumber k ≡ isWhite → k ≡ blank
 unfolding kindNumber
 kind-blank blank e = refl
 kind-blank ordinary e = absurd (omega arith)
@@ -88,7 +88,7 @@ kind-blank opens e = absurd (omega arith)
 kind-blank closes e = absurd (omega arith)
 kind-blank comments e = absurd (omega arith)
 
-kind-comments : (k : Kind) → kindNumber k ≡ 4 → k ≡ comments
+kind-comments : (k : Kind) → kindNumber k ≡ isComment → k ≡ comments
 unfolding kindNumber
 kind-comments comments e = refl
 kind-comments ordinary e = absurd (omega arith)
@@ -96,7 +96,7 @@ kind-comments opens e = absurd (omega arith)
 kind-comments closes e = absurd (omega arith)
 kind-comments blank e = absurd (omega arith)
 
-pub kind-ordinary : (k : Kind) → kindNumber k ≡ 0 → k ≡ ordinary
+pub kind-ordinary : (k : Kind) → kindNumber k ≡ isOrdinary → k ≡ ordinary
 unfolding kindNumber
 kind-ordinary ordinary e = refl
 kind-ordinary comments e = absurd (omega arith)
@@ -104,7 +104,7 @@ kind-ordinary opens e = absurd (omega arith)
 kind-ordinary closes e = absurd (omega arith)
 kind-ordinary blank e = absurd (omega arith)
 
-ordinary-kind : (k : Kind) → k ≡ ordinary → kindNumber k ≡ 0
+ordinary-kind : (k : Kind) → k ≡ ordinary → kindNumber k ≡ isOrdinary
 unfolding kindNumber
 ordinary-kind k e = rw e
 
@@ -119,7 +119,7 @@ module _ (text : List ℕ) (p n v : ℕ) (f : first (drop p text) ≡ found n v)
   width-here = rw f
 
 pub newline-kind : (text : List ℕ) (p : ℕ) → p < length text → getD text p 0 ≡ 0x0A
-    → (1 ≡ kindAt (first (drop p text))) × (1 ≡ width (first (drop p text)))
+    → (isWhite ≡ kindAt (first (drop p text))) × (1 ≡ width (first (drop p text)))
 unfolding kindAt width kindNumber kind white whiteRanges inSome within
 newline-kind text p h b =
     let e : first (drop p text) ≡ found 1 0x0A = ap first (at-newline text p h b) ∙ first-newline (drop (p + 1) text) in
@@ -132,7 +132,7 @@ newline-blank = refl
 -- Past white space and comments: at the line's end, or at a character that is neither.
 pub data Reached (text : List ℕ) (e p q : ℕ) : Type 0 where
   at-line-end : q ≡ e → p ≤ q → tokensAt text between p ≡ tokensAt text between q → Reached text e p q
-  at-token : Clean text q e → q < e → p ≤ q → (kindAt (first (drop q text)) ≡ 1 → ⊥) → (kindAt (first (drop q text)) ≡ 4 → ⊥)
+  at-token : Clean text q e → q < e → p ≤ q → (kindAt (first (drop q text)) ≡ isWhite → ⊥) → (kindAt (first (drop q text)) ≡ isComment → ⊥)
       → tokensAt text between p ≡ tokensAt text between q → Reached text e p q
 
 pub step-reached : (text : List ℕ) (e p m q : ℕ) → p ≤ m → tokensAt text between p ≡ tokensAt text between m → Reached text e m q → Reached text e p q
@@ -153,7 +153,7 @@ module _ (text : List ℕ) where
   past-blanks zero p e l (on n v h d g c) = absurd (omega arith)
   past-blanks (suc f) p e l (newline h b q) =
       let k = newline-kind text p h b in
-      rw (blank-step text e p 1 (k .0) (omega arith) 1 (k .1) (suc f) refl, blank-over text e (p + 1) f (omega arith))
+      rw (blank-step text e p isWhite (k .0) (omega arith) 1 (k .1) (suc f) refl, blank-over text e (p + 1) f (omega arith))
       (at-line-end q (omega arith)
       (ap (λ (s : Stream Char). tokensFrom between s) (over-newline text p h b)
       ∙ blank-move (0x0A ∷ []) 0x0A (charsAt text (p + 1)) newline-blank))
@@ -163,13 +163,13 @@ module _ (text : List ℕ) where
       let k = kind-here text p n v g in
       let o : tokensAt text between p ≡ tokensFrom between (char (take n (drop p text)) v ▹ charsAt text (p + n)) =
       ap (λ (s : Stream Char). tokensFrom between s) (over-char text p n v e h d g c) in
-      case (eqb (kindNumber (kind v)) 1)
+      case (eqb (kindNumber (kind v)) isWhite)
       (λ t.
       rw (blank-step text e p (kindNumber (kind v)) k i n (width-here text p n v g) (suc f) (eqb-true _ _ t))
       (step-reached text e p (p + n) (blanks (suc f) text e (p + n)) (omega arith)
       (o ∙ blank-move (take n (drop p text)) v (charsAt text (p + n)) (kind-blank (kind v) (eqb-true _ _ t)))
       (past-blanks f (p + n) e (omega arith) c)))
-      (λ t. case (eqb (kindNumber (kind v)) 4)
+      (λ t. case (eqb (kindNumber (kind v)) isComment)
       (λ u.
       rw (comment-stop text e p (kindNumber (kind v)) k i (suc f) (eqb-true _ _ u))
       (at-line-end refl (omega arith)
@@ -191,7 +191,7 @@ module _ (text : List ℕ) where
   pub record Atomic (s p q e : ℕ) : Type 0 where
     pub clean : Clean text q e
     pub after : p ≤ q
-    pub stops : q < length text → kindAt (first (drop q text)) ≡ 0 → ⊥
+    pub stops : q < length text → kindAt (first (drop q text)) ≡ isOrdinary → ⊥
     pub reads : tokensAt text (inAtom (part s p text)) p ≡ atom (part s q text) ▹ tokensAt text between q
 
   pub past-atom : (f s p e : ℕ) → length text - p ≤ f → s ≤ p → Clean text p e → Atomic s p (atomEnd (suc f) text e p) e
@@ -206,7 +206,7 @@ module _ (text : List ℕ) where
       }
   past-atom f s p e l m (newline h b q) =
       let k = newline-kind text p h b in
-      rw (atom-stop text e p 1 (k .0) (omega arith) f (λ z. omega arith))
+      rw (atom-stop text e p isWhite (k .0) (omega arith) f (λ z. omega arith))
       record {
         clean = newline h b q;
         after = omega arith;
@@ -221,7 +221,7 @@ module _ (text : List ℕ) where
       let t = found-steps text p n v g in
       let k = kind-here text p n v g in
       let o = over-char text p n v e h d g c in
-      case (eqb (kindNumber (kind v)) 0)
+      case (eqb (kindNumber (kind v)) isOrdinary)
       (λ y.
       let j = past-atom f s (p + n) e (omega arith) (omega arith) c in
       rw (atom-step text e p (kindNumber (kind v)) k i n (width-here text p n v g) (suc f) (eqb-true _ _ y))

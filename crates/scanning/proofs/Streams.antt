@@ -13,6 +13,8 @@ use Rattle.horn.specs.Tokens.{Stream, bad, _▹_, before, ontoFirstLine, lines,
 use Rattle.utf8.specs.Characters.{First, broken, found, oneMore, rest, first}
 use Rattle.utf8.proofs.Table.{and-left, and-right}
 use Rattle.horn.proofs.Equality.{case}
+use Rattle.horn.proofs.Inversion.{case-option}
+use Rattle.horn.proofs.CompleteUtf8.{resumed-done}
 
 -- The first line and the others.
 topLine : List (List ℕ) → List ℕ
@@ -105,21 +107,6 @@ unfolding oneMore
 more-broken broken e = refl
 more-broken (found k v) e = let z : _≡_ {A = ℕ} 0 1 = cc in absurd (omega arith)
 
--- A whole character, with what follows it on its line.
-ended-char : (taken : List ℕ) (v : ℕ) (l : List ℕ) → resumed taken v [] l ≡ Option·map (λ cs. char taken v ∷ cs) (decoded l)
-unfolding resumed decoded
-ended-char taken v [] = refl
-ended-char taken v (b ∷ bs) = by (startedBy b sequences) where
-  by : (o : Option Sequence)
-      → elim o [
-        | none ↦ none
-        | some (sequence r mark rs) ↦ Option·map (λ cs. char taken v ∷ cs) (resumed (b ∷ []) (b - mark) rs bs)
-      ]
-      ≡ Option·map (λ cs. char taken v ∷ cs)
-      (elim o [ none ↦ none | some (sequence r mark rs) ↦ resumed (b ∷ []) (b - mark) rs bs ])
-  by none = refl
-  by (some (sequence r mark rs)) = refl
-
 -- The rest of a character: it lies on one line, and the definition reads it.
 record Run (v : ℕ) (rs : List Range) (bs : List ℕ) (m w : ℕ) : Type 0 where
   top : topLine (lines bs) ≡ take m bs ++ topLine (lines (drop m bs))
@@ -136,7 +123,7 @@ run v [] bs m w h e =
     record {
       top = refl;
       others = refl;
-      reads = λ taken l. rw (append-nil taken) (ended-char taken v l);
+      reads = λ taken l. rw (append-nil taken) (resumed-done taken v l);
       grows = omega arith;
     }
 run v (r ∷ rs) [] m w h e = let z : _≡_ {A = ℕ} 0 1 = cc in absurd (omega arith)
@@ -205,31 +192,28 @@ value-above b f g mark lo hi v n w rs (x ∷ bs) t s e =
     let z : _≡_ {A = ℕ} 0 1 = cc in
     absurd (omega arith))
 
-option : {A C : Type 0} (o : Option A) → (o ≡ none → C) → ((a : A) → o ≡ some a → C) → C
-option none f g = f refl
-option (some a) f g = g a refl
-
 fit-high : (r : Range) (mark : ℕ) (rs : List Range) → T (fit (sequence r mark rs)) → T (high rs)
 unfolding fit high
 fit-high (range f g) mark [] t = tt
 fit-high (range f g) mark (range lo hi ∷ rs) t =
     and-right (ltb 0x0A ((f - mark) * 0x40 + (lo - 0x80))) (high (range lo hi ∷ rs)) t
 
-value-inner : (b : ℕ) (r : Range) (mark : ℕ) (rs : List Range) (bs : List ℕ) (n w : ℕ) → (b ≡ 0x0A → ⊥)
+-- A character that begins with a byte other than 0A is not 0A.
+started-inner : (b : ℕ) (r : Range) (mark : ℕ) (rs : List Range) (bs : List ℕ) (n w : ℕ) → (b ≡ 0x0A → ⊥)
     → T (fit (sequence r mark rs)) → within r b ≡ true → rest (b - mark) rs bs ≡ found n w → w ≡ 0x0A → ⊥
 unfolding rest fit
-value-inner b (range f g) mark [] bs n w d t s e z =
+started-inner b (range f g) mark [] bs n w d t s e z =
     let m = eqb→eq mark 0 t in
     let v : b - mark ≡ w = cc in
     d (omega arith)
-value-inner b (range f g) mark (range lo hi ∷ rs) bs n w d t s e z =
+started-inner b (range f g) mark (range lo hi ∷ rs) bs n w d t s e z =
     let h = value-above b f g mark lo hi w n w rs bs t s e in omega arith
 
 head : (bs : List ℕ) (n v : ℕ) → 0 < length bs → (getD bs 0 0 ≡ 0x0A → ⊥) → first bs ≡ found n v → Head bs n v
 unfolding first decoded starts
 head [] n v h d e = absurd (omega arith)
 head (b ∷ bs) n v h d e =
-    option (startedBy b sequences)
+    case-option (startedBy b sequences)
     (λ o.
     let g : broken ≡ found n v = rw (o, first) at e in
     let z : _≡_ {A = ℕ} 0 1 = cc in
@@ -247,7 +231,7 @@ head (b ∷ bs) n v h d e =
               ap decoded (top-on b bs d ∙ ap (λ (x : List ℕ). b ∷ x) (i .top))
               ∙ rw (o, decoded) (i .reads (b ∷ []) (topLine (lines (drop (m .0) bs))));
           others = others-on b bs d ∙ i .others;
-          inner = value-inner b r mark rs bs (m .0) v d (t .0) (t .1) (m .1 .1);
+          inner = started-inner b r mark rs bs (m .0) v d (t .0) (t .1) (m .1 .1);
         }
 
 pub first-newline : (bs : List ℕ) → first (0x0A ∷ bs) ≡ found 1 0x0A
@@ -274,7 +258,7 @@ head-broken (b ∷ bs) h e =
     absurd (omega arith))
     (λ y.
     let d : b ≡ 0x0A → ⊥ = eqb-false b 0x0A y in
-    ap decoded (top-on b bs d) ∙ option (startedBy b sequences) (λ o. rw (o, decoded)) (λ s o. by s o))
+    ap decoded (top-on b bs d) ∙ case-option (startedBy b sequences) (λ o. rw (o, decoded)) (λ s o. by s o))
   where
     by : (s : Sequence) → startedBy b sequences ≡ some s → decoded (b ∷ topLine (lines bs)) ≡ none
     by (sequence r mark rs) o =

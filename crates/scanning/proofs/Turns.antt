@@ -5,6 +5,7 @@ use Prim.Native.Nat.{ℕ, zero, suc, _+_, _-_, _≤_, _<_}
 use native.Mathlib.Omega.{arith}
 use borrow.Author.Tests.{lt-ltb, le-ltb, eq-eqb, ne-eqb}
 use lib.ListN.{length, getD, drop}
+use Rattle.utf8.specs.Classes.{isOrdinary, isWhite, isComment}
 use Rattle.utf8.specs.Characters.{first, width, kindAt}
 use Rattle.utf8.proofs.Looks.{kind-steps, width-steps}
 use Rattle.scanning.specs.Scan.{stopped, blanks, atomEnd, lineEnd}
@@ -12,39 +13,39 @@ use Rattle.scanning.specs.declared.Line.the-variants.{Good, Bad}
 
 -- The scans of white space and of an atom: a stop, and a turn over one character.
 module _ (text : List ℕ) (end q k : ℕ) (ek : k ≡ kindAt (first (drop q text))) (h : q < end) where
-  pub atom-stop : (f : ℕ) → (k ≡ 0 → ⊥) → atomEnd (suc f) text end q ≡ q
+  pub atom-stop : (f : ℕ) → (k ≡ isOrdinary → ⊥) → atomEnd (suc f) text end q ≡ q
   unfolding atomEnd
-  atom-stop f d = rw (lt-ltb q end h, ← ek, ne-eqb k 0 d, atomEnd)
+  atom-stop f d = rw (lt-ltb q end h, ← ek, ne-eqb k isOrdinary d, atomEnd)
 
-  pub blank-stop : (f : ℕ) → (k ≡ 4 → ⊥) → (k ≡ 1 → ⊥) → blanks (suc f) text end q ≡ q
+  pub blank-stop : (f : ℕ) → (k ≡ isComment → ⊥) → (k ≡ isWhite → ⊥) → blanks (suc f) text end q ≡ q
   unfolding blanks
-  blank-stop f d e = rw (lt-ltb q end h, ← ek, ne-eqb k 1 e, ← ek, ne-eqb k 4 d, blanks)
+  blank-stop f d e = rw (lt-ltb q end h, ← ek, ne-eqb k isWhite e, ← ek, ne-eqb k isComment d, blanks)
 
-  pub blank-stopped : (f : ℕ) → (k ≡ 1 → ⊥) → blanks (suc f) text end q ≡ stopped k end q
+  pub blank-stopped : (f : ℕ) → (k ≡ isWhite → ⊥) → blanks (suc f) text end q ≡ stopped k end q
   unfolding blanks stopped
-  blank-stopped f e = rw (lt-ltb q end h, ← ek, ne-eqb k 1 e, ← ek, blanks)
+  blank-stopped f e = rw (lt-ltb q end h, ← ek, ne-eqb k isWhite e, ← ek, blanks)
 
-  pub comment-stop : (f : ℕ) → k ≡ 4 → blanks (suc f) text end q ≡ end
+  pub comment-stop : (f : ℕ) → k ≡ isComment → blanks (suc f) text end q ≡ end
   unfolding blanks
-  comment-stop f e = rw (lt-ltb q end h, ← ek, ne-eqb k 1 (λ z. omega arith), ← ek, eq-eqb k 4 e, blanks)
+  comment-stop f e = rw (lt-ltb q end h, ← ek, ne-eqb k isWhite (λ z. omega arith), ← ek, eq-eqb k isComment e, blanks)
 
   module _ (n : ℕ) (en : n ≡ width (first (drop q text))) where
-    pub atom-step : (f : ℕ) → k ≡ 0 → atomEnd (suc f) text end q ≡ atomEnd f text end (q + n)
+    pub atom-step : (f : ℕ) → k ≡ isOrdinary → atomEnd (suc f) text end q ≡ atomEnd f text end (q + n)
     unfolding atomEnd
     atom-step f e = rw (en, lt-ltb q end h, ← ek, e, atomEnd)
 
-    pub atom-on : (f : ℕ) → length text - q ≤ f → k ≡ 0
+    pub atom-on : (f : ℕ) → length text - q ≤ f → k ≡ isOrdinary
         → (g : ℕ) × ((length text - (q + n) ≤ g) × (atomEnd (suc f) text end q ≡ atomEnd (suc g) text end (q + n)))
     atom-on zero l e = let s = kind-steps text q n en k ek (λ z. omega arith) in absurd (omega arith)
     atom-on (suc g) l e =
         let s = kind-steps text q n en k ek (λ z. omega arith) in
         (g, (omega arith, atom-step (suc g) e))
 
-    pub blank-step : (f : ℕ) → k ≡ 1 → blanks (suc f) text end q ≡ blanks f text end (q + n)
+    pub blank-step : (f : ℕ) → k ≡ isWhite → blanks (suc f) text end q ≡ blanks f text end (q + n)
     unfolding blanks
     blank-step f e = rw (en, lt-ltb q end h, ← ek, e, blanks)
 
-    pub blank-on : (f : ℕ) → length text - q ≤ f → k ≡ 1
+    pub blank-on : (f : ℕ) → length text - q ≤ f → k ≡ isWhite
         → (g : ℕ) × ((length text - (q + n) ≤ g) × (blanks (suc f) text end q ≡ blanks (suc g) text end (q + n)))
     blank-on zero l e = let s = kind-steps text q n en k ek (λ z. omega arith) in absurd (omega arith)
     blank-on (suc g) l e =

@@ -12,7 +12,7 @@ use Rattle.scanning.specs.declared.Line.the-variants.{Good, Bad}
 
 -- Where white space ends at a character of another kind: a comment runs to the end of its line.
 unfoldable pub stopped : ℕ → ℕ → ℕ → ℕ
-stopped k end p = elim (eqb k 4) [ true ↦ end | false ↦ p ]
+stopped k end p = elim (eqb k isComment) [ true ↦ end | false ↦ p ]
 
 -- Past white space and comments, within a line that ends at `end`.
 unfoldable pub blanks : ℕ → List ℕ → ℕ → ℕ → ℕ

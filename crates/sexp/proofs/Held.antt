@@ -7,26 +7,26 @@ use native.Mathlib.Nat.{mod-eq-of-lt}
 use lib.ListN.{length, getD, set, take, length-set, length-append}
 use lib.Seq.{getD-set-same, getD-set-other, getD-take, take-set-lt, take-set-le, take-suc-set}
 use Rattle.sexp.specs.declared.Place.{Place}
-use Rattle.sexp.specs.Walk.{place, counted, memberAdded, listOpened}
+use Rattle.sexp.specs.Walk.{deepest, openLists, beforeOpen, place, counted, memberAdded, listOpened}
 use Rattle.sexp.proofs.Counting.{bump, memberOf, length-member, Below, below-more}
 use Rattle.sexp.proofs.Paths.{no-member, a-member}
 
 -- The lists that are open, innermost first, stand downwards from where the innermost stands.
 unfoldable pub Stacked : List ℕ → List ℕ → Type 0
 Stacked area [] = Unit {0}
-Stacked area (i ∷ is) = (getD area (8_192 + length is) 0 ≡ i) × Stacked area is
+Stacked area (i ∷ is) = (getD area (openLists + length is) 0 ≡ i) × Stacked area is
 
-stacked-below : (area is : List ℕ) (j v : ℕ) → j < 8_192 → Stacked area is → Stacked (set area j v) is
+stacked-below : (area is : List ℕ) (j v : ℕ) → j < openLists → Stacked area is → Stacked (set area j v) is
 unfolding Stacked
 stacked-below area [] j v h s = tt
 stacked-below area (i ∷ is) j v h s =
-    (getD-set-other area j (8_192 + length is) v 0 (λ e. omega (arith, e, h)) ∙ s .0, stacked-below area is j v h (s .1))
+    (getD-set-other area j (openLists + length is) v 0 (λ e. omega (arith, e, h)) ∙ s .0, stacked-below area is j v h (s .1))
 
-stacked-above : (area is : List ℕ) (j v : ℕ) → 8_192 + length is ≤ j → Stacked area is → Stacked (set area j v) is
+stacked-above : (area is : List ℕ) (j v : ℕ) → openLists + length is ≤ j → Stacked area is → Stacked (set area j v) is
 unfolding Stacked
 stacked-above area [] j v h s = tt
 stacked-above area (i ∷ is) j v h s =
-    (getD-set-other area j (8_192 + length is) v 0 (λ e. omega (arith, e, h)) ∙ s .0, stacked-above area is j v (omega (arith, h)) (s .1))
+    (getD-set-other area j (openLists + length is) v 0 (λ e. omega (arith, e, h)) ∙ s .0, stacked-above area is j v (omega (arith, h)) (s .1))
 
 -- `left` tokens are still to come: every table and every count has room for them.
 pub record Held (is cs : List ℕ) (left : ℕ) (p : Place) (area : List ℕ) : Type 0 where
@@ -35,7 +35,7 @@ pub record Held (is cs : List ℕ) (left : ℕ) (p : Place) (area : List ℕ) : 
   pub kept : take (length cs) area ≡ cs
   pub stacked : Stacked area is
   pub below : Below (length cs) is
-  pub room : length cs + left ≤ 8_192
+  pub room : length cs + left ≤ openLists
   pub small : (k : ℕ) → getD cs k 0 + left ≤ 8_192
   pub long : 16_384 ≤ length area
 
@@ -75,7 +75,7 @@ length-counted : (area : List ℕ) (i : ℕ) → length (counted area i) ≡ len
 unfolding counted
 length-counted area i = length-set area i _
 
-stacked-counted : (area is : List ℕ) (i : ℕ) → i < 8_192 → Stacked area is → Stacked (counted area i) is
+stacked-counted : (area is : List ℕ) (i : ℕ) → i < openLists → Stacked area is → Stacked (counted area i) is
 unfolding counted
 stacked-counted area is i h s = stacked-below area is i _ h s
 
@@ -84,7 +84,7 @@ module _ {is cs : List ℕ} {left : ℕ} {p : Place} {area : List ℕ} (h : Held
   fewer : (k : ℕ) → getD cs k 0 + left ≤ 8_192
   fewer k = let s = h .small k in omega arith
 
-  member-room : length (memberOf is cs) + left ≤ 8_192
+  member-room : length (memberOf is cs) + left ≤ openLists
   member-room = let e = length-member is cs in let r = h .room in omega arith
 
   member-counts : (k : ℕ) → getD (memberOf is cs) k 0 + left ≤ 8_192
@@ -97,7 +97,7 @@ unfolding Stacked
 innermost-counted is cs left p area h =
     let d = h .depth in
     a-member (p .depth) area (λ e. omega (arith, d, e))
-    ∙ ap (counted area) (ap (λ (n : ℕ). getD area n 0) (let z : 8_191 + p .depth ≡ 8_192 + length is = omega arith in z) ∙ h .stacked .0)
+    ∙ ap (counted area) (ap (λ (n : ℕ). getD area n 0) (let z : beforeOpen + p .depth ≡ openLists + length is = omega arith in z) ∙ h .stacked .0)
 
 innermost-below : {i : ℕ} (is cs : List ℕ) (left : ℕ) (p : Place) (area : List ℕ) → Held (i ∷ is) cs left p area → i < length cs
 unfolding Below
@@ -141,20 +141,20 @@ member-held (i ∷ is) cs left p area h =
       long = omega arith;
     }
 
-opened-kept : (cs area : List ℕ) (n d : ℕ) → length cs ≡ n → take (length cs) area ≡ cs → n < 8_192 → n < length area
-    → take (suc n) (set (set area n 0) (8_192 + d) n) ≡ cs ++ (0 ∷ [])
+opened-kept : (cs area : List ℕ) (n d : ℕ) → length cs ≡ n → take (length cs) area ≡ cs → n < openLists → n < length area
+    → take (suc n) (set (set area n 0) (openLists + d) n) ≡ cs ++ (0 ∷ [])
 opened-kept cs area n d e kept h k =
-    take-set-le (suc n) (set area n 0) (8_192 + d) n (omega (arith, h))
+    take-set-le (suc n) (set area n 0) (openLists + d) n (omega (arith, h))
     ∙ take-suc-set area n 0 k
     ∙ ap (λ (s : List ℕ). s ++ (0 ∷ [])) (ap (λ (m : ℕ). take m area) (sym e) ∙ kept)
 
-opened-innermost : (area : List ℕ) (n d v : ℕ) → d ≡ n → 8_192 + d < length area
-    → getD (set area (8_192 + d) v) (8_192 + n) 0 ≡ v
+opened-innermost : (area : List ℕ) (n d v : ℕ) → d ≡ n → openLists + d < length area
+    → getD (set area (openLists + d) v) (openLists + n) 0 ≡ v
 opened-innermost area n d v e h =
-    ap (λ (m : ℕ). getD (set area (8_192 + d) v) (8_192 + m) 0) (sym e) ∙ getD-set-same area (8_192 + d) v 0 h
+    ap (λ (m : ℕ). getD (set area (openLists + d) v) (openLists + m) 0) (sym e) ∙ getD-set-same area (openLists + d) v 0 h
 
 -- A list that is opened has no member yet, and is the innermost.
-pub opened-held : (is cs : List ℕ) (left : ℕ) (p : Place) (area : List ℕ) → p .depth ≤ 256 → Held is cs (suc left) p area
+pub opened-held : (is cs : List ℕ) (left : ℕ) (p : Place) (area : List ℕ) → p .depth ≤ deepest → Held is cs (suc left) p area
     → Held (length cs ∷ is) (memberOf is cs ++ (0 ∷ [])) left (place ((p .openings + 1) % 4_294_967_296) (p .depth + 1))
     (listOpened (p .openings) (p .depth) area)
 unfolding listOpened Stacked Below
@@ -167,7 +167,7 @@ opened-held is cs left p area deep h =
     let e : length (memberOf is cs ++ (0 ∷ [])) ≡ suc (length cs) = length-append (memberOf is cs) (0 ∷ []) ∙ (omega arith) in
     let l = g .long in
     let l₁ = length-set (memberAdded (p .depth) area) (p .openings) 0 in
-    let l₂ = length-set (set (memberAdded (p .depth) area) (p .openings) 0) (8_192 + p .depth) (p .openings) in
+    let l₂ = length-set (set (memberAdded (p .depth) area) (p .openings) 0) (openLists + p .depth) (p .openings) in
     record {
       openings = mod-eq-of-lt (omega arith) ∙ (let z : p .openings + 1 ≡ suc (length cs) = omega arith in z) ∙ sym e;
       depth = omega arith;
@@ -176,7 +176,7 @@ opened-held is cs left p area deep h =
           ∙ opened-kept (memberOf is cs) (memberAdded (p .depth) area) (p .openings) (p .depth) (omega arith) (g .kept) (omega arith) (omega arith);
       stacked = (
         opened-innermost (set (memberAdded (p .depth) area) (p .openings) 0) (length is) (p .depth) (p .openings) d (omega arith) ∙ n,
-        stacked-above (set (memberAdded (p .depth) area) (p .openings) 0) is (8_192 + p .depth) (p .openings) (omega arith)
+        stacked-above (set (memberAdded (p .depth) area) (p .openings) 0) is (openLists + p .depth) (p .openings) (omega arith)
             (stacked-below (memberAdded (p .depth) area) is (p .openings) 0 (omega arith) (g .stacked)),
       );
       below = rw e (omega arith, below-more (length cs) is (h .below));

@@ -13,7 +13,8 @@ use Rattle.lex.specs.declared.Reader.{Reader}
 use Rattle.sexp.specs.declared.Place.{Place}
 use Rattle.sexp.specs.declared.Step.{Step}
 use Rattle.sexp.specs.declared.Step.the-variants.{On, Refused}
-use Rattle.sexp.specs.Walk.{place, counted, memberAdded, listOpened, stepped, areaStepped, AnswerAndArea, goesOn, turn, walk, walked}
+use Rattle.sexp.specs.Walk.{deepest, openLists, turns, place, counted, memberAdded, listOpened}
+use Rattle.sexp.specs.Walk.{stepped, areaStepped, AnswerAndArea, goesOn, turn, walk, walked}
 
 abbrev Same : List ℕ → List ℕ → Type 0
 Same area left = length left ≡ length area
@@ -25,13 +26,13 @@ added-length d area = either (Same area) (eqb d 0) refl (length-set area _ _)
 opened-length : (n d : ℕ) (area : List ℕ) → Same area (listOpened n d area)
 unfolding listOpened
 opened-length n d area =
-    length-set (set (memberAdded d area) n 0) (8_192 + d) n ∙ length-set (memberAdded d area) n 0 ∙ added-length d area
+    length-set (set (memberAdded d area) n 0) (openLists + d) n ∙ length-set (memberAdded d area) n 0 ∙ added-length d area
 
 stepped-length : (t : Token) (p : Place) (area : List ℕ) → Same area (areaStepped t p area)
 unfolding areaStepped
 stepped-length Closing p area = refl
-stepped-length (Atom s e) p area = either (Same area) (ltb 256 (p .depth)) refl (added-length (p .depth) area)
-stepped-length Opening p area = either (Same area) (ltb 256 (p .depth)) refl (opened-length (p .openings) (p .depth) area)
+stepped-length (Atom s e) p area = either (Same area) (ltb deepest (p .depth)) refl (added-length (p .depth) area)
+stepped-length Opening p area = either (Same area) (ltb deepest (p .depth)) refl (opened-length (p .openings) (p .depth) area)
 
 went : (on : Reader → Place → List ℕ → AnswerAndArea) → ((r : Reader) (p : Place) (area : List ℕ) → Same area ((on r p area) .area))
     → (area : List ℕ) (r : Reader) (after : List ℕ) → Same area after → (s : Step) → Same area ((goesOn on r after s) .area)
@@ -53,4 +54,4 @@ walk-length (suc fuel) text r p area = turned (walk fuel text) (walk-length fuel
 
 pub walked-length : (text area : List ℕ) → length ((walked text area) .area) ≡ length area
 unfolding walked
-walked-length text area = walk-length 8_193 text lexed.start (place 0 0) area
+walked-length text area = walk-length turns text lexed.start (place 0 0) area

@@ -20,7 +20,7 @@ use Rattle.lex.proofs.Standing.{Stands}
 use Rattle.lex.proofs.Readers.{Takes, take-end, take-bad, take-opening, take-closing, take-atom, takes}
 use Rattle.sexp.specs.declared.Place.{Place}
 use Rattle.sexp.specs.declared.Step.the-variants.{On, Refused}
-use Rattle.sexp.specs.Walk.{whole, refused, AnswerAndArea, answering, stepped, areaStepped, endedAt, goesOn, turn, walk}
+use Rattle.sexp.specs.Walk.{deepest, whole, refused, AnswerAndArea, answering, stepped, areaStepped, endedAt, goesOn, turn, walk}
 use Rattle.sexp.proofs.Counting.{counting, memberOf}
 use Rattle.sexp.proofs.Held.{Held, member-held, opened-held, closed-held}
 use Rattle.sexp.proofs.Paths.{end-top, end-deep, end-open, closing-top, closing-on, opening-deep, opening-on, atom-deep, atom-on}
@@ -35,17 +35,17 @@ agrees-by : {l l′ : AnswerAndArea} {m m′ : Result (List ℕ)} → l ≡ l′
 agrees-by {l} {l′} {m} {m′} e f a = subst (λ (x : AnswerAndArea). Agrees x m) (sym e) (subst (λ (x : Result (List ℕ)). Agrees l′ x) (sym f) a)
 
 -- Asking for an item.
-asked : {A : Type 0} (d : ℕ) (f : Unit {0} → Result A) → d ≤ 256 → (askedAt d >>= f) ≡ f tt
+asked : {A : Type 0} (d : ℕ) (f : Unit {0} → Result A) → d ≤ deepest → (askedAt d >>= f) ≡ f tt
 unfolding askedAt need _>>=_
-asked d f h = rw (le-leb d 256 h, askedAt)
+asked d f h = rw (le-leb d deepest h, askedAt)
 
-too-deep : {A : Type 0} (d : ℕ) (f : Unit {0} → Result A) → 256 < d → (askedAt d >>= f) ≡ refusals.refused nesting
+too-deep : {A : Type 0} (d : ℕ) (f : Unit {0} → Result A) → deepest < d → (askedAt d >>= f) ≡ refusals.refused nesting
 unfolding askedAt need _>>=_
-too-deep d f h = rw (lt-leb d 256 h, askedAt)
+too-deep d f h = rw (lt-leb d deepest h, askedAt)
 
 -- Either depth.
-shallow-or-deep {ℓ} : {C : Type ℓ} (d : ℕ) → (d ≤ 256 → C) → (256 < d → C) → C
-shallow-or-deep d x y = case (leb d 256) (λ e. x (leb-true d 256 e)) (λ e. y (leb-false d 256 e))
+shallow-or-deep {ℓ} : {C : Type ℓ} (d : ℕ) → (d ≤ deepest → C) → (deepest < d → C) → C
+shallow-or-deep d x y = case (leb d deepest) (λ e. x (leb-true d deepest e)) (λ e. y (leb-false d deepest e))
 
 -- The end of the text.
 ended-agrees : (p : Place) (area is cs : List ℕ) → Held is cs 0 p area → Agrees (answering (endedAt p) area) (counting is cs end)
@@ -86,7 +86,7 @@ module _ (on : Reader → Place → List ℕ → AnswerAndArea) (ts : Stream Tok
   atom-agrees a e bytes p area is cs h =
       let d = h .depth in
       shallow-or-deep (length is)
-      (λ k. let z : p .depth ≤ 256 = omega (arith, d, k) in
+      (λ k. let z : p .depth ≤ deepest = omega (arith, d, k) in
       agrees-by (goes p p area _ (Atom a e) (area-atom p area a e z) (atom-on p a e z)) (asked (length is) _ k)
       (ih p _ is (memberOf is cs) (member-held is cs (streamLength ts) p area h)))
       (λ k. agrees-by refl (too-deep (length is) _ k) (agrees-refused nesting (stops p area (Atom a e) 4 (atom-deep p a e (omega (arith, d, k))))))
@@ -97,7 +97,7 @@ module _ (on : Reader → Place → List ℕ → AnswerAndArea) (ts : Stream Tok
   opening-agrees p area is cs h =
       let d = h .depth in
       shallow-or-deep (length is)
-      (λ k. let z : p .depth ≤ 256 = omega (arith, d, k) in
+      (λ k. let z : p .depth ≤ deepest = omega (arith, d, k) in
       agrees-by (goes p _ area _ Opening (area-opening p area z) (opening-on p z)) (asked (length is) _ k)
       (ih _ _ (length cs ∷ is) (memberOf is cs ++ (0 ∷ [])) (opened-held is cs (streamLength ts) p area z h)))
       (λ k. agrees-by refl (too-deep (length is) _ k) (agrees-refused nesting (stops p area Opening 4 (opening-deep p (omega (arith, d, k))))))

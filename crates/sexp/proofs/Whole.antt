@@ -33,7 +33,7 @@ mutual
       let h = few-all xs cs ts in
       omega arith
 
--- "At most one for each byte".
+-- A text that is read whole has at most one list for each byte.
 pub few-lists : (text : List ℕ) (xs : Sexps) → sexps (items (tokens text)) ≡ ok xs → length (counts xs) ≤ length text
 unfolding flattened counts streamLength
 few-lists text xs e =

@@ -31,17 +31,28 @@ place n d = record { openings = n; depth = d }
 abbrev pub deepest : ℕ
 deepest = 256
 
+-- The lists that are open stand from here on, the innermost of n of them at `beforeOpen + n`.
+abbrev pub openLists : ℕ
+openLists = 8_192
+
+abbrev pub beforeOpen : ℕ
+beforeOpen = 8_191
+
+-- The turns of the walk: a text of at most 8,192 bytes has no more tokens, and one turn more finds its end.
+abbrev pub turns : ℕ
+turns = 8_193
+
 -- One member more of a list, in 32 bits.
 unfoldable pub counted : List ℕ → ℕ → List ℕ
 counted area i = set area i ((getD area i 0 + 1) % 4_294_967_296)
 
 -- One member more of the innermost list: the place of its count stands with the open lists.
 unfoldable pub memberAdded : ℕ → List ℕ → List ℕ
-memberAdded d area = elim (eqb d 0) [ true ↦ area | false ↦ counted area (getD area (8_191 + d) 0) ]
+memberAdded d area = elim (eqb d 0) [ true ↦ area | false ↦ counted area (getD area (beforeOpen + d) 0) ]
 
 -- List n is opened in so many lists.
 unfoldable pub listOpened : ℕ → ℕ → List ℕ → List ℕ
-listOpened n d area = set (set (memberAdded d area) n 0) (8_192 + d) n
+listOpened n d area = set (set (memberAdded d area) n 0) (openLists + d) n
 
 -- What a token does at a place, and to the words.
 unfoldable pub stepped : Token → Place → Step
@@ -90,4 +101,4 @@ walk zero text r p area = answering (refused (number textLong)) area
 walk (suc fuel) text r p area = turn (walk fuel text) p area (lexed.taken text r)
 
 unfoldable pub walked : List ℕ → List ℕ → AnswerAndArea
-walked text area = walk 8_193 text lexed.start (place 0 0) area
+walked text area = walk turns text lexed.start (place 0 0) area

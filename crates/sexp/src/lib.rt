@@ -8,10 +8,10 @@ use lex::Token;
 // The depth of the deepest items.
 const DEEPEST: u32 = 256;
 
-// Where the places of the lists that are open stand.
-const OPEN: usize = 8192;
+// The lists that are open stand from this word on.
+const OPEN_LISTS: usize = 8192;
 
-// The innermost of some open lists stands their number behind this.
+// The innermost of n open lists stands at word BEFORE_OPEN + n.
 const BEFORE_OPEN: usize = 8191;
 
 // A text of more than 8,192 tokens has more than 8,192 bytes; one turn more finds the end.
@@ -53,7 +53,7 @@ pub fn open_list(area: &mut [u32], openings: u32, depth: u32)
 {
     add_member(area, depth);
     words::put(area, openings as usize, 0);
-    words::put(area, OPEN + depth as usize, openings);
+    words::put(area, OPEN_LISTS + depth as usize, openings);
 }
 
 // "Asking for an item at depth 257 is refusal 4, before its token is taken." In a list a closing is looked for first.

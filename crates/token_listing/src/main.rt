@@ -3,22 +3,6 @@
 use libc::STDIN_FILENO;
 use libc::STDOUT_FILENO;
 
-// The value of a hexadecimal digit, 0 of any other byte.
-fn digit(b: u8) -> u8 {
-    if b < 58 {
-        if 48 <= b {
-            return b - 48;
-        }
-        return 0;
-    }
-    if 97 <= b {
-        if b <= 102 {
-            return b - 87;
-        }
-    }
-    0
-}
-
 // Where the line that starts at `p` ends.
 fn line_end(input: &[u8], p: usize) -> usize {
     let mut q = p;
@@ -39,7 +23,7 @@ fn text_of(line: &[u8], out: &mut [u8]) -> usize {
         if line.len() - p < 2 {
             return len;
         }
-        out[len] = digit(line[p]) % 16 * 16 + digit(line[p + 1]) % 16;
+        out[len] = case_text::hex_digit(line[p]) * 16 + case_text::hex_digit(line[p + 1]);
         p += 2;
         len += 1;
     }

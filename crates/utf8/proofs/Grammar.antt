@@ -13,37 +13,37 @@ use lib.Seq.{getD-drop}
 use Rattle.horn.specs.Utf8.{Range, range, within, Sequence, sequence, sequences, startedBy}
 use Rattle.horn.specs.Tokens.{kind}
 use Rattle.horn.proofs.Equality.{case}
-use Rattle.utf8.specs.Classes.{kindNumber, classOf, lowOf, highOf}
+use Rattle.utf8.specs.Classes.{kindNumber, never, leadsTwo, leadsE0, leadsED, leadsF0, leadsF4, classOf, lowOf, highOf}
 use Rattle.utf8.specs.Characters.{First, broken, found, oneMore, rest, first, inRange, longerBy}
 use Rattle.utf8.proofs.Table.{and-left, and-right, ruled, ruled-at}
 
 -- What the class of a byte says of the sequence that it begins.
 pub data Known (b c : ℕ) (o : Option Sequence) : Type 0 where
-  nothing : c ≡ 5 → o ≡ none → Known b c o
-  single : (r : Range) → c ≡ kindNumber (kind b) → c < 5 → o ≡ some (sequence r 0 []) → Known b c o
-  double : (r : Range) (mark : ℕ) → c ≡ 6 → b - mark ≡ b % 32
+  nothing : c ≡ never → o ≡ none → Known b c o
+  single : (r : Range) → c ≡ kindNumber (kind b) → c < never → o ≡ some (sequence r 0 []) → Known b c o
+  double : (r : Range) (mark : ℕ) → c ≡ leadsTwo → b - mark ≡ b % 32
       → o ≡ some (sequence r mark (range 0x80 0xBF ∷ [])) → Known b c o
-  triple : (r : Range) (mark : ℕ) → 6 < c → c < 10 → b - mark ≡ b % 16
+  triple : (r : Range) (mark : ℕ) → leadsTwo < c → c < leadsF0 → b - mark ≡ b % 16
       → o ≡ some (sequence r mark (range (lowOf c) (highOf c) ∷ range 0x80 0xBF ∷ [])) → Known b c o
-  quadruple : (r : Range) (mark : ℕ) → 9 < c → b - mark ≡ b % 8
+  quadruple : (r : Range) (mark : ℕ) → leadsED < c → b - mark ≡ b % 8
       → o ≡ some (sequence r mark (range (lowOf c) (highOf c) ∷ range 0x80 0xBF ∷ range 0x80 0xBF ∷ [])) → Known b c o
 
 known : (b c : ℕ) (o : Option Sequence) → T (ruled b c o) → Known b c o
 unfolding ruled
-known b c none t = nothing (eqb→eq c 5 t) refl
+known b c none t = nothing (eqb→eq c never t) refl
 known b c (some (sequence r m [])) t =
     let e = eqb→eq m 0 (search (and-left, and-right) depth 9) in
-    single r (eqb→eq c (kindNumber (kind b)) (search (and-left, and-right) depth 9)) (ltb→lt c 5 (search (and-left, and-right) depth 9)) (cc)
+    single r (eqb→eq c (kindNumber (kind b)) (search (and-left, and-right) depth 9)) (ltb→lt c never (search (and-left, and-right) depth 9)) (cc)
 known b c (some (sequence r m (range lo hi ∷ []))) t =
     let e = eqb→eq lo 0x80 (search (and-left, and-right) depth 9) in
     let f = eqb→eq hi 0xBF (search (and-left, and-right) depth 9) in
-    double r m (eqb→eq c 6 (search (and-left, and-right) depth 9)) (eqb→eq (b - m) (b % 32) (search (and-left, and-right) depth 9)) (cc)
+    double r m (eqb→eq c leadsTwo (search (and-left, and-right) depth 9)) (eqb→eq (b - m) (b % 32) (search (and-left, and-right) depth 9)) (cc)
 known b c (some (sequence r m (range lo hi ∷ range lo₂ hi₂ ∷ []))) t =
     let e = eqb→eq lo (lowOf c) (search (and-left, and-right) depth 9) in
     let f = eqb→eq hi (highOf c) (search (and-left, and-right) depth 9) in
     let g = eqb→eq lo₂ 0x80 (search (and-left, and-right) depth 9) in
     let h = eqb→eq hi₂ 0xBF (search (and-left, and-right) depth 9) in
-    triple r m (ltb→lt 6 c (search (and-left, and-right) depth 9)) (ltb→lt c 10 (search (and-left, and-right) depth 9))
+    triple r m (ltb→lt leadsTwo c (search (and-left, and-right) depth 9)) (ltb→lt c leadsF0 (search (and-left, and-right) depth 9))
     (eqb→eq (b - m) (b % 16) (search (and-left, and-right) depth 9)) (cc)
 known b c (some (sequence r m (range lo hi ∷ range lo₂ hi₂ ∷ range lo₃ hi₃ ∷ []))) t =
     let e = eqb→eq lo (lowOf c) (search (and-left, and-right) depth 9) in
@@ -52,7 +52,7 @@ known b c (some (sequence r m (range lo hi ∷ range lo₂ hi₂ ∷ range lo₃
     let h = eqb→eq hi₂ 0xBF (search (and-left, and-right) depth 9) in
     let i = eqb→eq lo₃ 0x80 (search (and-left, and-right) depth 9) in
     let j = eqb→eq hi₃ 0xBF (search (and-left, and-right) depth 9) in
-    quadruple r m (ltb→lt 9 c (search (and-left, and-right) depth 9))
+    quadruple r m (ltb→lt leadsED c (search (and-left, and-right) depth 9))
     (eqb→eq (b - m) (b % 8) (search (and-left, and-right) depth 9)) (cc)
 known b c (some (sequence r m (range lo hi ∷ range lo₂ hi₂ ∷ range lo₃ hi₃ ∷ r₄ ∷ rs))) t = absurd t
 
@@ -88,7 +88,7 @@ one-more-in lo hi b f = push (ltb b lo) (ltb hi b) where
 
 low-least : (c : ℕ) → 0x80 ≤ lowOf c
 unfolding lowOf
-low-least c = least (eqb c 7) (eqb c 10) where
+low-least c = least (eqb c leadsE0) (eqb c leadsF0) where
   least : (p q : Bool) → 0x80 ≤ elim p [ true ↦ 0xA0 | false ↦ elim q [ true ↦ 0x90 | false ↦ 0x80 ] ]
   least true q = omega arith
   least false true = omega arith
@@ -96,7 +96,7 @@ low-least c = least (eqb c 7) (eqb c 10) where
 
 high-greatest : (c : ℕ) → highOf c ≤ 0xBF
 unfolding highOf
-high-greatest c = greatest (eqb c 9) (eqb c 12) where
+high-greatest c = greatest (eqb c leadsED) (eqb c leadsF4) where
   greatest : (p q : Bool) → elim p [ true ↦ 0x9F | false ↦ elim q [ true ↦ 0x8F | false ↦ 0xBF ] ] ≤ 0xBF
   greatest true q = omega arith
   greatest false true = omega arith
@@ -140,7 +140,7 @@ module _ (v lo hi : ℕ) (bs : List ℕ) (l : 0x80 ≤ lo) (h : hi ≤ 0xBF) whe
 
 -- The first character from what is known of its first byte.
 module _ (b c : ℕ) (bs : List ℕ) where
-  one-by : Known b c (startedBy b sequences) → c < 5 → (first (b ∷ bs) ≡ found 1 b) × (c ≡ kindNumber (kind b))
+  one-by : Known b c (startedBy b sequences) → c < never → (first (b ∷ bs) ≡ found 1 b) × (c ≡ kindNumber (kind b))
   unfolding first rest oneMore
   one-by (nothing e o) h = absurd (omega arith)
   one-by (single r k l o) h =
@@ -150,7 +150,7 @@ module _ (b c : ℕ) (bs : List ℕ) where
   one-by (triple r m l u v o) h = absurd (omega arith)
   one-by (quadruple r m l v o) h = absurd (omega arith)
 
-  none-by : Known b c (startedBy b sequences) → c ≡ 5 → first (b ∷ bs) ≡ broken
+  none-by : Known b c (startedBy b sequences) → c ≡ never → first (b ∷ bs) ≡ broken
   unfolding first
   none-by (nothing e o) h = rw (o, first)
   none-by (single r k l o) h = absurd (omega arith)
@@ -158,40 +158,40 @@ module _ (b c : ℕ) (bs : List ℕ) where
   none-by (triple r m l u v o) h = absurd (omega arith)
   none-by (quadruple r m l v o) h = absurd (omega arith)
 
-  longer-by : Known b c (startedBy b sequences) → 5 < c → first (b ∷ bs) ≡ longerBy c b (b ∷ bs)
+  longer-by : Known b c (startedBy b sequences) → never < c → first (b ∷ bs) ≡ longerBy c b (b ∷ bs)
   unfolding first longerBy lowOf highOf
   longer-by (nothing e o) h = absurd (omega arith)
   longer-by (single r k l o) h = absurd (omega arith)
   longer-by (double r m e v o) h = rw (o, first, e) (with-one (b - m) 0x80 0xBF bs (omega arith) (omega arith) ∙ rw (v, longerBy))
   longer-by (triple r m l u v o) h =
-      let n : eqb c 6 ≡ false = ne-eqb c 6 (λ e. omega arith) in
-      rw (o, first) (with-two (b - m) (lowOf c) (highOf c) bs (low-least c) (high-greatest c) ∙ rw (v, longerBy, n, lt-ltb c 10 u))
+      let n : eqb c leadsTwo ≡ false = ne-eqb c leadsTwo (λ e. omega arith) in
+      rw (o, first) (with-two (b - m) (lowOf c) (highOf c) bs (low-least c) (high-greatest c) ∙ rw (v, longerBy, n, lt-ltb c leadsF0 u))
   longer-by (quadruple r m l v o) h =
-      let n : eqb c 6 ≡ false = ne-eqb c 6 (λ e. omega arith) in
-      rw (o, first) (with-three (b - m) (lowOf c) (highOf c) bs (low-least c) (high-greatest c) ∙ rw (v, longerBy, n, le-ltb c 10 l))
+      let n : eqb c leadsTwo ≡ false = ne-eqb c leadsTwo (λ e. omega arith) in
+      rw (o, first) (with-three (b - m) (lowOf c) (highOf c) bs (low-least c) (high-greatest c) ∙ rw (v, longerBy, n, le-ltb c leadsF0 l))
 
 module _ (bs : List ℕ) (h : 0 < length bs) (u : getD bs 0 0 < 256) where
-  pub first-one : classOf (getD bs 0 0) < 5 → first bs ≡ found 1 (getD bs 0 0)
+  pub first-one : classOf (getD bs 0 0) < never → first bs ≡ found 1 (getD bs 0 0)
   first-one = one bs h u where
-    one : (bs : List ℕ) → 0 < length bs → getD bs 0 0 < 256 → classOf (getD bs 0 0) < 5 → first bs ≡ found 1 (getD bs 0 0)
+    one : (bs : List ℕ) → 0 < length bs → getD bs 0 0 < 256 → classOf (getD bs 0 0) < never → first bs ≡ found 1 (getD bs 0 0)
     one [] h u l = absurd (omega arith)
     one (b ∷ bs) h u l = one-by b (classOf b) bs (class-known b u) l .0
 
-  pub first-none : classOf (getD bs 0 0) ≡ 5 → first bs ≡ broken
+  pub first-none : classOf (getD bs 0 0) ≡ never → first bs ≡ broken
   first-none = none′ bs h u where
-    none′ : (bs : List ℕ) → 0 < length bs → getD bs 0 0 < 256 → classOf (getD bs 0 0) ≡ 5 → first bs ≡ broken
+    none′ : (bs : List ℕ) → 0 < length bs → getD bs 0 0 < 256 → classOf (getD bs 0 0) ≡ never → first bs ≡ broken
     none′ [] h u l = absurd (omega arith)
     none′ (b ∷ bs) h u l = none-by b (classOf b) bs (class-known b u) l
 
-  pub first-longer : 5 < classOf (getD bs 0 0) → first bs ≡ longerBy (classOf (getD bs 0 0)) (getD bs 0 0) bs
+  pub first-longer : never < classOf (getD bs 0 0) → first bs ≡ longerBy (classOf (getD bs 0 0)) (getD bs 0 0) bs
   first-longer = longer bs h u where
-    longer : (bs : List ℕ) → 0 < length bs → getD bs 0 0 < 256 → 5 < classOf (getD bs 0 0)
+    longer : (bs : List ℕ) → 0 < length bs → getD bs 0 0 < 256 → never < classOf (getD bs 0 0)
         → first bs ≡ longerBy (classOf (getD bs 0 0)) (getD bs 0 0) bs
     longer [] h u l = absurd (omega arith)
     longer (b ∷ bs) h u l = longer-by b (classOf b) bs (class-known b u) l
 
--- A class below 5 is the number of the character's kind.
-pub kind-one : (b : ℕ) → b < 256 → classOf b < 5 → classOf b ≡ kindNumber (kind b)
+-- A class below `never` is the number of the character's kind.
+pub kind-one : (b : ℕ) → b < 256 → classOf b < never → classOf b ≡ kindNumber (kind b)
 kind-one b u l = one-by b (classOf b) [] (class-known b u) l .1
 
 pub empty : (bs : List ℕ) → length bs ≡ 0 → bs ≡ []

@@ -12,7 +12,7 @@ use lib.ListN.{length, getD, take, drop, length-drop, drop-of-length-le}
 use lib.Seq.{take-all, getD-drop}
 use Rattle.horn.specs.Utf8.{Range, within, Sequence, sequence, sequences, startedBy}
 use Rattle.horn.specs.Tokens.{kind}
-use Rattle.utf8.specs.Classes.{kindNumber, classOf, lowOf, highOf}
+use Rattle.utf8.specs.Classes.{kindNumber, never, leadsTwo, leadsE0, leadsF0, classOf, lowOf, highOf}
 use Rattle.utf8.specs.Characters.{First, broken, found, oneMore, rest, first, width, value, kindAt, inRange, longerBy, byClass}
 use Rattle.horn.proofs.Equality.{case}
 use Rattle.utf8.proofs.Table.{ascii-class}
@@ -57,7 +57,7 @@ sound (b ∷ bs) = by (startedBy b sequences) where
   by (some (sequence r mark rs)) = more-sound (rest (b - mark) rs bs) (length bs) (inner (b - mark) rs bs)
 
 module _ (m : ℕ) where
-  kind-moves : (f : First) → Sound f m → (kindAt f ≡ 5 → ⊥) → (0 < width f) × (width f ≤ m)
+  kind-moves : (f : First) → Sound f m → (kindAt f ≡ never → ⊥) → (0 < width f) × (width f ≤ m)
   unfolding Sound kindAt width
   kind-moves broken s d = absurd (d refl)
   kind-moves (found n v) s d = s
@@ -85,11 +85,11 @@ at-drop text p = getD-drop p text 0 0 ∙ ap (λ (n : ℕ). getD text n 0) (add-
 
 -- What `look` answers: past the end, at a character of one byte, and at others.
 module _ (text : List ℕ) (p : ℕ) where
-  pub look-past : length text ≤ p → (5 ≡ kindAt (first (drop p text))) × (0 ≡ width (first (drop p text)))
+  pub look-past : length text ≤ p → (never ≡ kindAt (first (drop p text))) × (0 ≡ width (first (drop p text)))
   unfolding first kindAt width
   look-past h = (rw (drop-of-length-le text h), rw (drop-of-length-le text h))
 
-  pub look-one : p < length text → getD text p 0 < 256 → (c : ℕ) → c ≡ classOf (getD text p 0) → c < 5
+  pub look-one : p < length text → getD text p 0 < 256 → (c : ℕ) → c ≡ classOf (getD text p 0) → c < never
       → (c ≡ kindAt (first (drop p text))) × (1 ≡ width (first (drop p text)))
   unfolding kindAt width
   look-one h u c e l =
@@ -97,7 +97,7 @@ module _ (text : List ℕ) (p : ℕ) where
       let f = first-one (drop p text) (simp length-drop (omega arith)) (rw a u) (rw (a, ← e) l) in
       (rw (f, a) (e ∙ kind-one (getD text p 0) u (rw (← e) l)), rw f)
 
--- What `look_longer` answers, by a class from 5 on.
+-- What `look_longer` answers, by a class from `never` on.
 inside : (lo hi b : ℕ) (f : First) → (width f ≡ 0 → f ≡ broken) → width (inRange lo hi b f) ≡ 0 → inRange lo hi b f ≡ broken
 unfolding inRange
 inside lo hi b f k e =
@@ -118,48 +118,48 @@ longer-zero : (c b : ℕ) (bs : List ℕ) → width (longerBy c b bs) ≡ 0 → 
 unfolding longerBy
 longer-zero c b bs =
     inside _ _ _ _
-    (either (eqb c 6) (never-zero 1 _)
-    (inside _ _ _ _ (either (ltb c 10) (never-zero 2 _) (inside _ _ _ _ (never-zero 3 _)))))
+    (either (eqb c leadsTwo) (never-zero 1 _)
+    (inside _ _ _ _ (either (ltb c leadsF0) (never-zero 2 _) (inside _ _ _ _ (never-zero 3 _)))))
 
 low-positive : (c : ℕ) → 0 < lowOf c
 unfolding lowOf
 low-positive c =
-    case (eqb c 7) (λ t. rw (t, lowOf) (omega arith))
-    (λ n. case (eqb c 10) (λ t. rw (n, t, lowOf) (omega arith)) (λ m. rw (n, m, lowOf) (omega arith)))
+    case (eqb c leadsE0) (λ t. rw (t, lowOf) (omega arith))
+    (λ n. case (eqb c leadsF0) (λ t. rw (n, t, lowOf) (omega arith)) (λ m. rw (n, m, lowOf) (omega arith)))
 
 longer-empty : (c : ℕ) → byClass c [] ≡ broken
 unfolding byClass longerBy
 longer-empty c =
-    case (eqb c 5) (λ t. rw (t, byClass)) (λ n. rw (n, byClass) (below-range (low-positive c) (highOf c) _))
+    case (eqb c never) (λ t. rw (t, byClass)) (λ n. rw (n, byClass) (below-range (low-positive c) (highOf c) _))
 
 module _ (text : List ℕ) (p c : ℕ) where
   -- At a byte of the class c it is the first character.
-  pub longer-is : p < length text → getD text p 0 < 256 → c ≡ classOf (getD text p 0) → 5 ≤ c
+  pub longer-is : p < length text → getD text p 0 < 256 → c ≡ classOf (getD text p 0) → never ≤ c
       → byClass c (drop p text) ≡ first (drop p text)
   unfolding byClass
   longer-is h u e l =
       let a : getD (drop p text) 0 0 ≡ getD text p 0 = at-drop text p in
       let s : 0 < length (drop p text) = simp length-drop (omega arith) in
-      case (eqb c 5)
-      (λ t. rw (t, byClass) (sym (first-none (drop p text) s (rw a u) (rw (a, ← e) (eqb-true c 5 t)))))
+      case (eqb c never)
+      (λ t. rw (t, byClass) (sym (first-none (drop p text) s (rw a u) (rw (a, ← e) (eqb-true c never t)))))
       (λ n. rw (n, byClass)
       (ap (λ (x : ℕ). longerBy x (getD (drop p text) 0 0) (drop p text)) (e ∙ ap classOf (sym a))
-      ∙ sym (first-longer (drop p text) s (rw a u) (rw (a, ← e) (lt-of-le-of-ne l (eqb-false c 5 n))))))
+      ∙ sym (first-longer (drop p text) s (rw a u) (rw (a, ← e) (lt-of-le-of-ne l (eqb-false c never n))))))
 
-  pub longer-past : length text ≤ p → (5 ≡ kindAt (byClass c (drop p text))) × (0 ≡ width (byClass c (drop p text)))
+  pub longer-past : length text ≤ p → (never ≡ kindAt (byClass c (drop p text))) × (0 ≡ width (byClass c (drop p text)))
   unfolding kindAt width
   longer-past h = let b = ap (byClass c) (drop-of-length-le text h) ∙ longer-empty c in (rw b, rw b)
 
-  pub longer-never : c ≡ 5 → (5 ≡ kindAt (byClass c (drop p text))) × (0 ≡ width (byClass c (drop p text)))
+  pub longer-never : c ≡ never → (never ≡ kindAt (byClass c (drop p text))) × (0 ≡ width (byClass c (drop p text)))
   unfolding byClass kindAt width
   longer-never e = (rw (e, byClass), rw (e, byClass))
 
-  longer-here : (c ≡ 5 → ⊥) → byClass c (drop p text) ≡ longerBy c (getD text p 0) (take (length text - p) (drop p text))
+  longer-here : (c ≡ never → ⊥) → byClass c (drop p text) ≡ longerBy c (getD text p 0) (take (length text - p) (drop p text))
   unfolding byClass
-  longer-here d = rw (ne-eqb c 5 d, byClass, rest-of text p) (ap (λ (b : ℕ). longerBy c b (drop p text)) (at-drop text p))
+  longer-here d = rw (ne-eqb c never d, byClass, rest-of text p) (ap (λ (b : ℕ). longerBy c b (drop p text)) (at-drop text p))
 
-  module _ (d : c ≡ 5 → ⊥) (w : ℕ) (e : w ≡ width (longerBy c (getD text p 0) (take (length text - p) (drop p text)))) where
-    pub longer-none : w ≡ 0 → (5 ≡ kindAt (byClass c (drop p text))) × (0 ≡ width (byClass c (drop p text)))
+  module _ (d : c ≡ never → ⊥) (w : ℕ) (e : w ≡ width (longerBy c (getD text p 0) (take (length text - p) (drop p text)))) where
+    pub longer-none : w ≡ 0 → (never ≡ kindAt (byClass c (drop p text))) × (0 ≡ width (byClass c (drop p text)))
     unfolding kindAt width
     longer-none z = let b = longer-here d ∙ longer-zero _ _ _ (sym e ∙ z) in (rw b, rw b)
 
@@ -175,7 +175,7 @@ ascii-width text p h a = look-one text p h (omega arith) (classOf (getD text p 0
 
 -- A step over a character stays in the text and goes on.
 module _ (text : List ℕ) (q n : ℕ) (en : n ≡ width (first (drop q text))) where
-  pub kind-steps : (k : ℕ) → k ≡ kindAt (first (drop q text)) → (k ≡ 5 → ⊥) → (q + n ≤ length text) × (q < q + n)
+  pub kind-steps : (k : ℕ) → k ≡ kindAt (first (drop q text)) → (k ≡ never → ⊥) → (q + n ≤ length text) × (q < q + n)
   kind-steps k ek d =
       let m = kind-moves (length (drop q text)) (first (drop q text)) (sound (drop q text)) (λ z. d (ek ∙ z)) in
       (omega (arith, length-drop q text), omega arith)

@@ -8,7 +8,7 @@ use lib.Dec.{eqb, ltb}
 use lib.ListN.{length, getD, take, drop, List·getD-eq-default}
 use Rattle.horn.specs.Tokens.{kind, ordinary}
 use Rattle.horn.proofs.Equality.{case}
-use Rattle.utf8.specs.Classes.{kindNumber, classOf, lowOf, highOf}
+use Rattle.utf8.specs.Classes.{isOrdinary, kindNumber, leadsPlain, classOf, lowOf, highOf}
 use Rattle.utf8.specs.Characters.{First, broken, found, first, width, value, kindAt, inRange, longerBy, byClass, plainValue}
 use Rattle.utf8.proofs.Grammar.{below-range, above-range, in-range}
 use Rattle.utf8.proofs.Whiteness.{white-above}
@@ -32,7 +32,7 @@ no-later b f d =
 still-broken : (b : ℕ) → inRange 0x80 0xBF b broken ≡ broken
 still-broken b = case (eqb (b / 64) 2) (λ t. later b broken (eqb-true _ _ t)) (λ n. no-later b broken (eqb-false _ _ n))
 
-module _ (c : ℕ) (bs : List ℕ) (e : c ≡ 8) where
+module _ (c : ℕ) (bs : List ℕ) (e : c ≡ leadsPlain) where
   by-bytes : byClass c bs
       ≡ inRange 0x80 0xBF (getD bs 1 0)
       (inRange 0x80 0xBF (getD bs 2 0) (found 3 ((getD bs 0 0 % 16 * 64 + getD bs 1 0 % 64) * 64 + getD bs 2 0 % 64)))
@@ -41,7 +41,7 @@ module _ (c : ℕ) (bs : List ℕ) (e : c ≡ 8) where
 
   valued : plainValue c bs ≡ value (byClass c bs)
   unfolding plainValue
-  valued = rw (eq-eqb c 8 e, plainValue)
+  valued = rw (eq-eqb c leadsPlain e, plainValue)
 
   no-second : (getD bs 1 0 / 64 ≡ 2 → ⊥) → byClass c bs ≡ broken
   no-second d = by-bytes ∙ no-later _ _ d
@@ -86,9 +86,9 @@ module _ (c : ℕ) (bs : List ℕ) (e : c ≡ 8) where
       (λ n. let z = plain-third (eqb-false _ _ n) in absurd (omega arith)))
       (λ n. let z = plain-second (eqb-false _ _ n) in absurd (omega arith))
 
-pub plain-other : (c : ℕ) (bs : List ℕ) → (c ≡ 8 → ⊥) → 0 ≡ plainValue c bs
+pub plain-other : (c : ℕ) (bs : List ℕ) → (c ≡ leadsPlain → ⊥) → 0 ≡ plainValue c bs
 unfolding plainValue
-plain-other c bs d = rw (ne-eqb c 8 d, plainValue)
+plain-other c bs d = rw (ne-eqb c leadsPlain d, plainValue)
 
 kind-above : (v : ℕ) → 0x3000 < v → kind v ≡ ordinary
 unfolding kind
@@ -100,9 +100,9 @@ module _ (text : List ℕ) (q c : ℕ) (h : q < length text) (u : getD text q 0 
     (ev : v ≡ plainValue c (take (length text - q) (drop q text))) where
   plain-first : 0 < v → first (drop q text) ≡ found 3 v
   plain-first pos =
-      case (eqb c 8)
+      case (eqb c leadsPlain)
       (λ t.
-      let k : c ≡ 8 = eqb-true _ _ t in
+      let k : c ≡ leadsPlain = eqb-true _ _ t in
       sym (longer-is text q c h u e (omega arith)) ∙ found-by c (drop q text) k v (rw (rest-of text q) at ev) pos)
       (λ n. let z = plain-other c (take (length text - q) (drop q text)) (eqb-false _ _ n) in absurd (omega arith))
 
@@ -110,6 +110,6 @@ module _ (text : List ℕ) (q c : ℕ) (h : q < length text) (u : getD text q 0 
   unfolding width
   plain-wide pos = rw (plain-first pos)
 
-  pub plain-ordinary : 0x3000 < v → 0 ≡ kindAt (first (drop q text))
+  pub plain-ordinary : 0x3000 < v → isOrdinary ≡ kindAt (first (drop q text))
   unfolding kindAt kindNumber
   plain-ordinary l = rw (plain-first (omega arith), kind-above v l)

@@ -11,7 +11,7 @@ use lib.Dec.{T, eqb, ltb, eqb→eq, ltb→lt}
 use lib.ListN.{getD}
 use Rattle.horn.specs.Utf8.{Range, range, within, Sequence, sequence, sequences, startedBy, tail}
 use Rattle.horn.specs.Tokens.{kind, white, whiteRanges, inSome}
-use Rattle.utf8.specs.Classes.{kindNumber, leadNumber, classOf, lowOf, highOf, rows}
+use Rattle.utf8.specs.Classes.{kindNumber, never, leadsTwo, leadsED, leadsF0, leadNumber, classOf, lowOf, highOf, rows}
 
 pub and-left : (a b : Bool) → T (a && b) → T a
 and-left true b t = tt
@@ -46,22 +46,22 @@ unfolding right every digit rows classOf startedBy sequences within tail kind wh
 class-at b h = eqb→eq (digit b) (classOf b) (at right 256 tt b h)
 
 single : ℕ → Bool
-single b = ltb (classOf b) 5
+single b = ltb (classOf b) never
 
 -- Every byte of ASCII is a character.
-pub ascii-class : (b : ℕ) → b < 128 → classOf b < 5
+pub ascii-class : (b : ℕ) → b < 128 → classOf b < never
 unfolding single every classOf startedBy sequences within tail kind white whiteRanges inSome kindNumber leadNumber
-ascii-class b h = ltb→lt (classOf b) 5 (at single 128 tt b h)
+ascii-class b h = ltb→lt (classOf b) never (at single 128 tt b h)
 
 -- What the class of a byte says of the sequence that it begins, as a test.
 unfoldable pub ruled : ℕ → ℕ → Option Sequence → Bool
-ruled b c none = eqb c 5
-ruled b c (some (sequence r m [])) = eqb m 0 && eqb c (kindNumber (kind b)) && ltb c 5
-ruled b c (some (sequence r m (range lo hi ∷ []))) = eqb c 6 && eqb (b - m) (b % 32) && eqb lo 0x80 && eqb hi 0xBF
+ruled b c none = eqb c never
+ruled b c (some (sequence r m [])) = eqb m 0 && eqb c (kindNumber (kind b)) && ltb c never
+ruled b c (some (sequence r m (range lo hi ∷ []))) = eqb c leadsTwo && eqb (b - m) (b % 32) && eqb lo 0x80 && eqb hi 0xBF
 ruled b c (some (sequence r m (range lo hi ∷ range lo₂ hi₂ ∷ []))) =
-    ltb 6 c && ltb c 10 && eqb (b - m) (b % 16) && eqb lo (lowOf c) && eqb hi (highOf c) && eqb lo₂ 0x80 && eqb hi₂ 0xBF
+    ltb leadsTwo c && ltb c leadsF0 && eqb (b - m) (b % 16) && eqb lo (lowOf c) && eqb hi (highOf c) && eqb lo₂ 0x80 && eqb hi₂ 0xBF
 ruled b c (some (sequence r m (range lo hi ∷ range lo₂ hi₂ ∷ range lo₃ hi₃ ∷ []))) =
-    ltb 9 c && eqb (b - m) (b % 8) && eqb lo (lowOf c) && eqb hi (highOf c) && eqb lo₂ 0x80 && eqb hi₂ 0xBF && eqb lo₃ 0x80
+    ltb leadsED c && eqb (b - m) (b % 8) && eqb lo (lowOf c) && eqb hi (highOf c) && eqb lo₂ 0x80 && eqb hi₂ 0xBF && eqb lo₃ 0x80
     && eqb hi₃ 0xBF
 ruled b c (some (sequence r m (range lo hi ∷ range lo₂ hi₂ ∷ range lo₃ hi₃ ∷ r₄ ∷ rs))) = false
 

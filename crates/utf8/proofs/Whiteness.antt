@@ -1,6 +1,6 @@
 -- Where a character is white space by one of the ranges, and that none above 3000 is. Assumes nothing.
-use mathlib.Core.Path.{_≡_, refl}
-use mathlib.Core.Bool.{Bool, true, false, _&&_, _||_}
+use mathlib.Core.Path.{_≡_}
+use mathlib.Core.Bool.{Bool, true, false, _||_, and-false, or-true}
 use Prim.Native.Nat.{ℕ, zero, suc, _≤_, _<_}
 use native.Mathlib.Omega.{arith}
 use borrow.Author.Tests.{lt-leb}
@@ -9,18 +9,6 @@ use lib.ListN.{drop}
 use mathlib.Core.List.{List, [], _∷_}
 use Rattle.horn.specs.Utf8.{Range, range, within}
 use Rattle.horn.specs.Tokens.{white, whiteRanges, inSome}
-
-pub or-false : (b : Bool) → (b || false) ≡ b
-or-false true = refl
-or-false false = refl
-
-or-true : (b : Bool) → (b || true) ≡ true
-or-true true = refl
-or-true false = refl
-
-and-false : (b : Bool) → (b && false) ≡ false
-and-false true = refl
-and-false false = refl
 
 above : (low high v : ℕ) → high < v → within (range low high) v ≡ false
 unfolding within

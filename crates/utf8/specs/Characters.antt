@@ -7,7 +7,7 @@ use lib.Dec.{eqb, ltb}
 use lib.ListN.{getD}
 use Rattle.horn.specs.Utf8.{Range, within, Sequence, sequence, sequences, startedBy}
 use Rattle.horn.specs.Tokens.{kind}
-use Rattle.utf8.specs.Classes.{kindNumber, never, lowOf, highOf}
+use Rattle.utf8.specs.Classes.{kindNumber, never, leadsTwo, leadsPlain, leadsF0, lowOf, highOf}
 
 -- A character of so many bytes with this value, or none.
 pub data First : Type 0 where
@@ -43,28 +43,27 @@ unfoldable pub kindAt : First → ℕ
 kindAt broken = never
 kindAt (found n v) = kindNumber (kind v)
 
--- The same by the class of the first byte, for the classes above 5: a byte outside its range breaks the character.
+-- The same by the class of the first byte, for the classes above `never`: a byte outside its range breaks the character.
 unfoldable pub inRange : ℕ → ℕ → ℕ → First → First
 inRange low high b f = elim (ltb b low) [ true ↦ broken | false ↦ elim (ltb high b) [ true ↦ broken | false ↦ f ] ]
 
 unfoldable pub longerBy : ℕ → ℕ → List ℕ → First
 longerBy c b bs =
     inRange (lowOf c) (highOf c) (getD bs 1 0)
-    (elim (eqb c 6) [
+    (elim (eqb c leadsTwo) [
       | true ↦ found 2 (b % 32 * 64 + getD bs 1 0 % 64)
       | false ↦ inRange 0x80 0xBF (getD bs 2 0)
-          (elim (ltb c 10) [
+          (elim (ltb c leadsF0) [
             | true ↦ found 3 ((b % 16 * 64 + getD bs 1 0 % 64) * 64 + getD bs 2 0 % 64)
             | false ↦ inRange 0x80 0xBF (getD bs 3 0)
                 (found 4 (((b % 8 * 64 + getD bs 1 0 % 64) * 64 + getD bs 2 0 % 64) * 64 + getD bs 3 0 % 64))
           ])
     ])
 
--- The same for the classes from 5 on: a byte of class 5 begins no character.
+-- The same for the classes from `never` on: a byte of that one begins no character.
 unfoldable pub byClass : ℕ → List ℕ → First
 byClass c bs = elim (eqb c never) [ true ↦ broken | false ↦ longerBy c (getD bs 0 0) bs ]
 
--- The value of the first character where its first byte is of class 8, whose later bytes have no range of their own; 0
--- for any other class.
+-- The value of the first character where its first byte is of the class whose later bytes have no range of their own; 0 for any other class.
 unfoldable pub plainValue : ℕ → List ℕ → ℕ
-plainValue c bs = elim (eqb c 8) [ true ↦ value (byClass c bs) | false ↦ 0 ]
+plainValue c bs = elim (eqb c leadsPlain) [ true ↦ value (byClass c bs) | false ↦ 0 ]

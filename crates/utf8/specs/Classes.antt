@@ -35,15 +35,36 @@ kindNumber comments = isComment
 abbrev pub never : ℕ
 never = 5
 
--- The classes 6 to 12: first bytes of longer characters, by the range of the second byte and the number of bytes after
--- it. (C2 to DF; E0; E1 to EC, EE, EF; ED; F0; F1 to F3; F4.)
+-- The classes of first bytes of longer characters: C2 to DF; E0; E1 to EC, EE, EF; ED; F0; F1 to F3; F4.
+abbrev pub leadsTwo : ℕ
+leadsTwo = 6
+
+abbrev pub leadsE0 : ℕ
+leadsE0 = 7
+
+abbrev pub leadsPlain : ℕ
+leadsPlain = 8
+
+abbrev pub leadsED : ℕ
+leadsED = 9
+
+abbrev pub leadsF0 : ℕ
+leadsF0 = 10
+
+abbrev pub leadsF1 : ℕ
+leadsF1 = 11
+
+abbrev pub leadsF4 : ℕ
+leadsF4 = 12
+
+-- They are told apart by the range of the second byte and the number of bytes after it.
 unfoldable pub leadNumber : ℕ → ℕ → ℕ → ℕ
 leadNumber low high more =
     elim (eqb more 0) [
-      | true ↦ 6
+      | true ↦ leadsTwo
       | false ↦ elim (eqb more 1) [
-        | true ↦ elim (eqb low 0xA0) [ true ↦ 7 | false ↦ elim (eqb high 0x9F) [ true ↦ 9 | false ↦ 8 ] ]
-        | false ↦ elim (eqb low 0x90) [ true ↦ 10 | false ↦ elim (eqb high 0x8F) [ true ↦ 12 | false ↦ 11 ] ]
+        | true ↦ elim (eqb low 0xA0) [ true ↦ leadsE0 | false ↦ elim (eqb high 0x9F) [ true ↦ leadsED | false ↦ leadsPlain ] ]
+        | false ↦ elim (eqb low 0x90) [ true ↦ leadsF0 | false ↦ elim (eqb high 0x8F) [ true ↦ leadsF4 | false ↦ leadsF1 ] ]
       ]
     ]
 
@@ -56,13 +77,12 @@ classOf b =
       | some (sequence first mark (range low high ∷ rest)) ↦ leadNumber low high (length rest)
     ]
 
--- What a class of longer characters says: the range of the second byte, how many bytes follow that, and the bits that
--- mark the first byte.
+-- What a class of longer characters says of the second byte: the least, and the greatest.
 unfoldable pub lowOf : ℕ → ℕ
-lowOf c = elim (eqb c 7) [ true ↦ 0xA0 | false ↦ elim (eqb c 10) [ true ↦ 0x90 | false ↦ 0x80 ] ]
+lowOf c = elim (eqb c leadsE0) [ true ↦ 0xA0 | false ↦ elim (eqb c leadsF0) [ true ↦ 0x90 | false ↦ 0x80 ] ]
 
 unfoldable pub highOf : ℕ → ℕ
-highOf c = elim (eqb c 9) [ true ↦ 0x9F | false ↦ elim (eqb c 12) [ true ↦ 0x8F | false ↦ 0xBF ] ]
+highOf c = elim (eqb c leadsED) [ true ↦ 0x9F | false ↦ elim (eqb c leadsF4) [ true ↦ 0x8F | false ↦ 0xBF ] ]
 
 -- The table of src/classes.rt: a row for each high half of a byte, in it a digit for each low half, that of 0 last. That each digit
 -- is the class of its byte is proved once, over all of it.

@@ -33,6 +33,11 @@ pub part-out : (start end : ℕ) (s : List ℕ) → length s < start → [] ≡ 
 unfolding part
 part-out start end s h = rw (drop-of-length-le s (le-of-lt h), take-nil (end - start))
 
+-- A part that is there is as long as its bounds say.
+pub part-length : (start end : ℕ) (s : List ℕ) → end ≤ length s → length (part start end s) ≡ end - start
+unfolding part
+part-length start end s h = simp (length-take, length-drop) (omega arith)
+
 -- Texts of different lengths differ.
 pub lengths-differ : (a b : List ℕ) → (length a ≡ length b → ⊥) → sameBytes a b ≡ false
 unfolding sameBytes
@@ -72,15 +77,11 @@ same-end a b i h k = rw (drop-of-length-le a h, drop-of-length-le b k)
 
 module _ (text key : List ℕ) (start end : ℕ) (h : end ≤ length text) where
   -- A part that is there differs from what has another length, and from what ends on another byte.
-  length-within : length (part start end text) ≡ end - start
-  unfolding part
-  length-within = length-take (end - start) (drop start text) ∙ rw (length-drop start text) (omega arith)
-
   pub part-empty : (length key ≡ 0 → ⊥) → end ≤ start → sameBytes (part start end text) key ≡ false
-  part-empty n k = lengths-differ (part start end text) key (λ e. n (sym e ∙ length-within ∙ omega arith))
+  part-empty n k = lengths-differ (part start end text) key (λ e. n (sym e ∙ part-length start end text h ∙ omega arith))
 
   pub part-unlike : (end - start ≡ length key → ⊥) → sameBytes (part start end text) key ≡ false
-  part-unlike n = lengths-differ (part start end text) key (λ e. n (sym length-within ∙ e))
+  part-unlike n = lengths-differ (part start end text) key (λ e. n (sym (part-length start end text h) ∙ e))
 
   pub part-ends : (length key ≡ 0 → ⊥) → end - start ≡ length key → (getD text (end - 1) 0 ≡ getD key (length key - 1) 0 → ⊥)
       → sameBytes (part start end text) key ≡ false
@@ -126,10 +127,11 @@ module _ (B : ℕ) where
   dropped : (m x : ℕ) → (m * B + x) % (B * B) ≡ (m % B * B + x) % (B * B)
   dropped m x =
       ap (λ (n : ℕ). (n * B + x) % (B * B)) (sym (div-add-mod' m B))
-      ∙ ap (λ (n : ℕ). n % (B * B)) (spread (m / B) (m % B))
+      ∙ ap (λ (n : ℕ). n % (B * B)) (upper-at-square (m / B) (m % B))
       ∙ add-mul-mod-self-right (m % B * B + x) (m / B) (B * B) where
-        spread : (q r : ℕ) → (q * B + r) * B + x ≡ r * B + x + q * (B * B)
-        spread q r = simp (add-mul, mul-assoc, add-assoc, add-comm, add-left-comm)
+        -- Halves q and r, times B: the upper one stands at B².
+        upper-at-square : (q r : ℕ) → (q * B + r) * B + x ≡ r * B + x + q * (B * B)
+        upper-at-square q r = simp (add-mul, mul-assoc, add-assoc, add-comm, add-left-comm)
 
   -- The product modulo B² from the halves of its factors.
   pub product-by-halves : (a b : ℕ)
@@ -138,11 +140,12 @@ module _ (B : ℕ) where
       ap (λ (n : ℕ). (n * B + a % B * (b % B)) % (B * B)) (sym (add-mod (a / B * (b % B)) (a % B * (b / B)) B))
       ∙ sym (dropped (a / B * (b % B) + a % B * (b / B)) (a % B * (b % B)))
       ∙ sym (add-mul-mod-self-right _ (a / B * (b / B)) (B * B))
-      ∙ ap (λ (n : ℕ). n % (B * B)) (spread (a / B) (a % B) (b / B) (b % B))
+      ∙ ap (λ (n : ℕ). n % (B * B)) (four-products (a / B) (a % B) (b / B) (b % B))
       ∙ ap (λ (n : ℕ). (n * (b / B * B + b % B)) % (B * B)) (div-add-mod' a B)
       ∙ ap (λ (n : ℕ). (a * n) % (B * B)) (div-add-mod' b B) where
-        spread : (q r s t : ℕ) → (q * t + r * s) * B + r * t + q * s * (B * B) ≡ (q * B + r) * (s * B + t)
-        spread q r s t = simp (add-mul, mul-add, mul-assoc, mul-comm, mul-left-comm, add-assoc, add-comm, add-left-comm)
+        -- The products of the halves q, r and s, t, each at its place, add up to the product.
+        four-products : (q r s t : ℕ) → (q * t + r * s) * B + r * t + q * s * (B * B) ≡ (q * B + r) * (s * B + t)
+        four-products q r s t = simp (add-mul, mul-add, mul-assoc, mul-comm, mul-left-comm, add-assoc, add-comm, add-left-comm)
 
   -- A product of two numbers below B is below B².
   pub below-square : (a b : ℕ) → a < B → b < B → a * b < B * B

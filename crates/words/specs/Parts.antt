@@ -9,7 +9,7 @@ use lib.ListN.{take, drop, getD, set}
 unfoldable pub part : ℕ → ℕ → List ℕ → List ℕ
 part start end s = take (end - start) (drop start s)
 
--- Whether two byte strings are equal.
+-- Whether two byte strings are equal, or two lists of words.
 unfoldable pub sameBytes : List ℕ → List ℕ → Bool
 sameBytes [] [] = true
 sameBytes [] (b ∷ bs) = false

@@ -4,7 +4,7 @@ ghost use Prim.Native.Nat.{_*_, _%_, _^_};
 ghost use lib.Bits.{bitXor};
 ghost use lib.ListN.{getD, set};
 ghost use Rattle.words.specs.Parts.{part, sameBytes, copied, cleared};
-ghost use Rattle.words.specs.Sums.{sum32};
+ghost use Rattle.words.specs.Sums.{low32, sum32};
 ghost use Rattle.words.specs.Hash.{rotated, hashed, hash};
 
 // The word at a place.
@@ -34,6 +34,15 @@ pub fn byte(s: &[u8], i: usize) -> u8
         return s[i];
     }
     0
+}
+
+// Sets the byte at a place.
+pub fn put_byte(s: &mut [u8], i: usize, v: u8)
+    ensures { λ r. ⌜ now (s .exit) ≡ set (now (s .entry)) i v ⌝ }
+{
+    if i < s.len() {
+        s[i] = v;
+    }
 }
 
 // The bytes from `start` up to `end`, as far as they are there.
@@ -181,6 +190,13 @@ pub fn plus(a: u32, b: u32) -> u32
     ((a as u64 + b as u64) % 4294967296) as u32
 }
 
+// A place as a word. Those of a text that a call takes are kept whole.
+pub fn low(x: usize) -> u32
+    ensures { λ r. ⌜ r ≡ low32 x ⌝ }
+{
+    (x % 4294967296) as u32
+}
+
 // The low 64 bits of a product, from the products of its halves.
 pub fn wrapping_mul(a: u64, b: u64) -> u64
     ensures { λ r. ⌜ r ≡ (a * b) % 2 ^ 64 ⌝ }
@@ -226,12 +242,4 @@ pub fn hash_all(s: &[u32]) -> u64
         i += 1;
     }
     h
-}
-
-// The hash of the words from `start` up to `end`.
-pub fn hash_part(s: &[u32], start: usize, end: usize) -> u64
-    ensures { λ r. ⌜ r ≡ hash (part start end (now (s .entry))) ⌝ }
-{
-    let words = words_part(s, start, end);
-    hash_all(words)
 }

@@ -12,15 +12,16 @@ returns c =
       c .before .before .put4 .ensures,
       c .before .before .before .before .before .before .put3 .ensures,
       c .before .before .before .before .before .before .before .before .before .before .put2 .ensures,
-      c .before .before .before .before .before .before .before .before .before .before .before .before .before .before .put .ensures,
-      c .before .before .before .before .before .before .before .before .before .before .before .before .before .before .before .before .at .ensures,
-      c .before .before .before .before .before .before .before .before .before .before .before .before .before .before .before .before .before .before .bucket .ensures,
-      c .before .before .before .before .before .before .before .before .before .before .before .before .before .before .before .before .before .before .before .bytes-part .ensures,
+      c .before .before .before .before .before .before .before .before .before .before .before .before .before .before .before .put .ensures,
+      c .before .before .before .before .before .before .before .before .before .before .before .before .before .before .before .before .low .ensures,
+      c .before .before .before .before .before .before .before .before .before .before .before .low2 .ensures,
+      c .before .before .before .before .before .before .before .before .before .before .before .before .before .before .before .before .before .before .at .ensures,
+      c .before .before .before .before .before .before .before .before .before .before .before .before .before .before .before .before .before .before .before .before .bucket .ensures,
+      c .before .before .before .before .before .before .before .before .before .before .before .before .before .before .before .before .before .before .before .before .before .bytes-part .ensures,
     )
 
 pub add-spec : {M : Type 1} → statement M
 add-spec =
     tie.close
-    (tie.spec (λ c κs. search needs) (λ c κs. search needs) (λ c κs. search needs) (λ c. search needs) (λ c κs. search needs)
-    (λ c. search needs) (λ c. search needs) (λ c κs. search needs) (λ c. search needs) (λ c κs. search needs) (λ c κs. search needs)
-    (λ c. search needs) returns)
+    (tie.spec (λ c κs. search needs) (λ c κs. search needs) (λ c κs. search needs) (λ c κs. search needs) (λ c κs. search needs) (λ c. search needs)
+    (λ c κs. search needs) (λ c κs. search needs) (λ c. search needs) (λ c κs. search needs) (λ c κs. search needs) (λ c. search needs) returns)

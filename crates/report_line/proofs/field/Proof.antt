@@ -5,8 +5,8 @@ use borrow.Author.Needs.{needs}
 use Rattle.report_line.proofs.field.Statement.{statement}
 use Rattle.report_line.proofs.field.Tie as tie
 
-add-put : tie.Need-add-put
-add-put c = search (needs, at-most-ten _ _ (search needs) (c .before .before .before .before .before .before .decimal .ensures .1 .0))
+add-put-byte : tie.Need-add-put-byte
+add-put-byte c = search (needs, at-most-ten _ _ (search needs) (c .before .before .before .before .before .before .decimal .ensures .1 .0))
 
 cast-result : tie.Need-cast-result
 cast-result c = search (needs, at-most-ten _ _ (search needs) (c .before .before .before .before .before .before .before .before .before .decimal .ensures .1 .0))
@@ -16,12 +16,12 @@ add-result c = search (needs, at-most-ten _ _ (search needs) (c .before .before 
 
 returns : tie.Need-returns
 returns c = (
-  field-text _ _ _ _ (c .before .before .before .before .before .before .before .before .before .decimal .ensures .0 .1) (c .before .before .before .before .before .before .before .before .before .decimal .ensures .1 .0) (c .before .before .before .before .before .before .before .before .before .decimal .ensures .1 .1) _ _ (c .before .before .before .before .before .before .push .ensures) (c .before .before .put .ensures),
+  field-text _ _ _ _ (c .before .before .before .before .before .before .before .before .before .decimal .ensures .0 .1) (c .before .before .before .before .before .before .before .before .before .decimal .ensures .1 .0) (c .before .before .before .before .before .before .before .before .before .decimal .ensures .1 .1) _ _ (c .before .before .before .before .before .before .push .ensures) (c .before .before .put-byte .ensures),
   (field-long _ _ _ _ (c .before .before .before .before .before .before .before .before .before .decimal .ensures .0 .1) (c .before .before .before .before .before .before .before .before .before .decimal .ensures .1 .0) (c .before .before .before .before .before .before .before .before .before .decimal .ensures .1 .1), search (needs, at-most-ten _ _ (search needs) (c .before .before .before .before .before .before .before .before .before .decimal .ensures .1 .0))),
 )
 
 pub field-spec : {M : Type 1} → statement M
 field-spec =
     tie.close
-    (tie.spec (λ c κs. search needs) (λ c. search needs) (λ c. search needs) (λ c κs. search needs) add-put (λ c κs. search needs)
+    (tie.spec (λ c κs. search needs) (λ c. search needs) (λ c. search needs) (λ c κs. search needs) add-put-byte (λ c κs. search needs)
     cast-result add-result (λ c. search needs) returns)

@@ -18,7 +18,7 @@ loop-holds : tie.Need-loop-holds Inv-loop μ-loop
 loop-holds c = (written-start _ _ _, search needs, search needs, search needs)
 
 loop-again : tie.Need-loop-again Inv-loop μ-loop
-loop-again c = (c .before .before .before .before .before .before .loop .inv .0 ∙ written-more _ _ _ _ (c .before .before .before .before .before .loop-test .taken) ∙ rw (c .before .before .put .ensures) refl, search needs, search needs, search needs)
+loop-again c = (c .before .before .before .before .before .before .loop .inv .0 ∙ written-more _ _ _ _ (c .before .before .before .before .before .loop-test .taken) ∙ rw (c .before .before .put-byte .ensures) refl, search needs, search needs, search needs)
 
 returns : tie.Need-returns Inv-loop μ-loop
 returns c = sym (c .before .loop .inv .0 ∙ written-end _ _ _ _ (c .loop-test .left))

@@ -1,5 +1,6 @@
 -- `utf8::is_white` meets its contract. Assumes nothing.
-use Rattle.utf8.proofs.Whiteness.{white-above, or-false, first-of, in-later}
+use mathlib.Core.Bool.{or-false}
+use Rattle.utf8.proofs.Whiteness.{white-above, first-of, in-later}
 use mathlib.Core.Path.{_∙_, sym}
 use Rattle.horn.specs.Tokens.{white, whiteRanges, inSome}
 use Rattle.utf8.proofs.is_white.Statement.{statement}
