@@ -24,7 +24,7 @@ use Rattle.outcomes.specs.Outcomes as outcomes
 use Rattle.outcomes.specs.Outcomes.{Outcome}
 use Rattle.theory_laws.specs.Reading.{weight}
 use Rattle.outcomes.specs.Simulation.{Answers, both-refuse, both-ok}
-use Rattle.theory_laws.proofs.Lookups.{part-length}
+use Rattle.words.proofs.Laws.{length-within}
 use Rattle.asking.specs.Asking as asked
 use Rattle.asking.specs.Asking.{Met, Ahead, Top, itemDue, atomDue, listDue, closingDue, closingNext, formDue}
 use Rattle.asking_laws.proofs.Places.{Begins, Comes, RestComes, At}
@@ -59,7 +59,7 @@ module _ (text : List ℕ) where
   got closing u a k l (take-closing st) = got-closing record { coming = u; stands = st; here = k; light = l }
   got (atom bytes) u a k l (take-atom {a = s} {b = t} st e g h) =
       let z : length bytes ≡ length (part s t text) = ap length (sym e) in
-      let y = part-length s t text h in
+      let y = length-within text bytes s t h in
       got-atom e g h record { coming = u; stands = st; here = k; light = omega arith }
 
   token-got : {K : Stream Token → Type 0} {n : ℕ} {r : Reader} (t : Token) → At text (Begins t K) n r → Got K n t (lexed.taken text r)

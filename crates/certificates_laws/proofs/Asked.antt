@@ -14,6 +14,7 @@ use Rattle.horn.specs.StoredTerms.{Term}
 use Rattle.horn.specs.Checker as definition
 use Rattle.horn.proofs.Equality.{case}
 use Rattle.words.specs.Parts.{part}
+use Rattle.words.proofs.Laws.{length-within}
 use Rattle.lex.specs.declared.Reader.{Reader}
 use Rattle.outcomes.specs.Outcomes as outcomes
 use Rattle.outcomes.specs.Outcomes.{Outcome}
@@ -21,7 +22,7 @@ use Rattle.outcomes.specs.Leaving as leaving
 use Rattle.outcomes.specs.Leaving.{Did, _leaving_}
 use Rattle.items.specs.Items.{question}
 use Rattle.outcomes.specs.Simulation.{Answers, both-refuse, both-ok, then, Simulates, refuse, leave}
-use Rattle.theory_laws.proofs.Lookups.{part-question, part-length, bare-width}
+use Rattle.theory_laws.proofs.Lookups.{part-question, bare-width}
 use Rattle.theory_reading.specs.Storing as storing
 use Rattle.asking_laws.proofs.Places.{RestComes, At}
 use Rattle.asking_laws.proofs.Asking.{WordMet, word-met, word-law}
@@ -81,7 +82,7 @@ module _ (text : List ℕ) (K : Stream Token → Type 0) (n : ℕ) where
         case (questioned (y .0))
         (λ q.
         let b : bare (y .0) ≡ eqb (x .1 - x .0) 1
-        = bare-width (y .0) (x .1 - x .0) q (ap length (sym (m .name)) ∙ part-length (x .0) (x .1) text (m .inside)) in
+        = bare-width (y .0) (x .1 - x .0) q (ap length (sym (m .name)) ∙ length-within text (y .0) (x .0) (x .1) (m .inside)) in
         case (eqb (x .1 - x .0) 1)
         (λ e. rw (z, q, b, e) (both-refuse refl))
         (λ e. rw (z, q, b, e) (both-ok m)))

@@ -5,7 +5,7 @@ use mathlib.Core.List.{List}
 use native.Mathlib.Omega.{arith}
 use lib.ListN.{length}
 use Rattle.horn.specs.Refusals as refusals
-use Rattle.horn.specs.Refusals.{Result, number, ok}
+use Rattle.horn.specs.Refusals.{number}
 use Rattle.horn.specs.Setting.{document01}
 use Rattle.horn.specs.NestedLists.{group, Items, _then_}
 use Rattle.horn.specs.Rulebook.{Theory}
@@ -20,7 +20,7 @@ use Rattle.lex.specs.declared.Reader.{Reader}
 use Rattle.outcomes.specs.Outcomes.{Outcome}
 use Rattle.outcomes.specs.Leaving as leaving
 use Rattle.outcomes.specs.Leaving.{_leaving_}
-use Rattle.outcomes.specs.Simulation.{Answers, both-refuse, both-ok, Simulates, refuse, leave, bind}
+use Rattle.outcomes.specs.Simulation.{Simulates, refuse, leave, bind, knowing-answer}
 use Rattle.theory_laws.specs.Representation.{Entries, Holds}
 use Rattle.tables.specs.declared.Tally.{Tally}
 use Rattle.asking.specs.Asking.{Top}
@@ -38,11 +38,6 @@ use Rattle.certificates_laws.proofs.Standing.{StepRecorded, Standing, F
 use Rattle.certificates_laws.proofs.Defs.{def-law}
 use Rattle.certificates_laws.proofs.Results.{result-law}
 use Rattle.certificates_laws.proofs.Recording.{step-form-law}
-
--- What the definition was asked for is known.
-known : {A B : Type 0} {Q : A → B → Type 0} {o : Outcome A} {m : Result B} → Answers Q o m → Answers (λ a b. Q a b × (m ≡ ok b)) o m
-known (both-refuse e) = both-refuse e
-known (both-ok q) = both-ok (q, refl)
 
 -- From a reader before some forms, with so many turns.
 abbrev pub Reads : List ℕ → List ℕ → Entries → ℕ → Theory → List ℕ → List ℕ → List Goal → ℕ → Type 0
@@ -83,7 +78,7 @@ module _ {rules heap : List ℕ} {es : Entries} {bound : ℕ} {th : Theory} (h :
         (definition.certificateForm document01 th now (group inner) ts)
     unfolding walk.formRead definition.certificateForm checker._>>=_ checker.lift checker.groupDue refusals._>>=_
     form-law q at-items =
-        lifted ts _ _ (known (member-law certificate (RestComes rest Any) 0 inner at-items)) (λ x y p.
+        lifted ts _ _ (knowing-answer (member-law certificate (RestComes rest Any) 0 inner at-items)) (λ x y p.
         rw (p .0 .name)
         (by-head (y .1) (x .2) (headed (y .0)) (rw (p .1)) (at-less 0 (omega arith) (p .0 .reader))))
 

@@ -81,7 +81,7 @@ pub fn walked_refusal(r: Walked) -> u32
     }
 }
 
-// A place in a text as a word.
+// The low 32 bits of a place.
 pub fn low(x: usize) -> u32
     ensures { λ r. ⌜ r ≡ x % 4294967296 ⌝ }
 {

@@ -24,6 +24,7 @@ argumentsFrom read (suc left) text c k w vars heap = do
   (q, (vars, heap)) ← read (getD heap (c + places.inputs + k) 0) w vars heap
   argumentsFrom read left text c (k + 1) q vars heap
 
+-- A term by its first item: an atom whole, a list by its head and then its arguments, each read by `read`.
 abbrev pub patternOf : (ℕ → Walk → List ℕ → List ℕ → Did Areas Walk) → List ℕ → List ℕ → ℕ → Met → List ℕ → List ℕ → Did Areas Walk
 patternOf read text counts sort (atom s t w) vars heap = leaf text s t sort w vars heap
 patternOf read text counts sort (list members w) vars heap = do

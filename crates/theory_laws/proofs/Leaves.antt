@@ -37,10 +37,11 @@ use Rattle.items.specs.declared.Walk.{Walk}
 use Rattle.outcomes.specs.Simulation.{Simulates, leave, test, tests, look, checked, aside}
 use Rattle.theory_laws.specs.Representation.{Entries, SortAt, OutputAt, sort-output, SymbolAt, symbol-at, Nth, flat-variable, flat-symbol, no-flats}
 use Rattle.theory_laws.specs.Representation.{Declares, Holds}
+use Rattle.words.proofs.Laws.{length-within}
 use Rattle.words.proofs.Sums.{sum-small}
 use Rattle.theory_laws.proofs.Frames.{keeps-set, grown-none, symbol-kept, variables-kept}
 use Rattle.theory_laws.proofs.Ready.{Ready, PatternRead, push-ready, nth-more, nth-last, nth-below, variables-more, ready-on}
-use Rattle.theory_laws.proofs.Lookups.{named-turned, part-question, part-length, bare-width, Placed, placed, variables-from, same-sort}
+use Rattle.theory_laws.proofs.Lookups.{named-turned, part-question, bare-width, Placed, placed, variables-from, same-sort}
 use Rattle.theory_laws.proofs.Lookups.{same-output}
 
 -- An atom as a term, by its first byte.
@@ -211,7 +212,7 @@ module _ (text counts : List ℕ) (Before : Reader → Stream Token → Type 0) 
       → Simulates (HasRead ts ks vs (w .top) heap) (walkVariables.variablePattern text s t a w vars heap) (definition.variablePattern name sortName vs)
   unfolding walkVariables.variablePattern definition.variablePattern number
   variable-pattern-law {vs} {w} {vars} name sortName s t a short r p l u q m =
-      let n : length name ≡ t - s = ap length (sym p) ∙ part-length s t text u in
+      let n : length name ≡ t - s = ap length (sym p) ∙ length-within text name s t u in
       let b = bare-width name (t - s) q n in
       test (not (eqb (t - s) 1)) 11 variableName _ _ (ap not (sym b)) refl
       (λ e.

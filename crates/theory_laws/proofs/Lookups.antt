@@ -7,7 +7,7 @@ use Prim.Native.Nat.{ℕ, zero, suc, _+_, _*_, _-_, _≤_, _<_}
 use native.Mathlib.Omega.{arith}
 use borrow.Author.Tests.{eq-eqb, ne-eqb}
 use lib.Dec.{eqb}
-use lib.ListN.{length, getD, take, drop, length-take, length-drop}
+use lib.ListN.{length, getD, take, drop}
 use lib.Seq.{drop-cons}
 use Rattle.horn.specs.Names.{Name, named, sameList, questioned, bare, codes, first}
 use Rattle.horn.specs.Rulebook.{Output, sameOutput, Variable, variable, isVariable, Theory}
@@ -32,11 +32,7 @@ named-turned a b =
     (λ e. rw e)
     (λ n. apart named-decides a b n ∙ sym (apart named-decides b a (λ e. n (sym e))))
 
--- A name by its bounds: its length, its first byte, and whether it is `?` alone.
-pub part-length : (s t : ℕ) (text : List ℕ) → t ≤ length text → length (part s t text) ≡ t - s
-unfolding part
-part-length s t text h = simp (length-take, length-drop) (omega arith)
-
+-- A name by its bounds: its first byte, and whether it is `?` alone.
 pub part-question : (s t : ℕ) (text : List ℕ) → s < t → t ≤ length text → questioned (part s t text) ≡ question text s
 unfolding part question questioned
 part-question s t text l h = by (t - s) (omega arith) where

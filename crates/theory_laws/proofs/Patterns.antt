@@ -38,7 +38,7 @@ use Rattle.theory_laws.proofs.Ready.{Ready, Reached, PatternRead, push-
 use Rattle.theory_laws.proofs.Leaves.{Applied, applied-at, applied-law, leaf-law, less-credit, symbol-word, low-top, top-rises, top-after}
 
 pub alone : (xs : Sexps) → eqb (suc (count xs)) 1 ≡ isZero (count xs)
-unfolding count isZero count
+unfolding count isZero
 alone []ₛ = refl
 alone (x ∷ₛ xs) = ne-eqb (suc (suc (count xs))) 1 (λ e. omega arith)
 

@@ -135,8 +135,8 @@ module _ (text heap middle vars : List ℕ) (es : Entries) (th : Theory) (e top 
     small-end = small-end;
   }
 
-  long-enough : e + places.variables < length named-words
-  long-enough = let l = h .long in let q = keeps .same-length in rw (length-added middle places.rules places.buckets e text s t) (omega arith)
+  rule-long-enough : e + places.variables < length named-words
+  rule-long-enough = let l = h .long in let q = keeps .same-length in rw (length-added middle places.rules places.buckets e text s t) (omega arith)
 
   new-rule : RuleAt text rule-words (withRule es (entry e name)) (top + 3 * v) e (rule name vs premises conclusion)
   new-rule =
@@ -146,17 +146,17 @@ module _ (text heap middle vars : List ℕ) (es : Entries) (th : Theory) (e top 
         low = low;
         called = List·Memᴰ·head refl;
         premise-count =
-            copied-before (3 * v) described-words top vars 0 (e + places.premise-count) (omega arith) ∙ rule-first named-words e n v mid top long-enough
+            copied-before (3 * v) described-words top vars 0 (e + places.premise-count) (omega arith) ∙ rule-first named-words e n v mid top rule-long-enough
             ∙ many-premises;
         variable-count =
-            copied-before (3 * v) described-words top vars 0 (e + places.variable-count) (omega arith) ∙ rule-second named-words e n v mid top long-enough
+            copied-before (3 * v) described-words top vars 0 (e + places.variable-count) (omega arith) ∙ rule-second named-words e n v mid top rule-long-enough
             ∙ many-variables;
         conclusion-place = mid;
         variables-place = top;
         to-conclusion =
-            copied-before (3 * v) described-words top vars 0 (e + places.conclusion) (omega arith) ∙ rule-third named-words e n v mid top long-enough;
+            copied-before (3 * v) described-words top vars 0 (e + places.conclusion) (omega arith) ∙ rule-third named-words e n v mid top rule-long-enough;
         to-variables =
-            copied-before (3 * v) described-words top vars 0 (e + places.variables) (omega arith) ∙ rule-fourth named-words e n v mid top long-enough;
+            copied-before (3 * v) described-words top vars 0 (e + places.variables) (omega arith) ∙ rule-fourth named-words e n v mid top rule-long-enough;
         at-premises = premises-kept g older-words (omega arith) pattern-words (omega arith) (λ i x y. y) at-premises;
         at-conclusion = flat-kept g older-words (omega arith) pattern-words (omega arith) (λ i x y. y) at-conclusion;
         at-variables =

@@ -72,7 +72,7 @@ same-end a b i h k = rw (drop-of-length-le a h, drop-of-length-le b k)
 
 module _ (text key : List ℕ) (start end : ℕ) (h : end ≤ length text) where
   -- A part that is there differs from what has another length, and from what ends on another byte.
-  length-within : length (part start end text) ≡ end - start
+  pub length-within : length (part start end text) ≡ end - start
   unfolding part
   length-within = length-take (end - start) (drop start text) ∙ rw (length-drop start text) (omega arith)
 
