@@ -21,6 +21,7 @@ use Rattle.outcomes.specs.Outcomes.{Outcome}
 use Rattle.outcomes.specs.Leaving as leaving
 use Rattle.outcomes.specs.Leaving.{_leaving_}
 use Rattle.outcomes.specs.Simulation.{Simulates, refuse, leave, bind, knowing-answer}
+use Rattle.items.specs.Places as places
 use Rattle.theory_laws.specs.Representation.{Entries, Holds}
 use Rattle.tables.specs.declared.Tally.{Tally}
 use Rattle.asking.specs.Asking.{Top}
@@ -48,8 +49,8 @@ Reads rules heap es bound th goalsText certificate goals fuel =
     (walk.formsFrom fuel certificate goalsText rules tally r (areas .0 .0 .0) (areas .0 .0 .1) (areas .0 .1) (areas .1))
     (definition.certificateForms document01 th now is ts)
 
-module _ {rules heap : List ℕ} {es : Entries} {bound : ℕ} {th : Theory} (h : Holds rules heap es bound th) (high : bound ≤ 11948) (w : WellFormed th)
-    (goalsText certificate : List ℕ) (short : length certificate ≤ 32768) {goals : List Goal} where
+module _ {rules heap : List ℕ} {es : Entries} {bound : ℕ} {th : Theory} (h : Holds rules heap es bound th) (high : bound ≤ places.theory-end)
+    (w : WellFormed th) (goalsText certificate : List ℕ) (short : length certificate ≤ 32768) {goals : List Goal} where
   module _ (inner rest : Items) {tally : Tally} {r : Reader} {areas : AllAreas} {now : Progress} {ts : List Term}
       (s : Standing rules heap es bound th goalsText certificate goals (group inner then rest) (tally, r) areas (now, ts)) where
     -- The form by its head.

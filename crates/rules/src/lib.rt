@@ -83,7 +83,7 @@ pub fn store_variables(vars: &[u32], heap: &mut [u32], w: Walk) -> Walk
     ensures { λ r. ⌜ (ok r leaving now (heap .exit)) ≡ variablesStored w (now (vars .entry)) (now (heap .entry)) ⌝ }
 {
     let top = w.top;
-    let end = 3 * w.variables as usize;
+    let end = places::VARIABLE_WORDS * w.variables as usize;
     words::copy(heap, top as usize, vars, end);
     let reader = w.reader;
     Walk {

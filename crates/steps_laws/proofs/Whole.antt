@@ -105,8 +105,8 @@ counted {S} {A} {Q} {R} p u (refusals.ok a) c r ts f g s k = by (c a) s where
   by true (leave q) = k _ _ _ q
   by false (refuse e) = refuse e
 
-module _ {rules heap : List ℕ} {es : Entries} {bound : ℕ} {th : Theory} (h : Holds rules heap es bound th) (high : bound ≤ 11948) (w : WellFormed th)
-    (goalsText certificate : List ℕ) (short : length certificate ≤ 32768)
+module _ {rules heap : List ℕ} {es : Entries} {bound : ℕ} {th : Theory} (h : Holds rules heap es bound th) (high : bound ≤ places.theory-end)
+    (w : WellFormed th) (goalsText certificate : List ℕ) (short : length certificate ≤ 32768)
     {table : List ℕ} {tally : Tally} {goals : List Goal} {ts : List Term} (now : Progress)
     (Recorded : ℕ → ℕ → ℕ → Step → Type 0) (judged : (j r p : ℕ) (s : Step) → Recorded j r p s → Means es th ts j (judgmentOf s))
     (t : Tables goalsText certificate table defBuckets (Means es th ts) Recorded tally goals (now .openGoals) (now .defs) (now .steps))

@@ -99,7 +99,7 @@ pub fn declare_sort(text: &[u8], counts: &[u32], heap: &mut [u32], w: Walk) -> W
     let Walked::To(p) = n else {
         return Walked::Refused(items::walked_refusal(n));
     };
-    items::close(text, reserve(p, 3))
+    items::close(text, reserve(p, places::SORT_WORDS))
 }
 
 // A symbol's inputs, then the closing.

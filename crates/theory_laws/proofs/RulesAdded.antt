@@ -21,7 +21,7 @@ use Rattle.theory_laws.proofs.Adding.{Adds, adds-kept, others, newer}
 
 -- Variables in another area, from another place on.
 pub variables-moved : {text area area′ : List ℕ} {es es′ : Entries} {o : ℕ} {vs : List Variable} (g : Grown es es′) (o′ : ℕ)
-    → ((i i′ : ℕ) → i′ + o ≡ i + o′ → o ≤ i → i < o + 3 * length vs → getD area′ i′ 0 ≡ getD area i 0)
+    → ((i i′ : ℕ) → i′ + o ≡ i + o′ → o ≤ i → i < o + places.variable-words * length vs → getD area′ i′ 0 ≡ getD area i 0)
     → VariablesAt text area es o vs
     → VariablesAt text area′ es′ o′ vs
 variables-moved g o′ k no-variables = no-variables
@@ -29,7 +29,7 @@ variables-moved {o} g o′ k (one-variable {name} {s} {vs} n a r) =
     one-variable {o = o′} {name = name} {s = s}
     (rw (k o o′ (omega arith) (omega arith) (omega arith), k (o + 1) (o′ + 1) (omega arith) (omega arith) (omega arith)) n)
     (rw (k (o + 2) (o′ + 2) (omega arith) (omega arith) (omega arith)) (sort-kept g a))
-    (variables-moved g (o′ + 3) (λ i i′ e l u. k i i′ (omega arith) (omega arith) (omega arith)) r)
+    (variables-moved g (o′ + places.variable-words) (λ i i′ e l u. k i i′ (omega arith) (omega arith) (omega arith)) r)
 
 -- The four words behind a rule's name.
 module _ (heap : List ℕ) (e a b c d : ℕ) where

@@ -156,11 +156,11 @@ module _ {text heap : List ℕ} {es : Entries} {top : ℕ} {th : Theory} (h : Ho
   variables-are (rule-at w) = rw (w .to-variables) (w .at-variables)
 
   -- Bindings have room from word 12,288 on. What keeps the words below keeps the theory.
-  pub bindings-fit : {e : ℕ} {r : Rule} → top ≤ 11948 → RuleAt text heap es top e r → places.bindings + length (variablesOf r) ≤ 16384
+  pub bindings-fit : {e : ℕ} {r : Rule} → top ≤ places.theory-end → RuleAt text heap es top e r → places.bindings + length (variablesOf r) ≤ 16384
   unfolding variablesOf
   bindings-fit t (rule-at w) = let l = w .low in let u = w .rising in let k = w .high in omega arith
 
-  pub holds-now : top ≤ 11948 → {now : List ℕ} → Keeps places.bindings heap now → Holds text now es top th
+  pub holds-now : top ≤ places.theory-end → {now : List ℕ} → Keeps places.bindings heap now → Holds text now es top th
   holds-now t k = holds-kept (keeps-less (omega arith) k) (omega arith) h
 
   -- A variable of the rule by its bytes.
