@@ -24,7 +24,7 @@ use Rattle.outcomes.specs.Outcomes as outcomes
 use Rattle.outcomes.specs.Outcomes.{Outcome}
 use Rattle.theory_laws.specs.Reading.{weight}
 use Rattle.outcomes.specs.Simulation.{Answers, both-refuse, both-ok}
-use Rattle.theory_laws.proofs.Lookups.{part-length}
+use Rattle.words.proofs.Laws.{part-length}
 use Rattle.asking.specs.Asking as asked
 use Rattle.asking.specs.Asking.{Met, Ahead, Top, itemDue, atomDue, listDue, closingDue, closingNext, formDue}
 use Rattle.asking_laws.proofs.Places.{Begins, Comes, RestComes, At}

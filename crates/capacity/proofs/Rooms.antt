@@ -29,7 +29,7 @@ pub certificate-start : (text : List ℕ) (limit : ℕ) (goals : List Goal) → 
 certificate-start text limit goals h = record { bound = let a = items-bytes text in omega arith }
 
 -- All goals of a goals text.
-pub goals-few : (limits : Setting) (th : Theory) {limit : ℕ} (is : Items) (goals : List Goal) (s : Store) {s′ : Store} {more : List Goal}
+goals-few : (limits : Setting) (th : Theory) {limit : ℕ} (is : Items) (goals : List Goal) (s : Store) {s′ : Store} {more : List Goal}
     → checker.goalForms limits th goals is s ≡ ok (more, s′)
     → GoalBudget limit goals is
     → 11 * length more ≤ limit
@@ -68,15 +68,20 @@ reached-budget {goals} {text} limit h (at-start e) = rw e (certificate-start tex
 reached-budget {limits} {th} limit h (by-form {now} {item} {rest} {s} r e) =
     certificate-keeps limits th now item rest s e (reached-budget limit h r)
 
--- No certificate fills the table.
-pub never-full : {limits : Setting} {th : Theory} {goals : List Goal} {text : List ℕ} {now : Progress} {left : Items} {s : Store}
-    {base goalsBytes certificateBytes words : ℕ}
+-- No release fills the table: the goals of a goals text, and what stands in the table between two forms of a certificate. For a reader of these
+-- files; no other theorem uses it.
+pub never-full : {limits : Setting} {th : Theory} {goals : List Goal} (goalsText : List ℕ) {text : List ℕ} {now : Progress} {left : Items} (s : Store)
+    {s₁ s₂ : Store} {base goalsBytes certificateBytes words : ℕ}
     → Roomy base goalsBytes certificateBytes words
-    → 11 * length goals ≤ goalsBytes
+    → length goalsText ≤ goalsBytes
+    → checker.goalForms limits th [] (items (tokens goalsText)) s ≡ ok (goals, s₁)
     → length text ≤ certificateBytes
-    → Reached limits th goals text now left s
+    → Reached limits th goals text now left s₂
     → base + 4 * length goals + 4 * length (now .defs) + 3 * length (now .steps) ≤ words
-never-full {goals} {certificateBytes} r g h reached = tables-fit (length goals) r g (reached-budget certificateBytes h reached)
+never-full {limits} {th} {goals} goalsText s {goalsBytes} {certificateBytes} r g e h reached =
+    tables-fit (length goals) r
+    (goals-few limits th (items (tokens goalsText)) [] s e (goals-start goalsText goalsBytes g))
+    (reached-budget certificateBytes h reached)
 
 -- Document 01's setting, with 64 buckets of goals and 192 of abbreviations.
 pub roomy-01 : Roomy (64 + 192) (document01 .goalsBytes) (document01 .certificateBytes) (document01 .areaWords)

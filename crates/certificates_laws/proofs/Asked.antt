@@ -1,7 +1,7 @@
 -- What a form asks without its areas, beside the definition: tests, names and searches. Assumes nothing.
 use Prim.Native.Nat.{ℕ, _+_, _-_, _≤_, _<_}
 use mathlib.Core.Path.{_≡_, refl, ap, sym, _∙_}
-use mathlib.Core.Bool.{Bool, true, false, not, _&&_, true≢false}
+use mathlib.Core.Bool.{Bool, true, false, not, _&&_}
 use mathlib.Core.List.{List}
 use lib.Dec.{eqb}
 use lib.ListN.{length}
@@ -14,15 +14,15 @@ use Rattle.horn.specs.StoredTerms.{Term}
 use Rattle.horn.specs.Checker as definition
 use Rattle.horn.proofs.Equality.{case}
 use Rattle.words.specs.Parts.{part}
+use Rattle.words.proofs.Laws.{part-length}
 use Rattle.lex.specs.declared.Reader.{Reader}
 use Rattle.outcomes.specs.Outcomes as outcomes
 use Rattle.outcomes.specs.Outcomes.{Outcome}
 use Rattle.outcomes.specs.Leaving as leaving
 use Rattle.outcomes.specs.Leaving.{Did, _leaving_}
 use Rattle.items.specs.Items.{question}
-use Rattle.outcomes.specs.Simulation.{Answers, both-refuse, both-ok, then, Simulates, refuse, leave}
-use Rattle.theory_laws.proofs.Lookups.{part-question, part-length, bare-width}
-use Rattle.theory_reading.specs.Storing as storing
+use Rattle.outcomes.specs.Simulation.{Answers, both-refuse, both-ok, then, Simulates, refuse}
+use Rattle.theory_laws.proofs.Lookups.{part-question, bare-width}
 use Rattle.asking_laws.proofs.Places.{RestComes, At}
 use Rattle.asking_laws.proofs.Asking.{WordMet, word-met, word-law}
 use Rattle.asking.specs.Asking.{inForm, atomDue}

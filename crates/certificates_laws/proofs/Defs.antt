@@ -66,11 +66,11 @@ data DefRead (es : Entries) (th : Theory) (certificate table : List ℕ) (tally 
       (defined now (part s t certificate) u, us)
 
 -- "Duplicate 13".
-known : {goalsText certificate table : List ℕ} {Means : ℕ → Term → Type 0} {Recorded : ℕ → ℕ → ℕ → Step → Type 0} {tally : Tally} {goals openGoals : List Goal}
-    {defs : List Def}
-    {steps : List Step} {key name : Name} → Tables goalsText certificate table defBuckets Means Recorded tally goals openGoals defs steps → key ≡ name
+def-present : {goalsText certificate table : List ℕ} {Means : ℕ → Term → Type 0} {Recorded : ℕ → ℕ → ℕ → Step → Type 0} {tally : Tally}
+    {goals openGoals : List Goal} {defs : List Def} {steps : List Step} {key name : Name}
+    → Tables goalsText certificate table defBuckets Means Recorded tally goals openGoals defs steps → key ≡ name
     → present (defFound defBuckets certificate key table) ≡ someOf (isDef name) defs
-known {name} t e = rw e (known-def t name)
+def-present {name} t e = rw e (known-def t name)
 
 -- What leaves the store, the stack and the table, beside the theory's area.
 beside-live : {A B : Type 0} {Q : A → Areas × List ℕ → B → Type 0} {R : A → AllAreas → B → Type 0} {m : Did (Areas × List ℕ) A} {m′ : Result B}
@@ -81,24 +81,24 @@ beside-live : {A B : Type 0} {Q : A → Areas × List ℕ → B → Type 0} {R :
 beside-live live (refuse e) k = refuse e
 beside-live live (leave q) k = leave (k _ _ _ q)
 
-module _ {rules heap : List ℕ} {es : Entries} {bound : ℕ} {th : Theory} (h : Holds rules heap es bound th) (high : bound ≤ 11948)
+module _ {rules heap : List ℕ} {es : Entries} {bound : ℕ} {th : Theory} (h : Holds rules heap es bound th) (high : bound ≤ places.theory-end)
     (goalsText certificate : List ℕ) (short : length certificate ≤ 32768) {goals : List Goal} {tally : Tally} (now : Progress)
     {ts : List Term} {store live table : List ℕ} (stack : List ℕ) (stored : Stored es th document01 indexPlaces store ts) (long : length stack ≡ 16384)
     (keep : Keeps places.bindings heap live) where
   -- The form is read whole before the table is written.
-  reads : {Recorded : ℕ → ℕ → ℕ → Step → Type 0} (K : Stream Token → Type 0) (is : Items) (r : Reader)
+  def-reads : {Recorded : ℕ → ℕ → ℕ → Step → Type 0} (K : Stream Token → Type 0) (is : Items) (r : Reader)
       → Tables goalsText certificate table defBuckets (Means es th ts) Recorded tally goals (now .openGoals) (now .defs) (now .steps)
       → At certificate (RestComes is K) 0 r
       → Simulates (DefRead es th certificate table tally now K ts) (walk.defForm certificate rules live tally r store stack table)
       (definition.defForm document01 th now is ts)
   unfolding walk.defForm definition.defForm checker._>>=_ checker.lift checker.give AskedRead number
-  reads K is r t at-items =
+  def-reads K is r t at-items =
       lifted-tested ts (askWord 1 is) (λ y. questioned (y .0) && not (bare (y .0))) variableName _ _ (def-named certificate K 0 is at-items) (λ x y m.
       bind-before table _ _ (certificate-term (holds-now h high keep) inForm 1 0 2 refl (y .1) K (x .2) store stack stored (omega arith) long t short
       (m .reader))
       (λ z areas v k.
       lifted (v .1) _ _
-      (tested (not (present (defFound defBuckets certificate (part (x .0) (x .1) certificate) table))) 13 duplicate (ap not (known t (m .name))) refl)
+      (tested (not (present (defFound defBuckets certificate (part (x .0) (x .1) certificate) table))) 13 duplicate (ap not (def-present t (m .name))) refl)
       (λ a b fresh.
       lifted (v .1) _ _ (closing-law certificate K 4 (v .0 .1) (k .reader)) (λ q c there.
       rw (← m .name)
@@ -113,7 +113,7 @@ module _ {rules heap : List ℕ} {es : Entries} {bound : ℕ} {th : Theory} (h :
       → Simulates (Standing rules heap es bound th goalsText certificate goals rest)
       (around live (walk.defForm certificate rules live tally r store stack table)) (definition.defForm document01 th now is ts)
   def-law item rest is r so-far same at-items =
-      beside-live live (knowing (reads (RestComes rest Any) is r (so-far .tables) at-items)) (λ x areas y p. by (p .0) (p .1)) where
+      beside-live live (knowing (def-reads (RestComes rest Any) is r (so-far .tables) at-items)) (λ x areas y p. by (p .0) (p .1)) where
         by : {x : Tally × Reader} {areas : Areas × List ℕ} {y : Progress × List Term}
             → DefRead es th certificate table tally now (RestComes rest Any) ts x areas y
             → definition.defForm document01 th now is ts ≡ ok y

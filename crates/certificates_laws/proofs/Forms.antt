@@ -5,7 +5,7 @@ use mathlib.Core.List.{List}
 use native.Mathlib.Omega.{arith}
 use lib.ListN.{length}
 use Rattle.horn.specs.Refusals as refusals
-use Rattle.horn.specs.Refusals.{Result, number, ok}
+use Rattle.horn.specs.Refusals.{number}
 use Rattle.horn.specs.Setting.{document01}
 use Rattle.horn.specs.NestedLists.{group, Items, _then_}
 use Rattle.horn.specs.Rulebook.{Theory}
@@ -20,7 +20,8 @@ use Rattle.lex.specs.declared.Reader.{Reader}
 use Rattle.outcomes.specs.Outcomes.{Outcome}
 use Rattle.outcomes.specs.Leaving as leaving
 use Rattle.outcomes.specs.Leaving.{_leaving_}
-use Rattle.outcomes.specs.Simulation.{Answers, both-refuse, both-ok, Simulates, refuse, leave, bind}
+use Rattle.outcomes.specs.Simulation.{Simulates, refuse, leave, bind, knowing-answer}
+use Rattle.items.specs.Places as places
 use Rattle.theory_laws.specs.Representation.{Entries, Holds}
 use Rattle.tables.specs.declared.Tally.{Tally}
 use Rattle.asking.specs.Asking.{Top}
@@ -39,11 +40,6 @@ use Rattle.certificates_laws.proofs.Defs.{def-law}
 use Rattle.certificates_laws.proofs.Results.{result-law}
 use Rattle.certificates_laws.proofs.Recording.{step-form-law}
 
--- What the definition was asked for is known.
-known : {A B : Type 0} {Q : A → B → Type 0} {o : Outcome A} {m : Result B} → Answers Q o m → Answers (λ a b. Q a b × (m ≡ ok b)) o m
-known (both-refuse e) = both-refuse e
-known (both-ok q) = both-ok (q, refl)
-
 -- From a reader before some forms, with so many turns.
 abbrev pub Reads : List ℕ → List ℕ → Entries → ℕ → Theory → List ℕ → List ℕ → List Goal → ℕ → Type 0
 Reads rules heap es bound th goalsText certificate goals fuel =
@@ -53,8 +49,8 @@ Reads rules heap es bound th goalsText certificate goals fuel =
     (walk.formsFrom fuel certificate goalsText rules tally r (areas .0 .0 .0) (areas .0 .0 .1) (areas .0 .1) (areas .1))
     (definition.certificateForms document01 th now is ts)
 
-module _ {rules heap : List ℕ} {es : Entries} {bound : ℕ} {th : Theory} (h : Holds rules heap es bound th) (high : bound ≤ 11948) (w : WellFormed th)
-    (goalsText certificate : List ℕ) (short : length certificate ≤ 32768) {goals : List Goal} where
+module _ {rules heap : List ℕ} {es : Entries} {bound : ℕ} {th : Theory} (h : Holds rules heap es bound th) (high : bound ≤ places.theory-end)
+    (w : WellFormed th) (goalsText certificate : List ℕ) (short : length certificate ≤ 32768) {goals : List Goal} where
   module _ (inner rest : Items) {tally : Tally} {r : Reader} {areas : AllAreas} {now : Progress} {ts : List Term}
       (s : Standing rules heap es bound th goalsText certificate goals (group inner then rest) (tally, r) areas (now, ts)) where
     -- The form by its head.
@@ -83,7 +79,7 @@ module _ {rules heap : List ℕ} {es : Entries} {bound : ℕ} {th : Theory} (h :
         (definition.certificateForm document01 th now (group inner) ts)
     unfolding walk.formRead definition.certificateForm checker._>>=_ checker.lift checker.groupDue refusals._>>=_
     form-law q at-items =
-        lifted ts _ _ (known (member-law certificate (RestComes rest Any) 0 inner at-items)) (λ x y p.
+        lifted ts _ _ (knowing-answer (member-law certificate (RestComes rest Any) 0 inner at-items)) (λ x y p.
         rw (p .0 .name)
         (by-head (y .1) (x .2) (headed (y .0)) (rw (p .1)) (at-less 0 (omega arith) (p .0 .reader))))
 

@@ -88,14 +88,14 @@ module _ {rules heap : List ℕ} {es : Entries} {bound : ℕ} {th : Theory} (h :
     (goalsText certificate : List ℕ) {goals : List Goal} {tally : Tally} (now : Progress)
     {ts : List Term} {store live table : List ℕ} (stack : List ℕ) (stored : Stored es th document01 indexPlaces store ts) (long : length stack ≡ 16384)
     (keep : Keeps places.bindings heap live) where
-  reads : (K : Stream Token → Type 0) (is : Items) (r : Reader)
+  result-reads : (K : Stream Token → Type 0) (is : Items) (r : Reader)
       → Tables goalsText certificate table defBuckets (Means es th ts) (StepRecorded rules heap es bound th ts) tally goals (now .openGoals)
       (now .defs) (now .steps)
       → At certificate (RestComes is K) 0 r
       → Simulates (ResultRead certificate table (Means es th ts) tally goals now K ts) (walk.resultForm certificate goalsText tally r table)
       (definition.resultForm document01 th now is ts)
   unfolding walk.resultForm definition.resultForm checker._>>=_ checker.lift checker.give number
-  reads K is r t at-items =
+  result-reads K is r t at-items =
       lifted ts _ _ (member-law certificate K 0 is at-items) (λ x y m.
       lifted ts _ _ (open-due t (m .name)) (λ z g a.
       lifted ts _ _ (number-law certificate K 2 (y .1) inForm 1 refl (m .reader)) (λ n v i.
@@ -111,7 +111,7 @@ module _ {rules heap : List ℕ} {es : Entries} {bound : ℕ} {th : Theory} (h :
       → Simulates (Standing rules heap es bound th goalsText certificate goals rest)
       (beside ((store, stack), live) (walk.resultForm certificate goalsText tally r table)) (definition.resultForm document01 th now is ts)
   result-law item rest is r so-far same at-items =
-      aside ((store, stack), live) (knowing (reads (RestComes rest Any) is r (so-far .tables) at-items)) (λ x left y p. by (p .0) (p .1)) where
+      aside ((store, stack), live) (knowing (result-reads (RestComes rest Any) is r (so-far .tables) at-items)) (λ x left y p. by (p .0) (p .1)) where
         by : {x : Tally × Reader} {left : List ℕ} {y : Progress × List Term}
             → ResultRead certificate table (Means es th ts) tally goals now (RestComes rest Any) ts x left y
             → definition.resultForm document01 th now is ts ≡ ok y

@@ -18,7 +18,7 @@ use tables::Kept;
 use tables::Open;
 use tables::Tally;
 
-// The three forms of a certificate, by their heads.
+// The three forms of a certificate by their heads, or another head.
 pub enum Keyword {
     Step,
     Result,

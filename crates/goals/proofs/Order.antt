@@ -25,6 +25,7 @@ module _ (text : List ℕ) (tally : Tally) (s t k : ℕ) (store stack table : Li
   closing-first : (p : Reader) {n : ℕ} → closingDue text p ≡ refused n → behind p ≡ (refused n leaving ((store, stack), table))
   closing-first p e = rw e
 
+-- For a reader of these files; no other theorem uses it.
 pub unclosed : (text rules heap : List ℕ) (tally : Tally) (r : Reader) (store stack table : List ℕ)
     {s t k n : ℕ} {q p : Reader} {store′ stack′ : List ℕ}
     → goalName text r ≡ ok (s, t, q)

@@ -14,13 +14,13 @@ use names::Found;
 use nodes::Numbered;
 use tables::Tally;
 
-// How many goals, abbreviations and steps there are after a form, and the reader after it.
+// The first free word of the table with the numbers of goals, open goals and steps (crate tables) after a form, and the reader after it.
 pub enum Form {
     Next(Tally, Reader),
     Refused(u32),
 }
 
-// How many there are at the end of the text.
+// The same at the end of the text, without a reader.
 pub enum Forms {
     All(Tally),
     Refused(u32),

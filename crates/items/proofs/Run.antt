@@ -1,6 +1,5 @@
 -- What the second walk reads, opened for computing it on small texts: an order of tests is shown by a text that fails two of them.
 use Prim.Native.Nat.{ℕ}
-use mathlib.Core.List.{List}
 use Rattle.horn.specs.Refusals
 use Rattle.horn.specs.Utf8
 use Rattle.horn.specs.Tokens
@@ -13,6 +12,7 @@ use Rattle.scanning.specs.Scan
 use Rattle.names.specs.Chains
 use Rattle.outcomes.specs.Outcomes.{refusal}
 use Rattle.outcomes.specs.Leaving.{Did, _leaving_}
+use Rattle.items.specs.Places as places
 use Rattle.items.specs.Items
 use Rattle.items.specs.declared.Walk.{Walk}
 
@@ -35,7 +35,7 @@ openItems = tt
 -- The walk at the start of a text.
 unfoldable pub atStart : Walk
 unfolding Answers.start
-atStart = record { reader = Answers.start; opened = 0; top = 1024; variables = 0 }
+atStart = record { reader = Answers.start; opened = 0; top = places.entries; variables = 0 }
 
 -- The number that is answered: 0, or that of the refusal.
 abbrev pub answeredWith : {S A : Type 0} → Did S A → ℕ

@@ -24,6 +24,10 @@ entries = 1024
 abbrev pub variable : ℕ
 variable = 16384
 
+-- A sort's entry is its name alone, of so many words.
+abbrev pub sort-words : ℕ
+sort-words = 3
+
 -- In an entry, behind the three words of its name. A symbol: what it gives, how many inputs it has, and the inputs.
 abbrev pub output : ℕ
 output = 3
@@ -49,6 +53,14 @@ variables = 6
 
 abbrev pub patterns : ℕ
 patterns = 7
+
+-- Words of each variable of a rule: where its name begins and ends, and its sort.
+abbrev pub variable-words : ℕ
+variable-words = 3
+
+-- Where the entries of any accepted rulebook end at the latest, as crate theory_laws shows.
+abbrev pub theory-end : ℕ
+theory-end = 11948
 
 -- Words of bindings, one for each variable of the rule of the step that is being read; the theory stands below.
 abbrev pub bindings : ℕ

@@ -1,12 +1,12 @@
 // The next item of a rulebook's list in its second walk, and what is due there. That walk sees only texts that the first walk read whole, so
 // that its refusals 3 to 6 and 10 never come; they are answered all the same.
 //
-// The theory's area: 256 buckets each for sorts, constructors, predicates and rules, from 0, 256, 512 and 768, then entries in the order
-// of the text, named by their addresses. A sort is its name (bounds and link). A symbol is its name, its output (the sort's address, 0 for
-// a judgment), the number of its inputs, and their sorts' addresses. A rule is its name, the numbers of its premises and of its variables,
-// the places of its conclusion and of its variables, the patterns of its premises and its conclusion, and its variables (bounds and
-// sort). A pattern has one word a node, in preorder: a symbol's address, whose arguments follow, or 16,384 and a variable's number. While
-// a rule is read its variables stand in an area of their own, three words each.
+// The theory's area, whose places `places` names: buckets of sorts, constructors, predicates and rules, then entries in the order of the
+// text, named by their addresses. A sort is its name (bounds and link). A symbol is its name, its output (the sort's address, 0 for a
+// judgment), the number of its inputs, and their sorts' addresses. A rule is its name, the numbers of its premises and of its variables, the
+// places of its conclusion and of its variables, the patterns of its premises and its conclusion, and its variables (bounds and sort). A
+// pattern has one word a node, in preorder: a symbol's address, whose arguments follow, or `VARIABLE` and a variable's number. While a rule
+// is read its variables stand in an area of their own, as they will in its entry.
 ghost use mathlib.Core.Path.{_≡_};
 ghost use Prim.Native.Nat.{_-_, _%_};
 ghost use lib.Dec.{eqb};
@@ -81,7 +81,7 @@ pub fn walked_refusal(r: Walked) -> u32
     }
 }
 
-// A place in a text as a word.
+// The low 32 bits of a place.
 pub fn low(x: usize) -> u32
     ensures { λ r. ⌜ r ≡ x % 4294967296 ⌝ }
 {

@@ -32,7 +32,7 @@ pub fn built_refusal(r: Built) -> u32
     }
 }
 
-// The word of a variable's binding.
+// Writes the word of a variable's binding.
 pub fn set_binding(heap: &mut [u32], v: u32, word: u32)
     ensures { λ r. ⌜ now (heap .exit) ≡ set (now (heap .entry)) (models.bindingAt v) word ⌝ }
 {

@@ -1,1 +1,1 @@
-// The laws that join matching and building to the definition are in proofs/. There is no code here.
+// The laws that join crates matching and concluding to the definition are in proofs/. There is no code here.

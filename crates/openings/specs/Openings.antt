@@ -24,7 +24,7 @@ begins (starts.Whole k) r = ok (whole k, r)
 begins (starts.Opened c) r = ok (opened c, r)
 begins (starts.Refused n) r = refused n
 
--- As a member of a list, a closing may be next instead.
+-- Whether a closing is next, asked only for a member of a list.
 abbrev pub lookFor : List ℕ → Bool → Reader → Outcome asking.Ahead
 lookFor text true r = closingNext text r
 lookFor text false r = ok (asking.member r)

@@ -20,7 +20,7 @@ pub enum Begun {
     Refused(u32),
 }
 
-// As a member of a list, a closing may be next instead.
+// Whether a closing is next, asked only for a member of a list.
 pub fn look(text: &[u8], member: bool, reader: Reader) -> Look
     ensures { λ r. ⌜ looked r ≡ lookFor (now (text .entry)) member reader ⌝ }
 {

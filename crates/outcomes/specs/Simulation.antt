@@ -3,7 +3,7 @@ use Prim.Native.Nat.{ℕ}
 use mathlib.Core.Path.{_≡_, refl, sym}
 use mathlib.Core.Bool.{Bool, true, false, _&&_, true≢false}
 use mathlib.Core.Option.{Option}
-use Rattle.horn.specs.Refusals.{Refusal, number, Result, ok, refused, _>>=_, need, found}
+use Rattle.horn.specs.Refusals.{Refusal, number, unknown, Result, ok, refused, _>>=_, need, found}
 use Rattle.names.specs.Tables.{Agree, both-none, both-some}
 use Rattle.outcomes.specs.Outcomes as outcomes
 use Rattle.outcomes.specs.Outcomes.{Outcome}
@@ -76,6 +76,13 @@ unfolding _>>=_ found
 look n r f f′ both-none q k = refuse q
 look n r f f′ (both-some m) q k = k _ _ m
 
+-- What is looked for and unknown is 12.
+pub sought : {A : Type 0} {Means : ℕ → A → Type 0} {o : Option ℕ} {o′ : Option A} → Agree Means o o′
+    → Answers Means (outcomes.orElse o 12) (found o′ unknown)
+unfolding found number
+sought both-none = both-refuse refl
+sought (both-some m) = both-ok m
+
 -- What follows a search and its test: the definition looks and tests, then goes on.
 pub checked : {S A C D E : Type 0} {Q : A → S → C → Type 0} {R : E → S → D → Type 0} {m : Did S A} (m′ : Result C) (g : C → Bool) (r : Refusal)
     (f : A × S → Did S E) (f′ : C → Result D)
@@ -89,7 +96,7 @@ checked {Q} {R} {m} (ok c) g r f f′ h k = by (g c) h where
   by false h = bind f (λ x. f′ x) h k
 checked (refused r′) g r f f′ h k = bind f f′ h k
 
--- The same where the walk leaves an area beside another.
+-- Beside an area that the walk does not touch.
 pub aside : {P S A B : Type 0} {Q : A → S → B → Type 0} {R : A → P × S → B → Type 0} {m : Did S A} {m′ : Result B} (p : P)
     → Simulates Q m m′
     → ((a : A) (s : S) (b : B) → Q a s b → R a (p, s) b)
@@ -192,6 +199,10 @@ pub knowing : {S A B : Type 0} {Q : A → S → B → Type 0} {m : Did S A} {m�
     → Simulates (λ a s b. Q a s b × (m′ ≡ ok b)) m m′
 knowing (refuse e) = refuse e
 knowing (leave q) = leave (q, refl)
+
+pub knowing-answer : {A B : Type 0} {Q : A → B → Type 0} {o : Outcome A} {m′ : Result B} → Answers Q o m′ → Answers (λ a b. Q a b × (m′ ≡ ok b)) o m′
+knowing-answer (both-refuse e) = both-refuse e
+knowing-answer (both-ok q) = both-ok (q, refl)
 
 -- A value that the walk makes of what was read.
 pub giving : {S A B C : Type 0} {Q : A → S → B → Type 0} {R : C → S → B → Type 0} {m : Did S A} {m′ : Result B} (g : A → C)

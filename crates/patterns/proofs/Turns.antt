@@ -17,7 +17,7 @@ use Rattle.leaves.specs.Leaves.{compoundHead, applied}
 use Rattle.patterns.specs.Patterns.{leaf}
 use Rattle.patterns.specs.declared.Due.the-variants.{Term, Closing}
 use Rattle.patterns.specs.Lent.{Part, whole, head, after, mapped, each, termFrom, partDue}
-use Rattle.patterns.specs.Patterns.{argumentsFrom, pattern, patternOf, arguments, judgment, judgments}
+use Rattle.patterns.specs.Patterns.{argumentsFrom, pattern, patternOf, arguments, levels, judgment, judgments}
 use Rattle.items.specs.declared.Walk.{Walk}
 
 module _ (read : ℕ → Walk → List ℕ → List ℕ → Did Areas Walk) (text : List ℕ) (c n : ℕ) (w : Walk) (vars heap : List ℕ) where
@@ -113,7 +113,7 @@ module _ (text counts : List ℕ) (w : Walk) (vars heap : List ℕ) {l a : Numbe
   unfolding judgment
   predicate-refused e f = rw (f, ← listed, is-list, ← headed, is-head, ← sought, e)
 
-  pub predicate-found : {c : ℕ} {o : Walk} {d : Did Areas Walk} → a ≡ numbers.Got c o → d ≡ arguments 257 text counts c o vars heap′
+  pub predicate-found : {c : ℕ} {o : Walk} {d : Did Areas Walk} → a ≡ numbers.Got c o → d ≡ arguments levels text counts c o vars heap′
       → d ≡ judgment text counts w vars heap
   unfolding judgment
   predicate-found e f = rw (← listed, is-list, ← headed, is-head, ← sought, e) f

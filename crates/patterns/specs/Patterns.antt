@@ -24,6 +24,7 @@ argumentsFrom read (suc left) text c k w vars heap = do
   (q, (vars, heap)) ← read (getD heap (c + places.inputs + k) 0) w vars heap
   argumentsFrom read left text c (k + 1) q vars heap
 
+-- A term by its first item: an atom whole, a list by its head and then its arguments, each read by `read`.
 abbrev pub patternOf : (ℕ → Walk → List ℕ → List ℕ → Did Areas Walk) → List ℕ → List ℕ → ℕ → Met → List ℕ → List ℕ → Did Areas Walk
 patternOf read text counts sort (atom s t w) vars heap = leaf text s t sort w vars heap
 patternOf read text counts sort (list members w) vars heap = do
@@ -41,14 +42,19 @@ pattern (suc left) text counts sort w vars heap = do
 unfoldable pub arguments : ℕ → List ℕ → List ℕ → ℕ → Walk → List ℕ → List ℕ → Did Areas Walk
 arguments left text counts c w vars heap = argumentsFrom (pattern left text counts) (getD heap (c + places.arity) 0) text c 0 w vars heap
 
+-- How many levels a term may have: more than any has in a text that was read whole, where a term has a depth of 2 at least and nothing a
+-- depth above 256.
+abbrev pub levels : ℕ
+levels = 257
+
 -- "A judgment J is a list (else 7), not empty (8), its head an atom (7) and a predicate (12), its length right (15),
--- then its terms." A term of a judgment has a depth of 3 at least.
+-- then its terms."
 unfoldable pub judgment : List ℕ → List ℕ → Walk → List ℕ → List ℕ → Did Areas Walk
 judgment text counts w vars heap = do
   ((members, q), (vars, heap)) ← listDue text counts w leaving (vars, heap)
   ((s, t, q), (vars, heap)) ← headDue text counts members q leaving (vars, heap)
   ((c, q), (vars, heap)) ← beside vars (applied text places.predicates 0 members s t q heap)
-  arguments 257 text counts c q vars heap
+  arguments levels text counts c q vars heap
 
 -- "Premises left to right", then the closing.
 unfoldable pub judgments : ℕ → List ℕ → List ℕ → Walk → List ℕ → List ℕ → Did Areas Walk

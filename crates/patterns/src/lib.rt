@@ -228,6 +228,10 @@ pub fn arguments(
     }
 }
 
+// How many levels a term may have: more than any has in a text that was read whole, where a term has a depth of 2 at least and nothing a
+// depth above 256.
+const LEVELS: u32 = 257;
+
 // A judgment: "a list (else 7), not empty (8), its head an atom (7) and a predicate (12), its length right (15), then its terms".
 pub fn judgment(text: &[u8], counts: &[u32], vars: &mut [u32], heap: &mut [u32], w: Walk) -> Walked
     ensures { λ r. ⌜ (walked r leaving (now (vars .exit), now (heap .exit)))
@@ -245,7 +249,7 @@ pub fn judgment(text: &[u8], counts: &[u32], vars: &mut [u32], heap: &mut [u32],
     let Numbered::Got(c, o) = a else {
         return Walked::Refused(items::numbered_refusal(a));
     };
-    arguments(text, counts, vars, heap, c, 257, o)
+    arguments(text, counts, vars, heap, c, LEVELS, o)
 }
 
 // A rule's premises, then the closing.

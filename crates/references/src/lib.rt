@@ -1,4 +1,5 @@
-// The head of a step, "`(step I R (I...)`", and its references, which stand on the stack from its first word on, those that no step has too.
+// The head of a step, "`(step I R (I...)`", and its references, also references to steps that do not
+// exist, which stand on the stack from its first word on.
 ghost use mathlib.Core.Path.{_≡_};
 ghost use Rattle.outcomes.specs.Outcomes.{refusal};
 ghost use Rattle.outcomes.specs.Leaving.{_leaving_};

@@ -1,4 +1,4 @@
--- One turn of each loop, on the side of the models.
+-- One turn of the loop of `skip`, on the side of the models.
 use Prim.Native.Nat.{ℕ, zero, suc, _-_, _<_, _≤_}
 use mathlib.Core.Path.{_≡_, refl}
 use mathlib.Core.List.{List}

@@ -32,7 +32,7 @@ pub fn kept_refusal(r: Kept) -> u32
     }
 }
 
-// How far the next token goes down into lists, and 1.
+// 1 more than the token's change of depth: opening 2, atom 1, closing 0.
 pub fn pass(text: &[u8], w: Walk) -> Numbered
     ensures { λ r. ⌜ numbered r ≡ passed (now (text .entry)) w ⌝ }
 {

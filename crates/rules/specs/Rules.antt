@@ -51,7 +51,7 @@ ruleDescribed e premises variables conclusion place heap =
 -- The rule's variables stored behind its patterns.
 unfoldable pub variablesStored : Walk → List ℕ → List ℕ → Did (List ℕ) Walk
 variablesStored w vars heap =
-    ok (withTop w ((w .top + 3 * w .variables) % 4294967296)) leaving copied heap (w .top) vars 0 (3 * w .variables)
+    ok (withTop w ((w .top + places.variable-words * w .variables) % 4294967296)) leaving copied heap (w .top) vars 0 (places.variable-words * w .variables)
 
 -- A rule's entry, then the closing of its declaration.
 unfoldable pub ruleEntered : List ℕ → ℕ → ℕ → ℕ → ℕ → ℕ → Walk → List ℕ → List ℕ → Did (List ℕ) Walk

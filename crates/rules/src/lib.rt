@@ -61,7 +61,7 @@ pub fn read_body(text: &[u8], counts: &[u32], vars: &mut [u32], heap: &mut [u32]
     Body::Got(n, conclusion, o)
 }
 
-// The four words behind a rule's name: how many premises and variables it has, and where its conclusion and its variables stand.
+// Writes the four words behind a rule's name: how many premises and variables it has, and where its conclusion and its variables stand.
 pub fn describe_rule(
     heap: &mut [u32],
     e: u32,
@@ -78,12 +78,12 @@ pub fn describe_rule(
     words::put(heap, e as usize + places::VARIABLES, place);
 }
 
-// The rule's variables behind its patterns.
+// Writes the rule's variables behind its patterns.
 pub fn store_variables(vars: &[u32], heap: &mut [u32], w: Walk) -> Walk
     ensures { λ r. ⌜ (ok r leaving now (heap .exit)) ≡ variablesStored w (now (vars .entry)) (now (heap .entry)) ⌝ }
 {
     let top = w.top;
-    let end = 3 * w.variables as usize;
+    let end = places::VARIABLE_WORDS * w.variables as usize;
     words::copy(heap, top as usize, vars, end);
     let reader = w.reader;
     Walk {

@@ -32,7 +32,17 @@ pub fn binding(
     let Found::At(v) = found else {
         return Passed::Refused(12);
     };
-    let a = terms::term(text, rules, heap, table, store, stack, top, asking::IN_LIST, reader);
+    let a = terms::term(
+        text,
+        rules,
+        heap,
+        table,
+        store,
+        stack,
+        top,
+        asking::IN_LIST,
+        reader,
+    );
     let Numbered::Got(k, q) = a else {
         return Passed::Refused(nodes::numbered_refusal(a));
     };

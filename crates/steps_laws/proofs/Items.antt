@@ -9,7 +9,7 @@ use borrow.Author.Tests.{eq-eqb, ne-eqb}
 use lib.Dec.{eqb}
 use lib.ListN.{length, set}
 use Rattle.horn.specs.Refusals as refusals
-use Rattle.horn.specs.Refusals.{Result, number, textEnds, unknown, badBinding, secondConclusion}
+use Rattle.horn.specs.Refusals.{Result, number, textEnds, badBinding, secondConclusion}
 use Rattle.horn.specs.Setting.{document01}
 use Rattle.horn.specs.Names.{Name, questioned}
 use Rattle.horn.specs.Tokens.{Stream, Token}
@@ -27,7 +27,6 @@ use Rattle.horn.proofs.SoundnessWords.{Apart}
 use Rattle.words.specs.Parts.{part}
 use Rattle.words.specs.Sums.{sum32}
 use Rattle.words.proofs.Sums.{sum-small}
-use Rattle.names.specs.Tables.{Agree, both-none, both-some}
 use Rattle.lex.specs.declared.Reader.{Reader}
 use Rattle.outcomes.specs.Outcomes as outcomes
 use Rattle.outcomes.specs.Outcomes.{Outcome}
@@ -35,7 +34,7 @@ use Rattle.outcomes.specs.Leaving as leaving
 use Rattle.outcomes.specs.Leaving.{Did, _leaving_}
 use Rattle.items.specs.Places as places
 use Rattle.items.specs.Items.{question}
-use Rattle.outcomes.specs.Simulation.{Answers, both-refuse, both-ok, Simulates, refuse, leave, bind as bind-all, test, tests, giving}
+use Rattle.outcomes.specs.Simulation.{Answers, both-refuse, Simulates, refuse, leave, bind as bind-all, test, tests, sought, giving}
 use Rattle.theory_laws.specs.Representation.{Entries, Nth, SortAt, RuleAt, Holds}
 use Rattle.theory_laws.proofs.Lookups.{part-question}
 use Rattle.theory_laws.proofs.Frames.{Keeps, keeps-then, keeps-set, rule-kept, grown-none}
@@ -82,12 +81,6 @@ pub read-less : {es : Entries} {th : Theory} {heap : List ℕ} {vs : List Variab
     → ItemRead es th heap vs ts₀ top held Q x areas y
 read-less f (item-read p g) = item-read (f _ p) g
 
--- What is looked for and unknown is 12.
-sought : {A : Type 0} {Q : ℕ → A → Type 0} {o : Option ℕ} {o′ : Option A} → Agree Q o o′ → Answers Q (outcomes.orElse o 12) (refusals.found o′ unknown)
-unfolding refusals.found number
-sought both-none = both-refuse refl
-sought (both-some q) = both-ok q
-
 -- What the definition does without its store, then with it.
 through : {S A B C : Type 0} {R : A → S → C → Type 0} {m : Did S A} (m′ : Result B) (ts : List Term) (g : B × List Term → Result C)
     → Simulates R m (refusals._>>=_ m′ (λ b. g (b, ts))) → Simulates R m (refusals._>>=_ {A = B × List Term} (refusals._>>=_ m′ (λ b. refusals.ok (b, ts))) g)
@@ -119,7 +112,7 @@ variable-sort : {heap : List ℕ} {es : Entries} {e : ℕ} {vs : List Variable} 
 unfolding rulebook.sortOf
 variable-sort (variable-is e n l a) = (n, a)
 
-module _ {rules heap : List ℕ} {es : Entries} {bound : ℕ} {th : Theory} (h : Holds rules heap es bound th) (high : bound ≤ 11948)
+module _ {rules heap : List ℕ} {es : Entries} {bound : ℕ} {th : Theory} (h : Holds rules heap es bound th) (high : bound ≤ places.theory-end)
     (text : List ℕ) (short : length text ≤ 32768) (table : List ℕ) (defs : List Def) (ts₀ : List Term) {base : ℕ}
     (abbreviations : Defs text table defBuckets base (Means es th ts₀) defs)
     {e : ℕ} {rule : Rule} (by-rule : RuleAt rules heap es bound e rule) (distinct : Apart (variablesOf rule)) (top : ℕ) (held : List ℕ)
@@ -127,8 +120,8 @@ module _ {rules heap : List ℕ} {es : Entries} {bound : ℕ} {th : Theory} (h :
   abbrev So : ℕ → List ℕ → List ℕ → List ℕ → List Term → List Bind → Option Term → Type 0
   So word store stack live ts binds stated = Gathered es th heap (variablesOf rule) ts₀ top held word store stack live ts binds stated
 
-  abbrev Read : (Reader → Type 0) → ℕ × Reader → Worked → Given × List Term → Type 0
-  Read P x areas y = ItemRead es th heap (variablesOf rule) ts₀ top held P x areas y
+  abbrev ReadItem : (Reader → Type 0) → ℕ × Reader → Worked → Given × List Term → Type 0
+  ReadItem P x areas y = ItemRead es th heap (variablesOf rule) ts₀ top held P x areas y
 
   module _ (word : ℕ) (store stack live : List ℕ) (ts : List Term) (binds : List Bind) (stated : Option Term)
       (g : So word store stack live ts binds stated) where
@@ -174,7 +167,7 @@ module _ {rules heap : List ℕ} {es : Entries} {bound : ℕ} {th : Theory} (h :
     -- "`(?v T)`: unknown v 12, T, closing 10, bound already or wrong sort 21."
     pub binding-law : (s t spent : ℕ) {name : Name} (K : Stream Token → Type 0) (is : Items) (r : Reader) → part s t text ≡ name → 2 * top ≤ spent
         → At text (RestComes is K) spent r
-        → Simulates (λ q areas y. Read (At text K (spent + 2)) (word, q) areas y) (binding text rules table e top s t r store stack live)
+        → Simulates (λ q areas y. ReadItem (At text K (spent + 2)) (word, q) areas y) (binding text rules table e top s t r store stack live)
         (certificates.bindingItem document01 th defs rule name is (given binds stated) ts)
     unfolding binding certificates.bindingItem definition._>>=_ definition.lift definition.give AskedRead number
     binding-law s t spent {name} K is r n room there =
@@ -192,7 +185,7 @@ module _ {rules heap : List ℕ} {es : Entries} {bound : ℕ} {th : Theory} (h :
           judged : (v k : ℕ) (sort : Name) (u : Term) (after : Areas) (us : List Term) (q : Reader) → Nth (variablesOf rule) v name
               → SortAt es (sortOfVariable live e v) sort
               → Stored es th document01 indexPlaces (after .0) us → Means es th us k u → Longer ts us → Keeps top stack (after .1) → At text K (spent + 2) q
-              → Simulates (λ q areas y. Read (At text K (spent + 2)) (word, q) areas y)
+              → Simulates (λ q areas y. ReadItem (At text K (spent + 2)) (word, q) areas y)
               (leaving._>>=_ (outcomes.need (eqb (bindingOf live v) 0) 21 leaving (after, live))
               (λ _. leaving._>>=_ (outcomes.need (eqb (sortOf live (after .0) k) (sortOfVariable live e v)) 21 leaving (after, live))
               (λ _. outcomes.ok q leaving (after, set live (bindingAt v) (sum32 k 1)))))
@@ -225,7 +218,7 @@ module _ {rules heap : List ℕ} {es : Entries} {bound : ℕ} {th : Theory} (h :
     -- "Otherwise a judgment; a second, once read, is 22."
     pub stated-law : (s t spent : ℕ) {name : Name} (K : Stream Token → Type 0) (is : Items) (r : Reader) → part s t text ≡ name → 2 * top ≤ spent
         → At text (RestComes is K) (spent + 2) r
-        → Simulates (Read (At text K (spent + 2))) (walk.stated text rules table top word s t r store stack live)
+        → Simulates (ReadItem (At text K (spent + 2))) (walk.stated text rules table top word s t r store stack live)
         (certificates.conclusionItem document01 th defs name is (given binds stated) ts)
     unfolding walk.stated certificates.conclusionItem definition._>>=_ definition.lift definition.give number
     stated-law s t spent {name} K is r n room there =
@@ -240,14 +233,15 @@ module _ {rules heap : List ℕ} {es : Entries} {bound : ℕ} {th : Theory} (h :
     -- "An item is a list with an atom head; after 4, 5 and 6, an answer that is no atom there is refused 7."
     pub item-law : (spent : ℕ) (K : Stream Token → Type 0) (item : Item) (rest : Items) (r : Reader) → 2 * top ≤ spent
         → At text (RestComes (item then rest) K) spent r
-        → Simulates (Read (At text (RestComes rest K) (spent + 2))) (walk.item text rules table e top word r store stack live)
+        → Simulates (ReadItem (At text (RestComes rest K) (spent + 2))) (walk.item text rules table e top word r store stack live)
         (certificates.stepItem document01 th defs rule item (given binds stated) ts)
     unfolding walk.item walk.headedItem certificates.stepItem definition._>>=_ definition.lift
     item-law spent K item rest r room there =
         lifted ts _ _ (list-member text K spent item rest there)
         (λ q inner a. lifted ts _ _ (word-law text (RestComes rest K) spent inner inList 2 refl a) (λ x y m. headed x y m)) where
           headed : (x : ℕ × ℕ × Reader) (y : Name × Items) → WordMet text (RestComes rest K) spent x y
-              → Simulates (Read (At text (RestComes rest K) (spent + 2))) (walk.headedItem text rules table e top word (x .0) (x .1) (x .2) store stack live)
+              → Simulates (ReadItem (At text (RestComes rest K) (spent + 2)))
+              (walk.headedItem text rules table e top word (x .0) (x .1) (x .2) store stack live)
               ((elim (questioned (y .0)) as (λ b. definition.Reading Given) [
                 | true ↦ certificates.bindingItem document01 th defs rule (y .0) (y .1) (given binds stated)
                 | false ↦ certificates.conclusionItem document01 th defs (y .0) (y .1) (given binds stated)
@@ -261,43 +255,43 @@ module _ {rules heap : List ℕ} {es : Entries} {bound : ℕ} {th : Theory} (h :
 
   module _ (K : Stream Token → Type 0) where
     -- Two bytes at least were read for each turn of the loop.
-    abbrev Law : ℕ → Items → Type 0
-    Law fuel is =
+    abbrev ItemsLaw : ℕ → Items → Type 0
+    ItemsLaw fuel is =
         (word spent : ℕ) (r : Reader) (store stack live : List ℕ) (ts : List Term) (binds : List Bind)
         (stated : Option Term) → 2 * top ≤ spent → length text + 2 ≤ fuel + spent
         → So word store stack live ts binds stated → At text (RestComes is K) spent r
-        → Simulates (Read (At text K 0)) (walk.itemsFrom fuel text rules table e top word r store stack live)
+        → Simulates (ReadItem (At text K 0)) (walk.itemsFrom fuel text rules table e top word r store stack live)
         (certificates.stepItems document01 th defs rule is (given binds stated) ts)
 
     -- One turn, by the look ahead.
-    module _ (fuel : ℕ) (on : (is : Items) → Law fuel is) (word spent : ℕ) (store stack live : List ℕ) (ts : List Term) (binds : List Bind)
+    module _ (fuel : ℕ) (on : (is : Items) → ItemsLaw fuel is) (word spent : ℕ) (store stack live : List ℕ) (ts : List Term) (binds : List Bind)
         (stated : Option Term)
         (room : 2 * top ≤ spent) (f : length text + 2 ≤ suc fuel + spent) (g : So word store stack live ts binds stated) where
-      next : (rest : Items) (x : ℕ × Reader) (areas : Worked) (y : Given × List Term) → Read (At text (RestComes rest K) (spent + 2)) x areas y
-          → Simulates (Read (At text K 0)) (walk.itemsFrom fuel text rules table e top (x .0) (x .1) (areas .0 .0) (areas .0 .1) (areas .1))
+      next : (rest : Items) (x : ℕ × Reader) (areas : Worked) (y : Given × List Term) → ReadItem (At text (RestComes rest K) (spent + 2)) x areas y
+          → Simulates (ReadItem (At text K 0)) (walk.itemsFrom fuel text rules table e top (x .0) (x .1) (areas .0 .0) (areas .0 .1) (areas .1))
           (certificates.stepItems document01 th defs rule rest (y .0) (y .1))
       next rest x areas y (item-read {word = w} {q} {store = a} {stack = b} {live = c} {ts = us} {binds = bs} {stated = o} there k) =
           on rest w (spent + 2) q a b c us bs o (omega arith) (omega arith) k there
 
-      turn : (is : Items) {o : Outcome Ahead} → Looked text K spent is o
-          → Simulates (Read (At text K 0))
+      item-turn : (is : Items) {o : Outcome Ahead} → Looked text K spent is o
+          → Simulates (ReadItem (At text K 0))
           (leaving._>>=_ (o leaving ((store, stack), live)) (λ p. walk.oneItem (walk.itemsFrom fuel text rules table e top) text rules table e top word
           (p .0) store stack live))
           (certificates.stepItems document01 th defs rule is (given binds stated) ts)
       unfolding walk.item certificates.stepItems definition._>>=_ definition.lift definition.give absent refusals._>>=_ number
-      turn closed (look-closed there) = leave (item-read (at-less 0 (omega arith) there) g)
-      turn badLine look-bad = refuse refl
-      turn ended (look-ended there) = rw (asked-yes 255 1 refl) (by _ _ (list-ended text K spent there)) where
+      item-turn closed (look-closed there) = leave (item-read (at-less 0 (omega arith) there) g)
+      item-turn badLine look-bad = refuse refl
+      item-turn ended (look-ended there) = rw (asked-yes 255 1 refl) (by _ _ (list-ended text K spent there)) where
         by : (m : Reader × Worked → Did Worked (ℕ × Reader)) (k : (ℕ × Reader) × Worked → Did Worked (ℕ × Reader)) {o : Outcome Reader}
             → Answers (GroupMet text K spent) o (refusals.refused textEnds)
-            → Simulates (Read (At text K 0)) (leaving._>>=_ (leaving._>>=_ (o leaving ((store, stack), live)) m) k) (refusals.refused textEnds)
+            → Simulates (ReadItem (At text K 0)) (leaving._>>=_ (leaving._>>=_ (o leaving ((store, stack), live)) m) k) (refusals.refused textEnds)
         by m k (both-refuse z) = refuse z
-      turn (item then rest) (look-item {q} there) =
+      item-turn (item then rest) (look-item {q} there) =
           rw (asked-yes 255 1 refl)
           (bind-all _ _ (item-law word store stack live ts binds stated g spent K item rest q room there) (next rest))
 
-    pub items-from : (fuel : ℕ) (is : Items) → Law fuel is
+    pub items-from : (fuel : ℕ) (is : Items) → ItemsLaw fuel is
     unfolding walk.itemsFrom
     items-from zero is word spent r store stack live ts binds stated room f g a = absurd (let b = at-within a in omega arith)
     items-from (suc fuel) is word spent r store stack live ts binds stated room f g a =
-        turn fuel (items-from fuel) word spent store stack live ts binds stated room f g is (look-law text K spent is a)
+        item-turn fuel (items-from fuel) word spent store stack live ts binds stated room f g is (look-law text K spent is a)

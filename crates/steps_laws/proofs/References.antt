@@ -35,13 +35,13 @@ pub record ReferencesRead (text : List ℕ) (K : Stream Token → Type 0) (spent
 
 module _ (text : List ℕ) (short : length text ≤ 32768) (K : Stream Token → Type 0) where
   -- Two bytes at least were read for each word on the stack and for each turn of the loop.
-  abbrev Law : ℕ → Items → Type 0
-  Law fuel is = (n spent : ℕ) (ns : List ℕ) (r : Reader) (stack : List ℕ) → n ≡ length ns → 2 * n ≤ spent → length text + 2 ≤ fuel + spent
+  abbrev ReferencesLaw : ℕ → Items → Type 0
+  ReferencesLaw fuel is = (n spent : ℕ) (ns : List ℕ) (r : Reader) (stack : List ℕ) → n ≡ length ns → 2 * n ≤ spent → length text + 2 ≤ fuel + spent
       → length stack ≡ 16384 → ReferencesAt stack 0 ns → At text (RestComes is K) spent r
       → Simulates (ReferencesRead text K spent ns) (walk.referencesFrom fuel text n r stack) (certificates.references is)
 
   -- One turn of the loop, by the look ahead.
-  module _ (fuel : ℕ) (on : (is : Items) → Law fuel is) (n spent : ℕ) (ns : List ℕ) (stack : List ℕ) (e : n ≡ length ns) (l : 2 * n ≤ spent)
+  module _ (fuel : ℕ) (on : (is : Items) → ReferencesLaw fuel is) (n spent : ℕ) (ns : List ℕ) (stack : List ℕ) (e : n ≡ length ns) (l : 2 * n ≤ spent)
       (f : length text + 2 ≤ suc fuel + spent)
       (long : length stack ≡ 16384) (refs : ReferencesAt stack 0 ns) where
     abbrev goOn : (ℕ × Reader) × List ℕ → Did (List ℕ) (ℕ × Reader)
@@ -72,23 +72,23 @@ module _ (text : List ℕ) (short : length text ≤ 32768) (K : Stream Token →
     none-more q there =
         record { count = rw append-nil e; reader = at-less (spent + 0) (omega arith) there; refs = rw append-nil refs; long = long }
 
-    turn : (is : Items) {o : Outcome Ahead} → Looked text K spent is o
+    reference-turn : (is : Items) {o : Outcome Ahead} → Looked text K spent is o
         → Simulates (ReferencesRead text K spent ns)
         (leaving._>>=_ (o leaving stack) (λ p. walk.oneReference (walk.referencesFrom fuel text) text n (p .0) (p .1)))
         (certificates.references is)
     unfolding certificates.references absent refusals._>>=_ number
-    turn closed (look-closed {q} there) = leave (none-more q there)
-    turn badLine look-bad = refuse refl
-    turn ended (look-ended there) = rw (asked-yes 254 2 refl) (by (number-ended text K spent there)) where
+    reference-turn closed (look-closed {q} there) = leave (none-more q there)
+    reference-turn badLine look-bad = refuse refl
+    reference-turn ended (look-ended there) = rw (asked-yes 254 2 refl) (by (number-ended text K spent there)) where
       by : {o : Outcome (ℕ × Reader)} → Answers (NumberMet text K spent) o (refusals.refused textEnds)
           → Simulates (ReferencesRead text K spent ns) (leaving._>>=_ (o leaving stack) goOn) (refusals.refused textEnds)
       by (both-refuse g) = refuse g
-    turn (item then rest) (look-item there) =
+    reference-turn (item then rest) (look-item there) =
         rw (asked-yes 254 2 refl)
         (pure goOn _ (number-member text K spent item rest there) (λ x i m. rw (m .0) (one-more rest (x .0) (x .1) (m .1))))
 
-  pub references-from : (fuel : ℕ) (is : Items) → Law fuel is
+  pub references-from : (fuel : ℕ) (is : Items) → ReferencesLaw fuel is
   unfolding walk.referencesFrom
   references-from zero is n spent ns r stack e l f long refs a = absurd (let b = at-within a in omega arith)
   references-from (suc fuel) is n spent ns r stack e l f long refs a =
-      turn fuel (references-from fuel) n spent ns stack e l f long refs is (look-law text K spent is a)
+      reference-turn fuel (references-from fuel) n spent ns stack e l f long refs is (look-law text K spent is a)

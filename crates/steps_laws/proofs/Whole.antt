@@ -1,7 +1,7 @@
 -- A step of the certificate is the definition's, where the table holds the goals, abbreviations and steps so far. Assumes nothing.
 use Prim.Native.Nat.{ℕ, _+_, _*_, _≤_, _<_}
 use mathlib.Core.Path.{_≡_, refl, ap₂, sym, _∙_}
-use mathlib.Core.Bool.{Bool, true, false, true≢false}
+use mathlib.Core.Bool.{Bool, true, false}
 use mathlib.Core.List.{List, [], _∷_, _++_}
 use mathlib.Core.Option.{none}
 use native.Mathlib.Omega.{arith}
@@ -105,8 +105,8 @@ counted {S} {A} {Q} {R} p u (refusals.ok a) c r ts f g s k = by (c a) s where
   by true (leave q) = k _ _ _ q
   by false (refuse e) = refuse e
 
-module _ {rules heap : List ℕ} {es : Entries} {bound : ℕ} {th : Theory} (h : Holds rules heap es bound th) (high : bound ≤ 11948) (w : WellFormed th)
-    (goalsText certificate : List ℕ) (short : length certificate ≤ 32768)
+module _ {rules heap : List ℕ} {es : Entries} {bound : ℕ} {th : Theory} (h : Holds rules heap es bound th) (high : bound ≤ places.theory-end)
+    (w : WellFormed th) (goalsText certificate : List ℕ) (short : length certificate ≤ 32768)
     {table : List ℕ} {tally : Tally} {goals : List Goal} {ts : List Term} (now : Progress)
     (Recorded : ℕ → ℕ → ℕ → Step → Type 0) (judged : (j r p : ℕ) (s : Step) → Recorded j r p s → Means es th ts j (judgmentOf s))
     (t : Tables goalsText certificate table defBuckets (Means es th ts) Recorded tally goals (now .openGoals) (now .defs) (now .steps))
@@ -126,8 +126,8 @@ module _ {rules heap : List ℕ} {es : Entries} {bound : ℕ} {th : Theory} (h :
       test (eqb (x .0) (premiseCount live e)) 20 referenceCount _ _ (ap₂ eqb (k .count) (premise-count-is hn a)) refl
       (λ yes. leave (k, eqb-decides .equal (length y) (length (premisesOf c)) yes)))
 
-  abbrev Read : ℕ × ℕ × ℕ × Reader → Worked → Progress × List Term → Type 0
-  Read x areas y = StepRead rules heap es bound th certificate ts now K x areas y
+  abbrev ReadStep : ℕ × ℕ × ℕ × Reader → Worked → Progress × List Term → Type 0
+  ReadStep x areas y = StepRead rules heap es bound th certificate ts now K x areas y
 
   -- "Items; matching": the rule and the references are known.
   module _ {e : ℕ} {rule : Rule} (by-rule : RuleAt rules heap es bound e rule) (ready : RuleReady rule) {refs held : List ℕ}
@@ -135,7 +135,7 @@ module _ {rules heap : List ℕ} {es : Entries} {bound : ℕ} {th : Theory} (h :
       (count : length refs ≡ length (premisesOf rule)) (long : length held ≡ 16384) (n place : ℕ) (all-held : length refs ≤ n)
       (small : place < 4294967296) where
     concluded : (x : ℕ × Reader) (areas : Worked) (y : Given × List Term) → ItemRead es th heap (variablesOf rule) ts n held (At certificate K 0) x areas y
-        → Simulates (λ (p : ℕ × Reader) after z. Read (p .0, e, place, p .1) after z)
+        → Simulates (λ (p : ℕ × Reader) after z. ReadStep (p .0, e, place, p .1) after z)
         (leaving._>>=_ (stepConcluded nodeLimit wordLimit indexPlaces table (tally .steps) e (x .0) (areas .0 .1) (areas .0 .0) (areas .1))
         (λ p. outcomes.ok (p .0, x .1) leaving (p .1)))
         (refusals._>>=_ {A = Term × List Term} (certificates.conclude document01 th (now .steps) rule refs (y .0) (y .1))
@@ -163,7 +163,7 @@ module _ {rules heap : List ℕ} {es : Entries} {bound : ℕ} {th : Theory} (h :
     judged-law : (is : Items) (spent : ℕ) (r : Reader) (store live : List ℕ) → 2 * n ≤ spent → 1 ≤ spent → Stored es th document01 indexPlaces store ts
         → Keeps places.bindings heap live
         → RuleAt rules live es bound e rule → At certificate (RestComes is K) spent r
-        → Simulates (λ (p : ℕ × Reader) after z. Read (p .0, e, place, p .1) after z)
+        → Simulates (λ (p : ℕ × Reader) after z. ReadStep (p .0, e, place, p .1) after z)
         (walk.itemsJudged certificate rules table (tally .steps) e n r store held live)
         (refusals._>>=_ {A = Given × List Term} (certificates.stepItems document01 th (now .defs) rule is (given [] none) ts)
         (λ g. refusals._>>=_ {A = Term × List Term} (certificates.conclude document01 th (now .steps) rule refs (g .0) (g .1))

@@ -1,11 +1,11 @@
 -- Declarations of sorts, constructors and predicates: what each function answers, and what it leaves of the theory.
 use Prim.Native.Nat.{ℕ, zero, suc, _+_}
-use mathlib.Core.Bool.{Bool, true, false}
+use mathlib.Core.Bool.{not}
 use mathlib.Core.List.{List}
-use mathlib.Core.Option.{Option, none, some}
 use lib.ListN.{set}
 use Rattle.words.specs.Parts.{part}
 use Rattle.names.specs.Chains.{found, added}
+use Rattle.names.specs.Tables.{present}
 use Rattle.items.specs.Places as places
 use Rattle.outcomes.specs.Outcomes.{Outcome, ok, refused, need, orElse}
 use Rattle.outcomes.specs.Outcomes as outcomes
@@ -25,10 +25,6 @@ signed (signatures.Refused n) = refused n
 unfoldable pub reserved : Walk → ℕ → Walk
 reserved w n = withTop w (sum32 (w .top) n)
 
-abbrev pub isNew : {A : Type 0} → Option A → Bool
-isNew none = true
-isNew (some a) = false
-
 -- "S unknown is 12."
 unfoldable pub sortFrom : List ℕ → List ℕ → ℕ × ℕ × Walk → Outcome (ℕ × Walk)
 sortFrom text heap (s, t, q) = outcomes._>>=_ (orElse (found heap places.sorts places.buckets text (part s t text)) 12) (λ a. ok (a, q))
@@ -39,7 +35,7 @@ sortNamed text counts heap w = outcomes._>>=_ (declaredName text counts w) (sort
 -- A new entry at e, found by its name from now on; a duplicate is 13.
 unfoldable pub entered : List ℕ → ℕ → ℕ → ℕ → ℕ → Walk → List ℕ → Did (List ℕ) Walk
 entered text buckets e s t w heap = do
-  _ ← need (isNew (found heap buckets places.buckets text (part s t text))) 13 leaving heap
+  _ ← need (not (present (found heap buckets places.buckets text (part s t text)))) 13 leaving heap
   ok w leaving added heap buckets places.buckets e text s t
 
 -- The two words behind an entry's name.
@@ -51,7 +47,7 @@ unfoldable pub sortDeclared : List ℕ → List ℕ → Walk → List ℕ → Di
 sortDeclared text counts w heap = do
   ((s, t, q), heap) ← declaredName text counts w leaving heap
   (q, heap) ← entered text places.sorts (w .top) s t q heap
-  closingDue text (reserved q 3) leaving heap
+  closingDue text (reserved q places.sort-words) leaving heap
 
 -- "Inputs left to right", then the closing.
 unfoldable pub inputs : ℕ → List ℕ → List ℕ → Walk → List ℕ → Did (List ℕ) Walk
@@ -75,14 +71,14 @@ symbolEntered text buckets e s t output n w heap = do
   (q, heap) ← entered text buckets e s t w heap
   closingDue text q leaving described e output n heap
 
--- "`(ctor N (S...) S)`: N, inputs left to right, output, duplicate."
+-- `(ctor N (S...) S)`: "N, inputs left to right, output, duplicate."
 unfoldable pub constructorDeclared : List ℕ → List ℕ → Walk → List ℕ → Did (List ℕ) Walk
 constructorDeclared text counts w heap = do
   ((s, t, n, q), heap) ← signature text counts w heap
   ((output, q), heap) ← sortNamed text counts heap q leaving heap
   symbolEntered text places.constructors (w .top) s t output n q heap
 
--- "`(pred N (S...))`": the same, without an output.
+-- `(pred N (S...))`: the same, without an output.
 unfoldable pub predicateDeclared : List ℕ → List ℕ → Walk → List ℕ → Did (List ℕ) Walk
 predicateDeclared text counts w heap = do
   ((s, t, n, q), heap) ← signature text counts w heap

@@ -78,7 +78,7 @@ pub fn enter(
     }
 }
 
-// The two words behind an entry's name.
+// Writes the two words behind an entry's name.
 pub fn describe(heap: &mut [u32], e: u32, a: u32, b: u32)
     ensures { λ r. ⌜ now (heap .exit) ≡ described e a b (now (heap .entry)) ⌝ }
 {
@@ -99,7 +99,7 @@ pub fn declare_sort(text: &[u8], counts: &[u32], heap: &mut [u32], w: Walk) -> W
     let Walked::To(p) = n else {
         return Walked::Refused(items::walked_refusal(n));
     };
-    items::close(text, reserve(p, 3))
+    items::close(text, reserve(p, places::SORT_WORDS))
 }
 
 // A symbol's inputs, then the closing.
@@ -160,7 +160,7 @@ pub fn enter_symbol(
     items::close(text, q)
 }
 
-// "`(ctor N (S...) S)`: N, inputs left to right, output, duplicate."
+// `(ctor N (S...) S)`: "N, inputs left to right, output, duplicate."
 pub fn declare_constructor(text: &[u8], counts: &[u32], heap: &mut [u32], w: Walk) -> Walked
     ensures { λ r. ⌜ (walked r leaving now (heap .exit)) ≡ constructorDeclared (now (text .entry)) (now (counts .entry)) w (now (heap .entry)) ⌝ }
 {
@@ -176,7 +176,7 @@ pub fn declare_constructor(text: &[u8], counts: &[u32], heap: &mut [u32], w: Wal
     enter_symbol(text, heap, places::CONSTRUCTORS, e, s, t, output, n, p)
 }
 
-// "`(pred N (S...))`: N, inputs left to right, duplicate." Its output is 0, which is no sort's address.
+// `(pred N (S...))`: the same without an output, for which 0 stands, which is no sort's address.
 pub fn declare_predicate(text: &[u8], counts: &[u32], heap: &mut [u32], w: Walk) -> Walked
     ensures { λ r. ⌜ (walked r leaving now (heap .exit)) ≡ predicateDeclared (now (text .entry)) (now (counts .entry)) w (now (heap .entry)) ⌝ }
 {

@@ -11,51 +11,51 @@ use Rattle.horn.specs.StoredTerms.{Term}
 use Rattle.horn.specs.Checker.{Def, meaning, isDef, Goal, goal, isGoal}
 use Rattle.horn.specs.Matching.{Step}
 use Rattle.names.specs.Tables.{Entry, top, Table, Stands}
-use Rattle.tables.specs.Words.{goalBuckets, stepAt}
+use Rattle.tables.specs.Words.{goalBuckets, entryWords, valueOffset, stepWords, stepAt}
 use Rattle.tables.specs.declared.Tally.{Tally}
 
--- The address of each of some things, four words apart, from an address on.
+-- The address of each of some things, an entry apart, from an address on.
 pub data Sits {A : Type 0} : ℕ → List A → ℕ → A → Type 0 where
   here : {b e : ℕ} {a : A} {things : List A} → e ≡ b → Sits b (a ∷ things) e a
-  there : {b e : ℕ} {a c : A} {things : List A} → Sits (b + 4) things e a → Sits b (c ∷ things) e a
+  there : {b e : ℕ} {a c : A} {things : List A} → Sits (b + entryWords) things e a → Sits b (c ∷ things) e a
 
 -- The values of the goals, in order, from an address on: the judgment's number plus 1 of a goal still open, 0 of a closed one. No two
 -- goals have one name.
 pub data GoalsAt (table : List ℕ) (Means : ℕ → Term → Type 0) : ℕ → List Goal → List Goal → Type 0 where
   no-goal : {b : ℕ} → GoalsAt table Means b [] []
   still-open : {b w : ℕ} {name : Name} {j : Term} {goals openGoals : List Goal}
-      → getD table (b + 3) 0 ≡ w + 1
+      → getD table (b + valueOffset) 0 ≡ w + 1
       → Means w j
       → someOf (isGoal name) goals ≡ false
-      → GoalsAt table Means (b + 4) goals openGoals
+      → GoalsAt table Means (b + entryWords) goals openGoals
       → GoalsAt table Means b (goal name j ∷ goals) (goal name j ∷ openGoals)
   is-closed : {b : ℕ} {name : Name} {j : Term} {goals openGoals : List Goal}
-      → getD table (b + 3) 0 ≡ 0
+      → getD table (b + valueOffset) 0 ≡ 0
       → someOf (isGoal name) goals ≡ false
-      → GoalsAt table Means (b + 4) goals openGoals
+      → GoalsAt table Means (b + entryWords) goals openGoals
       → GoalsAt table Means b (goal name j ∷ goals) openGoals
 
 -- The goals: found by name, in order from `base` on, each open or closed.
 pub record Goals (text table : List ℕ) (base : ℕ) (Means : ℕ → Term → Type 0) (goals openGoals : List Goal) : Type 0 where
   pub entries : List Entry
   pub names : Table table 0 goalBuckets base text entries
-  pub below : top base entries ≤ base + 4 * length goals
-  pub inside : base + 4 * length goals ≤ length table
+  pub below : top base entries ≤ base + entryWords * length goals
+  pub inside : base + entryWords * length goals ≤ length table
   pub stands : Stands isGoal (Sits base goals) entries goals
   pub values : GoalsAt table Means base goals openGoals
 
 -- An abbreviation's entry.
 pub record DefAt (table : List ℕ) (Means : ℕ → Term → Type 0) (low high e : ℕ) (d : Def) : Type 0 where
   pub above : low ≤ e
-  pub below : e + 4 ≤ high
-  pub value : Means (getD table (e + 3) 0) (meaning d)
+  pub below : e + entryWords ≤ high
+  pub value : Means (getD table (e + valueOffset) 0) (meaning d)
 
 -- The abbreviations, which stand from `base` on.
 pub record Defs (text table : List ℕ) (buckets base : ℕ) (Means : ℕ → Term → Type 0) (defs : List Def) : Type 0 where
   pub entries : List Entry
   pub names : Table table goalBuckets buckets base text entries
-  pub below : top base entries ≤ base + 4 * length defs
-  pub stands : Stands isDef (DefAt table Means base (base + 4 * length defs)) entries defs
+  pub below : top base entries ≤ base + entryWords * length defs
+  pub stands : Stands isDef (DefAt table Means base (base + entryWords * length defs)) entries defs
 
 -- The words of step n.
 unfoldable pub StepAt : List ℕ → (ℕ → ℕ → ℕ → Step → Type 0) → ℕ → Step → Type 0
@@ -64,18 +64,18 @@ StepAt table Recorded n s =
 
 -- The steps, downward from the end.
 pub record Steps (table : List ℕ) (Recorded : ℕ → ℕ → ℕ → Step → Type 0) (steps : List Step) : Type 0 where
-  pub inside : 3 * length steps ≤ length table
+  pub inside : stepWords * length steps ≤ length table
   pub words : (n : ℕ) (s : Step) → getElem? steps n ≡ some s → StepAt table Recorded n s
 
 -- All of them in one area, and how many there are.
 pub record Tables (goalsText certificate table : List ℕ) (buckets : ℕ) (Means : ℕ → Term → Type 0) (Recorded : ℕ → ℕ → ℕ → Step → Type 0)
     (tally : Tally) (goals openGoals : List Goal) (defs : List Def) (steps : List Step) : Type 0 where
   pub goal-part : Goals goalsText table (goalBuckets + buckets) Means goals openGoals
-  pub def-part : Defs certificate table buckets (goalBuckets + buckets + 4 * length goals) Means defs
+  pub def-part : Defs certificate table buckets (goalBuckets + buckets + entryWords * length goals) Means defs
   pub step-part : Steps table Recorded steps
   pub small : length table < 4294967296
-  pub room : tally .top + 3 * length steps ≤ length table
-  pub top-is : tally .top ≡ goalBuckets + buckets + 4 * length goals + 4 * length defs
+  pub room : tally .top + stepWords * length steps ≤ length table
+  pub top-is : tally .top ≡ goalBuckets + buckets + entryWords * length goals + entryWords * length defs
   pub goals-is : tally .goals ≡ length goals
   pub left-is : tally .left ≡ length openGoals
   pub steps-is : tally .steps ≡ length steps
@@ -85,7 +85,7 @@ pub record OpenAt (table : List ℕ) (base : ℕ) (Means : ℕ → Term → Type
   pub judgment : Term
   pub is-goal : g ≡ goal key judgment
   pub sits : Sits base goals e g
-  pub value : getD table (e + 3) 0 ≡ w + 1
+  pub value : getD table (e + valueOffset) 0 ≡ w + 1
   pub means : Means w judgment
 
 -- A search for a goal still open and the definition's: both find none, or the same goal.

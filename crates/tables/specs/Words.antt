@@ -17,6 +17,17 @@ use Rattle.tables.specs.declared.Kept.the-variants as kept
 abbrev pub goalBuckets : ℕ
 goalBuckets = 64
 
+-- Words of an entry, and which of them is its value.
+abbrev pub entryWords : ℕ
+entryWords = 4
+
+abbrev pub valueOffset : ℕ
+valueOffset = 3
+
+-- Words of a step.
+abbrev pub stepWords : ℕ
+stepWords = 3
+
 -- What the cases of an answer say: a word, or that there is none;
 abbrev pub told : Kept → Option ℕ
 told (kept.Is w) = some w
@@ -32,14 +43,14 @@ noneYet buckets = record { top = sum32 goalBuckets buckets; goals = 0; left = 0;
 
 -- A new entry with its value.
 unfoldable pub entered : ℕ → ℕ → ℕ → List ℕ → ℕ → ℕ → ℕ → List ℕ → List ℕ
-entered buckets count e text s t value table = set (added table buckets count e text s t) (e + 3) value
+entered buckets count e text s t value table = set (added table buckets count e text s t) (e + valueOffset) value
 
 -- Goals.
 unfoldable pub goalFound : List ℕ → List ℕ → List ℕ → Option ℕ
 goalFound goals key table = found table 0 goalBuckets goals key
 
 unfoldable pub openAt : List ℕ → ℕ → Option (ℕ × ℕ)
-openAt table e = elim (eqb (getD table (e + 3) 0) 0) [ true ↦ none | false ↦ some (e, getD table (e + 3) 0 - 1) ]
+openAt table e = elim (eqb (getD table (e + valueOffset) 0) 0) [ true ↦ none | false ↦ some (e, getD table (e + valueOffset) 0 - 1) ]
 
 unfoldable pub goalOpen : List ℕ → List ℕ → List ℕ → Option (ℕ × ℕ)
 goalOpen goals key table = elim (goalFound goals key table) [ none ↦ none | some e ↦ openAt table e ]
@@ -49,10 +60,10 @@ goalAdded goals s t judgment tally table = entered 0 goalBuckets (tally .top) go
 
 unfoldable pub goalCounted : Tally → Tally
 goalCounted tally =
-    record { top = sum32 (tally .top) 4; goals = sum32 (tally .goals) 1; left = sum32 (tally .left) 1; steps = tally .steps }
+    record { top = sum32 (tally .top) entryWords; goals = sum32 (tally .goals) 1; left = sum32 (tally .left) 1; steps = tally .steps }
 
 unfoldable pub goalClosed : ℕ → List ℕ → List ℕ
-goalClosed e table = set table (e + 3) 0
+goalClosed e table = set table (e + valueOffset) 0
 
 unfoldable pub goalDone : Tally → Tally
 goalDone tally = record { top = tally .top; goals = tally .goals; left = tally .left - 1; steps = tally .steps }
@@ -63,17 +74,17 @@ defFound buckets certificate key table = found table goalBuckets buckets certifi
 
 unfoldable pub defMeaning : ℕ → List ℕ → List ℕ → List ℕ → Option ℕ
 defMeaning buckets certificate key table =
-    elim (defFound buckets certificate key table) [ none ↦ none | some e ↦ some (getD table (e + 3) 0) ]
+    elim (defFound buckets certificate key table) [ none ↦ none | some e ↦ some (getD table (e + valueOffset) 0) ]
 
 unfoldable pub defAdded : ℕ → List ℕ → ℕ → ℕ → ℕ → Tally → List ℕ → List ℕ
 defAdded buckets certificate s t term tally table = entered goalBuckets buckets (tally .top) certificate s t term table
 
 unfoldable pub defCounted : Tally → Tally
-defCounted tally = record { top = sum32 (tally .top) 4; goals = tally .goals; left = tally .left; steps = tally .steps }
+defCounted tally = record { top = sum32 (tally .top) entryWords; goals = tally .goals; left = tally .left; steps = tally .steps }
 
 -- Steps: where the words of step n begin in an area of so many words.
 unfoldable pub stepAt : ℕ → ℕ → ℕ
-stepAt words n = words - 3 * (n + 1)
+stepAt words n = words - stepWords * (n + 1)
 
 unfoldable pub stepAdded : ℕ → ℕ → ℕ → Tally → List ℕ → List ℕ
 stepAdded judgment rule place tally table =

@@ -34,6 +34,14 @@ pub enum Kept {
 // Buckets of goals; those of abbreviations stand behind them.
 pub const GOAL_BUCKETS: u32 = 64;
 
+// Words of an entry, and which of them is its value.
+const ENTRY_WORDS: u32 = 4;
+
+const VALUE: usize = 3;
+
+// Words of a step.
+const STEP_WORDS: usize = 3;
+
 // No goal, no abbreviation, no step: zero buckets.
 pub fn begin(table: &mut [u32], buckets: u32) -> Tally
     ensures { λ r. ⌜ r ≡ noneYet buckets ⌝ }
@@ -63,7 +71,7 @@ fn enter(
     ensures { λ r. ⌜ now (table .exit) ≡ entered buckets count e (now (text .entry)) s t value (now (table .entry)) ⌝ }
 {
     names::add(table, buckets, count, e, text, s, t);
-    words::put(table, e as usize + 3, value);
+    words::put(table, e as usize + VALUE, value);
 }
 
 // The goal, open or closed, that has a name: a part of the goals text or of the certificate.
@@ -81,7 +89,7 @@ pub fn open_goal(table: &[u32], goals: &[u8], from: &[u8], s: usize, t: usize) -
     let Found::At(e) = found else {
         return Open::Nothing;
     };
-    let value = words::at(table, e as usize + 3);
+    let value = words::at(table, e as usize + VALUE);
     if value == 0 {
         return Open::Nothing;
     }
@@ -112,7 +120,7 @@ pub fn add_goal(
         words::plus(judgment, 1),
     );
     Tally {
-        top: words::plus(e, 4),
+        top: words::plus(e, ENTRY_WORDS),
         goals: words::plus(tally.goals, 1),
         left: words::plus(tally.left, 1),
         steps: tally.steps,
@@ -124,7 +132,7 @@ pub fn close_goal(table: &mut [u32], e: u32, tally: Tally) -> Tally
     ensures { λ r. ⌜ r ≡ goalDone tally ⌝ }
     ensures { λ r. ⌜ now (table .exit) ≡ goalClosed e (now (table .entry)) ⌝ }
 {
-    words::put(table, e as usize + 3, 0);
+    words::put(table, e as usize + VALUE, 0);
     let left = tally.left;
     if left == 0 {
         return tally;
@@ -150,7 +158,7 @@ pub fn meaning(table: &[u32], buckets: u32, certificate: &[u8], s: usize, t: usi
 {
     let found = find_def(table, buckets, certificate, s, t);
     match found {
-        Found::At(e) => Kept::Is(words::at(table, e as usize + 3)),
+        Found::At(e) => Kept::Is(words::at(table, e as usize + VALUE)),
         Found::Nothing => Kept::Nothing,
     }
 }
@@ -171,7 +179,7 @@ pub fn add_def(
     let e = tally.top;
     enter(table, GOAL_BUCKETS, buckets, e, certificate, s, t, term);
     Tally {
-        top: words::plus(e, 4),
+        top: words::plus(e, ENTRY_WORDS),
         goals: tally.goals,
         left: tally.left,
         steps: tally.steps,
@@ -182,7 +190,7 @@ pub fn add_def(
 pub fn step_at(words: usize, n: u32) -> usize
     ensures { λ r. ⌜ r ≡ stepAt words n ⌝ }
 {
-    let back = 3 * (n as usize + 1);
+    let back = STEP_WORDS * (n as usize + 1);
     if words < back {
         return 0;
     }

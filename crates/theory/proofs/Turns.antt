@@ -1,5 +1,5 @@
 -- One turn of the loop over declarations, and the second walk behind the first, on the side of the models.
-use Prim.Native.Nat.{ℕ, zero, suc, _+_, _-_, _<_, _≤_}
+use Prim.Native.Nat.{ℕ, zero, suc, _-_, _<_, _≤_}
 use mathlib.Core.Path.{_≡_, refl}
 use mathlib.Core.List.{List}
 use native.Mathlib.Omega.{arith}
@@ -7,11 +7,12 @@ use Rattle.words.specs.Parts.{cleared}
 use Rattle.sexp.specs.Walk.{walkAnswer, walked}
 use Rattle.sexp.specs.declared.Walk as sexp
 use Rattle.sexp.specs.declared.Walk.the-variants.{Whole}
-use Rattle.outcomes.specs.Outcomes.{Outcome, ok, refused}
+use Rattle.outcomes.specs.Outcomes.{ok, refused}
 use Rattle.outcomes.specs.Leaving.{Did, _leaving_}
 use Rattle.variables.specs.Variables.{Areas}
+use Rattle.items.specs.Places as places
 use Rattle.items.specs.declared.Walk.{Walk}
-use Rattle.theory.specs.Declarations.{Next, another, nothing, declaration, counted, moreDue, declarationsFrom, declarations}
+use Rattle.theory.specs.Declarations.{another, nothing, declaration, counted, moreDue, declarationsFrom, declarations}
 use Rattle.theory.specs.Walks.{withCounts, theory}
 use Rattle.theory.specs.declared.Form.{Form}
 use Rattle.theory.specs.declared.Counts.{Counts}
@@ -52,7 +53,7 @@ module _ (text counts : List ℕ) where
 -- The first walk read the text whole, the buckets were cleared, and the second walk judged it.
 pub second-walk : (text vars counts heap : List ℕ) {first : sexp.Walk} {n : ℕ} {counts′ heap′ : List ℕ} {d : Did Areas Counts}
     → walkAnswer first ≡ walked text counts .answer → counts′ ≡ walked text counts .area → first ≡ Whole n
-    → heap′ ≡ cleared 1024 heap → d ≡ declarations text counts′ vars heap′
+    → heap′ ≡ cleared places.entries heap → d ≡ declarations text counts′ vars heap′
     → withCounts counts′ d ≡ theory text vars counts heap
 unfolding walkAnswer theory
 second-walk text vars counts heap answered counted-in whole emptied judged = rw (← answered, whole, judged, emptied, counted-in)

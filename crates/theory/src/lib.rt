@@ -1,4 +1,5 @@
-// The second walk over a rulebook: its declarations judged in order, and the theory written into its area (crate `items` says how).
+// Both walks over a rulebook. The first (crate `sexp`) reads it whole; in the second its declarations are judged in order, and the theory is
+// written into its area (crate `items` says how).
 ghost use mathlib.Core.Path.{_≡_};
 ghost use Rattle.outcomes.specs.Outcomes.{refusal};
 ghost use Rattle.outcomes.specs.Leaving.{_leaving_};

@@ -47,11 +47,11 @@ mutual
   longer-all []ₛ ts = omega arith
   longer-all (x ∷ₛ xs) ts = let h = longer x (flat xs ts) in let k = longer-all xs ts in omega arith
 
-pub size-longer : (xs : Sexps) (ts : Stream Token) → count xs + streamLength ts ≤ streamLength (flat xs ts)
+pub count-longer : (xs : Sexps) (ts : Stream Token) → count xs + streamLength ts ≤ streamLength (flat xs ts)
 unfolding flat streamLength count
-size-longer []ₛ ts = omega arith
-size-longer (leaf bytes ∷ₛ xs) ts = let h = size-longer xs ts in omega arith
-size-longer (list ys ∷ₛ xs) ts = let h = size-longer xs ts in let k = longer-all ys (closing ▹ flat xs ts) in omega arith
+count-longer []ₛ ts = omega arith
+count-longer (leaf bytes ∷ₛ xs) ts = let h = count-longer xs ts in omega arith
+count-longer (list ys ∷ₛ xs) ts = let h = count-longer xs ts in let k = longer-all ys (closing ▹ flat xs ts) in omega arith
 
 -- A declaration that was accepted is a list: an opening and a closing at least.
 list-longer : (th : Theory) (x : Sexp) (ts : Stream Token) {next : Theory} → definition.declaration th x ≡ ok next
@@ -181,7 +181,7 @@ module _ (text member-counts : List ℕ) (Before : Reader → Stream Token → T
     pub top : ℕ
     pub holds : Holds text (areas .1) entries top th
     pub low : places.entries ≤ top
-    pub high : top ≤ 11948
+    pub high : top ≤ places.theory-end
     pub long : length (areas .0) ≡ 16384
 
   pub declarations-law : (xs : Sexps) (fuel : ℕ) (th : Theory) (es : Entries) {w : Walk} (vars : List ℕ) {heap : List ℕ}

@@ -87,7 +87,7 @@ module _ {es es′ : Entries} (g : Grown es es′) where
 
   pub variables-kept : {text area area′ : List ℕ} {o : ℕ} {vs : List Variable} (top : ℕ)
       → ((i : ℕ) → o ≤ i → i < top → getD area′ i 0 ≡ getD area i 0)
-      → o + 3 * length vs ≤ top
+      → o + places.variable-words * length vs ≤ top
       → VariablesAt text area es o vs
       → VariablesAt text area′ es′ o vs
   variables-kept top k h no-variables = no-variables

@@ -64,14 +64,14 @@ module _ (text counted : List ℕ) (Before : Reader → Stream Token → Type 0)
       let m = list-met text counted Before reads (r .walks) in
       rw (list-due m, head-list text counted Before reads short th es base spare (count xs) (list-met text counted Before reads (m .walks))) (refuse refl)
 
-  inside-atom : (name : Name) (xs : Sexps) → ArgumentsLaw text counted Before reads short th es base spare 257 xs → InsideLaw (leaf name ∷ₛ xs)
+  inside-atom : (name : Name) (xs : Sexps) → ArgumentsLaw text counted Before reads short th es base spare walk.levels xs → InsideLaw (leaf name ∷ₛ xs)
   unfolding walk.judgment walk.arguments definition.judgmentMembers definition.predicate definition.atomDue flatOne countsOne count number _>>=_
   inside-atom name xs law ts ks vs w vars heap r =
       rw (list-due met, head-met text counted Before reads short th es base spare (count xs) head)
       (checked-aside vars (definition.predicate th name) (λ c. fits c judgment (count xs)) sortArity _ _
       (applied-law text counted Before th es base spare places.predicates isPredicate name (head .s) (head .t) 0 (suc (count xs)) (count xs) judgment ready
       (r .holds .predicates) (head .name) refl (judgment-output refl))
-      (applied-arguments text counted Before reads short th es base spare 257 xs judgment law refl refl ready)) where
+      (applied-arguments text counted Before reads short th es base spare walk.levels xs judgment law refl refl ready)) where
         met : ListMet text counted Before reads (suc (count xs)) (atom name ▹ flat xs (closing ▹ ts)) (countsAll xs ks) w
         met = list-met text counted Before reads (r .walks)
 
@@ -84,9 +84,9 @@ module _ (text counted : List ℕ) (Before : Reader → Stream Token → Type 0)
             (after-atom text counted Before reads short th es base spare (after-opening text counted Before reads short th es base spare r met) head) 3
             (omega arith)
 
-  inside-law : (xs : Sexps) → Shallows 257 xs → InsideLaw xs
+  inside-law : (xs : Sexps) → Shallows walk.levels xs → InsideLaw xs
   inside-law []ₛ s = inside-none
-  inside-law (leaf name ∷ₛ xs) (shallow-more h s) = inside-atom name xs (arguments-law text counted Before reads short th es base spare xs 257 s)
+  inside-law (leaf name ∷ₛ xs) (shallow-more h s) = inside-atom name xs (arguments-law text counted Before reads short th es base spare xs walk.levels s)
   inside-law (list ys ∷ₛ xs) s = inside-list ys xs
 
   -- "A judgment J is a list (else 7)".
@@ -100,7 +100,7 @@ module _ (text counted : List ℕ) (Before : Reader → Stream Token → Type 0)
   unfolding walk.judgment definition.judgmentPattern definition.listDue flatOne countsOne number _>>=_
   judgment-law (leaf bytes) s ts ks vs w vars heap r = rw (atom-due (atom-met text counted Before reads (r .walks))) (refuse refl)
   judgment-law (list xs) (shallow-list {d} e s) ts ks vs w vars heap r =
-      let q : d ≡ 257 = omega arith in inside-law xs (rw q at s) ts ks vs w vars heap r
+      let q : d ≡ walk.levels = omega arith in inside-law xs (rw q at s) ts ks vs w vars heap r
 
   -- "Premises left to right", then the closing.
   pub record JudgmentsRead (n : ℕ) (ts : Stream Token) (ks : List ℕ) (vs : List Variable) (from : ℕ) (heap : List ℕ) (q : Walk) (areas : Areas)

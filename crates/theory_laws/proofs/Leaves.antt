@@ -37,10 +37,11 @@ use Rattle.items.specs.declared.Walk.{Walk}
 use Rattle.outcomes.specs.Simulation.{Simulates, leave, test, tests, look, checked, aside}
 use Rattle.theory_laws.specs.Representation.{Entries, SortAt, OutputAt, sort-output, SymbolAt, symbol-at, Nth, flat-variable, flat-symbol, no-flats}
 use Rattle.theory_laws.specs.Representation.{Declares, Holds}
+use Rattle.words.proofs.Laws.{part-length}
 use Rattle.words.proofs.Sums.{sum-small}
 use Rattle.theory_laws.proofs.Frames.{keeps-set, grown-none, symbol-kept, variables-kept}
 use Rattle.theory_laws.proofs.Ready.{Ready, PatternRead, push-ready, nth-more, nth-last, nth-below, variables-more, ready-on}
-use Rattle.theory_laws.proofs.Lookups.{named-turned, part-question, part-length, bare-width, Placed, placed, variables-from, same-sort}
+use Rattle.theory_laws.proofs.Lookups.{named-turned, part-question, bare-width, Placed, placed, variables-from, same-sort}
 use Rattle.theory_laws.proofs.Lookups.{same-output}
 
 -- An atom as a term, by its first byte.

@@ -7,7 +7,7 @@ use Prim.Native.Nat.{ℕ, zero, suc, _+_, _*_, _-_, _≤_, _<_}
 use native.Mathlib.Omega.{arith}
 use borrow.Author.Tests.{eq-eqb, ne-eqb}
 use lib.Dec.{eqb}
-use lib.ListN.{length, getD, take, drop, length-take, length-drop}
+use lib.ListN.{length, getD, take, drop}
 use lib.Seq.{drop-cons}
 use Rattle.horn.specs.Names.{Name, named, sameList, questioned, bare, codes, first}
 use Rattle.horn.specs.Rulebook.{Output, sameOutput, Variable, variable, isVariable, Theory}
@@ -32,11 +32,7 @@ named-turned a b =
     (λ e. rw e)
     (λ n. decides-false named-decides a b n ∙ sym (decides-false named-decides b a (λ e. n (sym e))))
 
--- A name by its bounds: its length, its first byte, and whether it is `?` alone.
-pub part-length : (s t : ℕ) (text : List ℕ) → t ≤ length text → length (part s t text) ≡ t - s
-unfolding part
-part-length s t text h = simp (length-take, length-drop) (omega arith)
-
+-- A name by its bounds: its first byte, and whether it is `?` alone.
 pub part-question : (s t : ℕ) (text : List ℕ) → s < t → t ≤ length text → questioned (part s t text) ≡ question text s
 unfolding part question questioned
 part-question s t text l h = by (t - s) (omega arith) where
@@ -52,7 +48,7 @@ bare-width (b ∷ c ∷ cs) n q e = rw (q, sameList) (sym (ne-eqb n 1 (λ h. ome
 
 -- A variable of the rule by its bytes, the words of its variables standing from `place` on: v is its number.
 pub data Placed (area : List ℕ) (es : Entries) (place i : ℕ) (us : List Variable) (key : Name) (v : ℕ) : Variable → Type 0 where
-  placed : {k : ℕ} {name s : Name} → v ≡ i + k → name ≡ key → Nth us k key → SortAt es (getD area (place + 3 * v + 2) 0) s
+  placed : {k : ℕ} {name s : Name} → v ≡ i + k → name ≡ key → Nth us k key → SortAt es (getD area (place + places.variable-words * v + 2) 0) s
       → Placed area es place i us key v (variable name s)
 
 placed-later : {area : List ℕ} {es : Entries} {place i : ℕ} {u : Variable} {us : List Variable} {key : Name} {o : Option ℕ} {p : Option Variable}
@@ -62,7 +58,7 @@ placed-later both-none = both-none
 placed-later (both-some {e = v} (placed {k} e q n a)) = both-some {e = v} (placed {k = suc k} (omega arith) q (there n) a)
 
 module _ (text area : List ℕ) (place : ℕ) (key : Name) where
-  name-same : (i o : ℕ) (name s : Name) → o ≡ place + 3 * i → part (getD area o 0) (getD area (o + 1) 0) text ≡ name
+  name-same : (i o : ℕ) (name s : Name) → o ≡ place + places.variable-words * i → part (getD area o 0) (getD area (o + 1) 0) text ≡ name
       → sameBytes (nameOfVariable area text place i) key ≡ isVariable key (variable name s)
   unfolding nameOfVariable isVariable
   name-same i o name s e n = same-named _ _ ∙ rw (← e, n) (named-turned name key)
@@ -71,7 +67,7 @@ module _ (text area : List ℕ) (place : ℕ) (key : Name) where
   unfolding isVariable
   name-equal name s q = named-decides .equal key name q
 
-  pub variables-from : {es : Entries} {o : ℕ} {us : List Variable} (i : ℕ) → o ≡ place + 3 * i → VariablesAt text area es o us
+  pub variables-from : {es : Entries} {o : ℕ} {us : List Variable} (i : ℕ) → o ≡ place + places.variable-words * i → VariablesAt text area es o us
       → Agree (Placed area es place i us key) (variableFrom (length us) area text place key i) (first (isVariable key) us)
   unfolding variableFrom first
   variables-from i e no-variables = both-none

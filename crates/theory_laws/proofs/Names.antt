@@ -30,10 +30,11 @@ use Rattle.symbols.specs.Symbols.{sortFrom, sortNamed, inputs}
 use Rattle.outcomes.specs.Simulation.{Answers, both-refuse, both-ok, then, Simulates, leave, pure, after}
 use Rattle.theory_laws.specs.Reading.{Reads, Walks, weight}
 use Rattle.theory_laws.specs.Representation.{Entries, SortAt, sort-at, SortsAt, no-sorts, one-sort, Holds}
+use Rattle.words.proofs.Laws.{part-length}
 use Rattle.words.proofs.Sums.{sum-small}
 use Rattle.theory_laws.proofs.Items.{atom-met, list-met, closing-met}
 use Rattle.theory_laws.proofs.Frames.{Keeps, keeps-all, keeps-then, keeps-set, holds-kept}
-use Rattle.theory_laws.proofs.Lookups.{part-length, part-question}
+use Rattle.theory_laws.proofs.Lookups.{part-question}
 
 module _ (text counted : List ℕ) (Before : Reader → Stream Token → Type 0) (reads : Reads text Before) where
   -- A name that was read: its bounds, and the walk behind it.
@@ -72,10 +73,10 @@ module _ (text counted : List ℕ) (Before : Reader → Stream Token → Type 0)
     sort-found name {o = some a} {b = true} e k f q = both-ok (q a (k a refl))
     sort-found name {o = some a} {b = false} e k f q = absurd (true≢false e)
 
-    sort-behind : (x : Sexp) {ts : Stream Token} {ks : List ℕ} {w : Walk} (b : ℕ × ℕ × Walk) (name : Name) → NameRead x ts ks w b name
+    sort-sought : (x : Sexp) {ts : Stream Token} {ks : List ℕ} {w : Walk} (b : ℕ × ℕ × Walk) (name : Name) → NameRead x ts ks w b name
         → Answers (SortRead es x ts ks w) (sortFrom text heap b) (need (someOf (named name) (th .sorts)) unknown >>= λ _. ok name)
     unfolding sortFrom
-    sort-behind x {ts} {ks} {w} b name (name-read {s} {t} {next} p l u z k) =
+    sort-sought x {ts} {ks} {w} b name (name-read {s} {t} {next} p l u z k) =
         let n : length name ≡ t - s = ap length (sym p) ∙ part-length s t text u in
         rw p
         (sort-found name (find-present named (SortAt es) name (holds .sorts .table) (holds .sorts .stands))
@@ -86,7 +87,7 @@ module _ (text counted : List ℕ) (Before : Reader → Stream Token → Type 0)
     pub sort-named : (x : Sexp) {ts : Stream Token} {ks : List ℕ} {w : Walk} → Walks text counted Before (flatOne x ts) (countsOne x ks) w
         → Answers (SortRead es x ts ks w) (sortNamed text counted heap w) (definition.sortNamed th x)
     unfolding sortNamed definition.sortNamed
-    sort-named x h = then _ _ (declared-name x h) (λ b name k. sort-behind x b name k)
+    sort-named x h = then _ _ (declared-name x h) (λ b name k. sort-sought x b name k)
 
   module _ (th : Theory) (es : Entries) (base : ℕ) where
     -- While a declaration is read: the theory below `base`, and words of the new entry from there on.

@@ -18,7 +18,7 @@ use Rattle.horn.proofs.Counts.{streamLength}
 use Rattle.horn.proofs.Equality.{case}
 use Rattle.words.specs.Parts.{part, copied}
 use Rattle.names.specs.Chains.{found, added}
-use Rattle.names.specs.Tables.{entry}
+use Rattle.names.specs.Tables.{entry, present}
 use Rattle.lex.specs.declared.Reader.{Reader}
 use Rattle.sexp.specs.Flattening.{flatOne, flat, countsOne}
 use Rattle.outcomes.specs.Outcomes as outcomes
@@ -28,7 +28,7 @@ use Rattle.items.specs.Places as places
 use Rattle.items.specs.Items.{readOn, openedOne, withTop, listDue}
 use Rattle.variables.specs.Variables.{Areas}
 use Rattle.items.specs.declared.Walk.{Walk}
-use Rattle.symbols.specs.Symbols.{isNew, entered}
+use Rattle.symbols.specs.Symbols.{entered}
 use Rattle.rule_names.specs.RuleNames.{nameKept}
 use Rattle.rules.specs.Rules.{nameJudged, begun, bodyRead, ruleDescribed, variablesStored, ruleEntered, ruleDeclared}
 use Rattle.rule_names.specs.declared.RuleName.{RuleName}
@@ -189,7 +189,7 @@ module _ (text counted : List ℕ) (Before : Reader → Stream Token → Type 0)
         let m : ClosingMet text counted Before reads ts ks q′ =
         closing-met text counted Before reads record { before = r .walks .before; counted = r .walks .counted; few = r .walks .few } in
         aside {Q = λ q₁ heap₁ th′. Stood text counted Before reads short ts ks q₁ heap₁ th′} (areas .0)
-        (test-then (areas .1) (isNew (found (areas .1) places.rules places.buckets text (part s t text))) 13 duplicate q
+        (test-then (areas .1) (not (present (found (areas .1) places.rules places.buckets text (part s t text)))) 13 duplicate q
         (added (areas .1) places.rules places.buckets base text s t) _ _
         (rw e (new-test name (r .holds .rules))) refl
         (λ y.

@@ -21,7 +21,7 @@ use Rattle.theory_laws.proofs.Adding.{Adds, adds-kept, others, newer}
 
 -- Variables in another area, from another place on.
 pub variables-moved : {text area area′ : List ℕ} {es es′ : Entries} {o : ℕ} {vs : List Variable} (g : Grown es es′) (o′ : ℕ)
-    → ((i i′ : ℕ) → i′ + o ≡ i + o′ → o ≤ i → i < o + 3 * length vs → getD area′ i′ 0 ≡ getD area i 0)
+    → ((i i′ : ℕ) → i′ + o ≡ i + o′ → o ≤ i → i < o + places.variable-words * length vs → getD area′ i′ 0 ≡ getD area i 0)
     → VariablesAt text area es o vs
     → VariablesAt text area′ es′ o′ vs
 variables-moved g o′ k no-variables = no-variables
@@ -29,7 +29,7 @@ variables-moved {o} g o′ k (one-variable {name} {s} {vs} n a r) =
     one-variable {o = o′} {name = name} {s = s}
     (rw (k o o′ (omega arith) (omega arith) (omega arith), k (o + 1) (o′ + 1) (omega arith) (omega arith) (omega arith)) n)
     (rw (k (o + 2) (o′ + 2) (omega arith) (omega arith) (omega arith)) (sort-kept g a))
-    (variables-moved g (o′ + 3) (λ i i′ e l u. k i i′ (omega arith) (omega arith) (omega arith)) r)
+    (variables-moved g (o′ + places.variable-words) (λ i i′ e l u. k i i′ (omega arith) (omega arith) (omega arith)) r)
 
 -- The four words behind a rule's name.
 module _ (heap : List ℕ) (e a b c d : ℕ) where
@@ -135,8 +135,8 @@ module _ (text heap middle vars : List ℕ) (es : Entries) (th : Theory) (e top 
     small-end = small-end;
   }
 
-  long-enough : e + places.variables < length named-words
-  long-enough = let l = h .long in let q = keeps .same-length in rw (length-added middle places.rules places.buckets e text s t) (omega arith)
+  rule-long-enough : e + places.variables < length named-words
+  rule-long-enough = let l = h .long in let q = keeps .same-length in rw (length-added middle places.rules places.buckets e text s t) (omega arith)
 
   new-rule : RuleAt text rule-words (withRule es (entry e name)) (top + 3 * v) e (rule name vs premises conclusion)
   new-rule =
@@ -146,17 +146,17 @@ module _ (text heap middle vars : List ℕ) (es : Entries) (th : Theory) (e top 
         low = low;
         called = List·Memᴰ·head refl;
         premise-count =
-            copied-before (3 * v) described-words top vars 0 (e + places.premise-count) (omega arith) ∙ rule-first named-words e n v mid top long-enough
+            copied-before (3 * v) described-words top vars 0 (e + places.premise-count) (omega arith) ∙ rule-first named-words e n v mid top rule-long-enough
             ∙ many-premises;
         variable-count =
-            copied-before (3 * v) described-words top vars 0 (e + places.variable-count) (omega arith) ∙ rule-second named-words e n v mid top long-enough
+            copied-before (3 * v) described-words top vars 0 (e + places.variable-count) (omega arith) ∙ rule-second named-words e n v mid top rule-long-enough
             ∙ many-variables;
         conclusion-place = mid;
         variables-place = top;
         to-conclusion =
-            copied-before (3 * v) described-words top vars 0 (e + places.conclusion) (omega arith) ∙ rule-third named-words e n v mid top long-enough;
+            copied-before (3 * v) described-words top vars 0 (e + places.conclusion) (omega arith) ∙ rule-third named-words e n v mid top rule-long-enough;
         to-variables =
-            copied-before (3 * v) described-words top vars 0 (e + places.variables) (omega arith) ∙ rule-fourth named-words e n v mid top long-enough;
+            copied-before (3 * v) described-words top vars 0 (e + places.variables) (omega arith) ∙ rule-fourth named-words e n v mid top rule-long-enough;
         at-premises = premises-kept g older-words (omega arith) pattern-words (omega arith) (λ i x y. y) at-premises;
         at-conclusion = flat-kept g older-words (omega arith) pattern-words (omega arith) (λ i x y. y) at-conclusion;
         at-variables =

@@ -3,7 +3,6 @@
 use mathlib.Core.Path.{_≡_, refl, ap, _∙_}
 use mathlib.Core.Bool.{Bool, false, not}
 use mathlib.Core.List.{List, [], _∷_, _++_, List·Memᴰ·head, List·Memᴰ·tail}
-use mathlib.Core.Option.{Option, none, some}
 use Prim.Native.Nat.{ℕ, _+_, _≤_, _<_}
 use native.Mathlib.Omega.{arith}
 use borrow.Author.Tests.{not-true}
@@ -28,7 +27,7 @@ use Rattle.words.specs.Sums.{sum32}
 use Rattle.items.specs.Places as places
 use Rattle.items.specs.Items.{readOn, openedOne, withTop, declaredName, listDue, closingDue}
 use Rattle.items.specs.declared.Walk.{Walk}
-use Rattle.symbols.specs.Symbols.{reserved, isNew, sortNamed, entered, described, sortDeclared, inputs, signature, symbolEntered, constructorDeclared}
+use Rattle.symbols.specs.Symbols.{reserved, sortNamed, entered, described, sortDeclared, inputs, signature, symbolEntered, constructorDeclared}
 use Rattle.symbols.specs.Symbols.{predicateDeclared}
 use Rattle.outcomes.specs.Simulation.{Simulates, refuse, leave, bind, pure, test-then, paired, three}
 use Rattle.theory_laws.specs.Reading.{Reads, weight}
@@ -44,12 +43,8 @@ use Rattle.theory_laws.proofs.SymbolsAdded.{withConstructor, withPredic
 pub new-test : {text heap : List ℕ} {top buckets : ℕ} {entries : List Entry} {A : Type 0} {test : Name → A → Bool} {Means : ℕ → A → Type 0} {things : List A}
     (name : Name)
     → Declares text heap top buckets entries test Means things
-    → isNew (found heap buckets places.buckets text name) ≡ not (someOf (test name) things)
-new-test {text} {heap} {buckets} {test} {Means} name d =
-    absent (found heap buckets places.buckets text name) ∙ ap not (find-present test Means name (d .table) (d .stands)) where
-      absent : (o : Option ℕ) → isNew o ≡ not (present o)
-      absent none = refl
-      absent (some a) = refl
+    → not (present (found heap buckets places.buckets text name)) ≡ not (someOf (test name) things)
+new-test {test} {Means} name d = ap not (find-present test Means name (d .table) (d .stands))
 
 module _ (text counted : List ℕ) (Before : Reader → Stream Token → Type 0) (reads : Reads text Before) (short : length text ≤ 8192) where
   -- After a declaration: the walk stands behind it, and the words hold the new theory.
@@ -66,25 +61,26 @@ module _ (text counted : List ℕ) (Before : Reader → Stream Token → Type 0)
 
   sort-added : {heap : List ℕ} {es : Entries} {top : ℕ} {th : Theory} (name : Name) (s t : ℕ) → Holds text heap es top th
       → places.entries ≤ top
-      → top + 3 ≤ 16384
+      → top + places.sort-words ≤ 16384
       → part s t text ≡ name
       → s < 4294967296
       → t < 4294967296
       → someOf (named name) (th .sorts) ≡ false
-      → Holds text (added heap places.sorts places.buckets top text s t) (withSort es (entry top name)) (top + 3)
+      → Holds text (added heap places.sorts places.buckets top text s t) (withSort es (entry top name)) (top + places.sort-words)
       record { sorts = th .sorts ++ (name ∷ []); symbols = th .symbols; rules = th .rules }
   sort-added {heap} {es} {top} {th} name s t h low fits p small-start small-end new =
       record {
         long = length-added heap places.sorts places.buckets top text s t ∙ h .long;
-        sorts = newer k (top + 3) (omega arith) (λ e a m. sort-kept g m) name name p (λ key. refl) (sort-at (List·Memᴰ·head refl)) new (h .sorts);
+        sorts = newer k (top + places.sort-words) (omega arith) (λ e a m. sort-kept g m) name name p (λ key. refl) (sort-at (List·Memᴰ·head refl)) new
+            (h .sorts);
         constructors =
-            others k (top + 3) (omega arith) (λ e c m. symbol-kept g (adds-kept k) (omega arith) m) places.constructors (omega arith) (λ i a b c d. omega arith)
-            (h .constructors);
+            others k (top + places.sort-words) (omega arith) (λ e c m. symbol-kept g (adds-kept k) (omega arith) m) places.constructors (omega arith)
+            (λ i a b c d. omega arith) (h .constructors);
         predicates =
-            others k (top + 3) (omega arith) (λ e c m. symbol-kept g (adds-kept k) (omega arith) m) places.predicates (omega arith) (λ i a b c d. omega arith)
-            (h .predicates);
-        rules = others k (top + 3) (omega arith) (λ e c m. rule-kept g (adds-kept k) (omega arith) m) places.rules (omega arith) (λ i a b c d. omega arith)
-            (h .rules);
+            others k (top + places.sort-words) (omega arith) (λ e c m. symbol-kept g (adds-kept k) (omega arith) m) places.predicates (omega arith)
+            (λ i a b c d. omega arith) (h .predicates);
+        rules = others k (top + places.sort-words) (omega arith) (λ e c m. rule-kept g (adds-kept k) (omega arith) m) places.rules (omega arith)
+            (λ i a b c d. omega arith) (h .rules);
       } where
         g : Grown es (withSort es (entry top name))
         g = sort-grown es (entry top name)
@@ -103,20 +99,21 @@ module _ (text counted : List ℕ) (Before : Reader → Stream Token → Type 0)
         }
 
   -- "`(sort N)`: N, then duplicate."
-  sort-behind : {th : Theory} {es : Entries} (n : Sexp) {ts : Stream Token} {ks : List ℕ} {w : Walk} {heap : List ℕ} (b : ℕ × ℕ × Walk) (name : Name)
+  sort-entered : {th : Theory} {es : Entries} (n : Sexp) {ts : Stream Token} {ks : List ℕ} {w : Walk} {heap : List ℕ} (b : ℕ × ℕ × Walk) (name : Name)
       → Midway text counted Before reads th es (w .top) 20 (flatOne n (closing ▹ ts)) (countsOne n ks) w heap
       → NameRead text counted Before reads n (closing ▹ ts) ks w b name
       → Simulates (Stood ts ks)
-      (leaving._>>=_ (entered text 0 (w .top) (b .0) (b .1) (b .2) heap) (λ (q, heap). closingDue text (reserved q 3) leaving heap))
+      (leaving._>>=_ (entered text places.sorts (w .top) (b .0) (b .1) (b .2) heap)
+      (λ (q, heap). closingDue text (reserved q places.sort-words) leaving heap))
       (need (not (someOf (named name) (th .sorts))) duplicate >>= λ _. ok record { sorts = th .sorts ++ (name ∷ []); symbols = th .symbols; rules = th .rules })
   unfolding entered reserved number weight
-  sort-behind {th} {es} n {ts} {ks} {w} {heap} b name r (name-read {s} {t} {next} p l u z k) =
+  sort-entered {th} {es} n {ts} {ks} {w} {heap} b name r (name-read {s} {t} {next} p l u z k) =
       let c = r .room in
-      let e : sum32 (w .top) 3 ≡ w .top + 3 = sum-small (w .top) 3 (omega arith) in
-      let q : Walk = withTop (readOn w next) (sum32 (w .top) 3) in
+      let e : sum32 (w .top) places.sort-words ≡ w .top + places.sort-words = sum-small (w .top) places.sort-words (omega arith) in
+      let q : Walk = withTop (readOn w next) (sum32 (w .top) places.sort-words) in
       let m : ClosingMet text counted Before reads ts ks q =
       closing-met text counted Before reads record { before = k .before; counted = k .counted; few = k .few } in
-      test-then heap (isNew (found heap places.sorts places.buckets text (part s t text))) 13 duplicate (readOn w next)
+      test-then heap (not (present (found heap places.sorts places.buckets text (part s t text)))) 13 duplicate (readOn w next)
       (added heap places.sorts places.buckets (w .top) text s t) _ _
       (rw p (new-test name (r .holds .sorts))) refl
       (λ x.
@@ -137,7 +134,7 @@ module _ (text counted : List ℕ) (Before : Reader → Stream Token → Type 0)
       → Midway text counted Before reads th es (w .top) 20 (flatOne n (closing ▹ ts)) (countsOne n ks) w heap
       → Simulates (Stood ts ks) (sortDeclared text counted w heap) (definition.declareSort th n)
   unfolding sortDeclared definition.declareSort
-  sort-law n r = pure _ _ (declared-name text counted Before reads n (r .walks)) (λ b name k. sort-behind n b name r k)
+  sort-law n r = pure _ _ (declared-name text counted Before reads n (r .walks)) (λ b name k. sort-entered n b name r k)
 
   -- N and the inputs of a symbol.
   pub data SignatureRead (th : Theory) (es : Entries) (base : ℕ) (ts : Stream Token) (ks : List ℕ) (heap : List ℕ) : ℕ × ℕ × ℕ × Walk → List ℕ
@@ -184,7 +181,7 @@ module _ (text counted : List ℕ) (Before : Reader → Stream Token → Type 0)
     -- A symbol's entry, then the closing of its declaration.
     symbol-entered : {th′ : Theory} {es′ : Entries} {base : ℕ} {ts : Stream Token} {ks : List ℕ} {q : Walk} {heap : List ℕ} (b s t a n : ℕ) (x : Bool)
         → Midway text counted Before reads th es base 0 (closing ▹ ts) ks q heap
-        → isNew (found heap b places.buckets text (part s t text)) ≡ not x
+        → not (present (found heap b places.buckets text (part s t text))) ≡ not x
         → (x ≡ false → Holds text (described base a n (added heap b places.buckets base text s t)) es′ (q .top) th′)
         → Simulates (Stood ts ks) (symbolEntered text b base s t a n q heap) (need (not x) duplicate >>= λ _. ok th′)
     unfolding symbolEntered entered number weight
@@ -193,7 +190,7 @@ module _ (text counted : List ℕ) (Before : Reader → Stream Token → Type 0)
         let c = r .room in
         let u = r .above in
         let l = r .base-low in
-        test-then heap (isNew (found heap b places.buckets text (part s t text))) 13 duplicate q (added heap b places.buckets base text s t) _ _ e refl
+        test-then heap (not (present (found heap b places.buckets text (part s t text)))) 13 duplicate q (added heap b places.buckets base text s t) _ _ e refl
         (λ y.
         rw (m .met)
         (leave {b = th′} record {

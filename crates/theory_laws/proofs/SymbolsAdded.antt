@@ -69,8 +69,8 @@ module _ (text heap middle : List ℕ) (es : Entries) (th : Theory) (e top s t a
       small-end = small-end;
     }
 
-    long-enough : e + places.arity < length (added middle b places.buckets e text s t)
-    long-enough = let l = h .long in let q = keeps .same-length in rw (length-added middle b places.buckets e text s t) (omega arith)
+    symbol-long-enough : e + places.arity < length (added middle b places.buckets e text s t)
+    symbol-long-enough = let l = h .long in let q = keeps .same-length in rw (length-added middle b places.buckets e text s t) (omega arith)
 
     new-symbol : {es′ : Entries} (out : Output) → Grown es es′ → List·Memᴰ (entry e name) (tableOf es′ out) → OutputAt es a out
         → SymbolAt (described e a n (added middle b places.buckets e text s t)) es′ top e (symbol name ins out)
@@ -79,8 +79,8 @@ module _ (text heap middle : List ℕ) (es : Entries) (th : Theory) (e top s t a
           low = low;
           high = high;
           called = m;
-          gives = rw (described-first (added middle b places.buckets e text s t) e a n long-enough) (output-kept g o);
-          arity = described-second (added middle b places.buckets e text s t) e a n long-enough ∙ sym many;
+          gives = rw (described-first (added middle b places.buckets e text s t) e a n symbol-long-enough) (output-kept g o);
+          arity = described-second (added middle b places.buckets e text s t) e a n symbol-long-enough ∙ sym many;
           takes =
               sorts-kept g top
               (λ i x y.

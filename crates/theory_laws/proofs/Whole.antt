@@ -42,7 +42,7 @@ use Rattle.theory_laws.specs.Representation.{Entries, Declares, Holds}
 use Rattle.theory_laws.proofs.Weights.{light-tokens}
 use Rattle.theory_laws.proofs.Depth.{whole-shallow}
 use Rattle.theory_laws.proofs.Tallies.{tally, none-counted, none-total}
-use Rattle.theory_laws.proofs.Declarations.{Accepted, declarations-law, size-longer}
+use Rattle.theory_laws.proofs.Declarations.{Accepted, declarations-law, count-longer}
 use Rattle.theory_laws.proofs.Readers.{reads}
 use Rattle.horn.proofs.Refusing.{Judges, refuses, judging-number, judges-declarations}
 
@@ -85,7 +85,7 @@ pub record Judged (text : List ℕ) (c : Counts) (areas : AllAreas) (th : Theory
   pub top : ℕ
   pub holds : Holds text (areas .2) entries top th
   pub low : places.entries ≤ top
-  pub high : top ≤ 11948
+  pub high : top ≤ places.theory-end
   pub vars-long : length (areas .0) ≡ 16384
   pub counts-long : length (areas .1) ≡ 16384
 
@@ -119,7 +119,7 @@ module _ (text : List ℕ) (short : length text ≤ 8192) where
       let n = few-lists text xs e in
       let z = ap weight whole in
       let y = ap streamLength whole in
-      let m = size-longer xs end in
+      let m = count-longer xs end in
       let t = none-total in
       rw (none-counted)
       (declarations-law text area (Stands text) (reads text) short xs (length text / 2 + 1) emptyTheory noEntries vars
@@ -163,7 +163,7 @@ pub report-law : (text vars member-counts heap : List ℕ) → length text ≤ 8
     → reported (walk.theory text vars member-counts heap) ≡ rulebookAnswer (definition.theory text)
 report-law text vars member-counts heap short long-vars long-counts long = report-of (theory-law text short vars member-counts heap long-vars long-counts long)
 
--- "In the second walk refusals 3 to 6 can't happen", nor can 10: what was read whole is only judged.
+-- In the second walk refusals 3 to 6 and 10 cannot happen: what was read whole is only judged.
 refuses-judging : {S A B : Type 0} {Q : A → S → B → Type 0} {m : Did S A} {m′ : Result B} → Simulates Q m m′ → Judges m′ → {n : ℕ} {s : S}
     → m ≡ (outcomes.refused n leaving s)
     → (7 ≤ n) × (n ≡ 10 → ⊥)

@@ -81,7 +81,7 @@ pub data VariablesAt (text area : List ℕ) (es : Entries) : ℕ → List Variab
   one-variable : {o : ℕ} {name s : Name} {vs : List Variable}
       → part (getD area o 0) (getD area (o + 1) 0) text ≡ name
       → SortAt es (getD area (o + 2) 0) s
-      → VariablesAt text area es (o + 3) vs
+      → VariablesAt text area es (o + places.variable-words) vs
       → VariablesAt text area es o (variable name s ∷ vs)
 
 -- The entry of a rule.
@@ -99,7 +99,7 @@ pub record RuleWords (text heap : List ℕ) (es : Entries) (top e : ℕ) (name :
   pub at-conclusion : Flat heap es top (e + places.patterns) top vs conclusion-place conclusion variables-place
   pub at-variables : VariablesAt text heap es variables-place vs
   pub rising : e + places.patterns ≤ variables-place
-  pub high : variables-place + 3 * length vs ≤ top
+  pub high : variables-place + places.variable-words * length vs ≤ top
 
 pub data RuleAt (text heap : List ℕ) (es : Entries) (top e : ℕ) : Rule → Type 0 where
   rule-at : {name : Name} {vs : List Variable} {premises : List Pattern} {conclusion : Pattern}

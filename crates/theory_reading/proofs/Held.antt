@@ -8,8 +8,6 @@ use native.Mathlib.Omega.{arith}
 use borrow.Author.Tests.{eq-eqb, ne-eqb}
 use lib.Dec.{eqb}
 use lib.ListN.{length, getD}
-use Rattle.horn.specs.Refusals as refusals
-use Rattle.horn.specs.Refusals.{number, unknown}
 use Rattle.horn.specs.Names.{Name, first}
 use Rattle.horn.specs.Rulebook.{Symbol, inputs, output, Variable, variable, Pattern, Patterns, Rule, Theory}
 use Rattle.horn.specs.Rulebook.{isVariable, isConstructor, isPredicate, isRule, variablesOf, premisesOf, constructor, predicate, ruleNamed}
@@ -19,7 +17,7 @@ use Rattle.names.specs.Tables.{Agree, both-none, both-some}
 use Rattle.names.proofs.Holds.{by-number}
 use Rattle.names.proofs.Declared.{find-agrees}
 use Rattle.outcomes.specs.Outcomes as outcomes
-use Rattle.outcomes.specs.Simulation.{Answers, both-refuse, both-ok}
+use Rattle.outcomes.specs.Simulation.{Answers, sought}
 use Rattle.items.specs.Places as places
 use Rattle.theory_laws.specs.Representation.{Entries, SortAt, OutputAt, sort-output, SortsAt, no-sorts, one-sort, SymbolAt, symbol-at, Nth}
 use Rattle.theory_laws.specs.Representation.{Flat, flat-variable, flat-symbol, Flats, no-flats, one-flat, VariablesAt}
@@ -67,13 +65,6 @@ pub data VariableIs (heap : List ℕ) (es : Entries) (e : ℕ) (vs : List Variab
   variable-is : {name s : Name} → name ≡ key → Nth vs v key → v < length vs → SortAt es (sortOfVariable heap e v) s
       → VariableIs heap es e vs key v (variable name s)
 
--- What is found or unknown, 12.
-known : {A : Type 0} {Means : ℕ → A → Type 0} {o : Option ℕ} {o′ : Option A} → Agree Means o o′
-    → Answers Means (outcomes.orElse o 12) (refusals.found o′ unknown)
-unfolding refusals.found number
-known both-none = both-refuse refl
-known (both-some m) = both-ok m
-
 module _ {text heap : List ℕ} {es : Entries} {top : ℕ} {th : Theory} (h : Holds text heap es top th) where
   -- Found by its bytes, wherever they stand: what the definition finds, or none.
   pub constructor-found : (key : Name) → Agree (SymbolAt heap es top) (constructorFound heap text key) (first (isConstructor key) (th .symbols))
@@ -91,15 +82,15 @@ module _ {text heap : List ℕ} {es : Entries} {top : ℕ} {th : Theory} (h : Ho
   -- The same with the refusal of what is unknown, 12.
   pub constructor-due : (key : Name) → Answers (SymbolAt heap es top) (outcomes.orElse (constructorFound heap text key) 12) (constructor th key)
   unfolding constructor
-  constructor-due key = known (constructor-found key)
+  constructor-due key = sought (constructor-found key)
 
   pub predicate-due : (key : Name) → Answers (SymbolAt heap es top) (outcomes.orElse (predicateFound heap text key) 12) (predicate th key)
   unfolding predicate
-  predicate-due key = known (predicate-found key)
+  predicate-due key = sought (predicate-found key)
 
   pub rule-due : (key : Name) → Answers (RuleAt text heap es top) (outcomes.orElse (ruleFound heap text key) 12) (ruleNamed th key)
   unfolding ruleNamed
-  rule-due key = known (rule-found key)
+  rule-due key = sought (rule-found key)
 
   -- A symbol's words.
   module _ {a : ℕ} {c : Symbol} (x : SymbolAt heap es top a c) where
@@ -165,11 +156,11 @@ module _ {text heap : List ℕ} {es : Entries} {top : ℕ} {th : Theory} (h : Ho
   variables-are (rule-at w) = rw (w .to-variables) (w .at-variables)
 
   -- Bindings have room from word 12,288 on. What keeps the words below keeps the theory.
-  pub bindings-fit : {e : ℕ} {r : Rule} → top ≤ 11948 → RuleAt text heap es top e r → places.bindings + length (variablesOf r) ≤ 16384
+  pub bindings-fit : {e : ℕ} {r : Rule} → top ≤ places.theory-end → RuleAt text heap es top e r → places.bindings + length (variablesOf r) ≤ 16384
   unfolding variablesOf
   bindings-fit t (rule-at w) = let l = w .low in let u = w .rising in let k = w .high in omega arith
 
-  pub holds-now : top ≤ 11948 → {now : List ℕ} → Keeps places.bindings heap now → Holds text now es top th
+  pub holds-now : top ≤ places.theory-end → {now : List ℕ} → Keeps places.bindings heap now → Holds text now es top th
   holds-now t k = holds-kept (keeps-less (omega arith) k) (omega arith) h
 
   -- A variable of the rule by its bytes.

@@ -10,7 +10,6 @@ use Rattle.horn.proofs.Inversion.{none-some}
 use Rattle.horn.proofs.SoundnessWords.{Apart, name-apart}
 use Rattle.names.proofs.Holds.{by-name}
 use Rattle.theory_laws.specs.Representation.{Nth, here, there}
-use Rattle.theory_laws.proofs.Readback.{Sorted, sorted-here, sorted-there}
 
 module _ (key name s : Name) (vs : List Variable) where
   first-here : key ≡ name → first (isVariable key) (variable name s ∷ vs) ≡ some (variable name s)
@@ -40,11 +39,3 @@ nth-one (name-apart f a) (there n) (there m) = ap suc (nth-one a n m)
 pub nth-name : {vs : List Variable} {v : ℕ} {m n : Name} → Nth vs v m → Nth vs v n → m ≡ n
 nth-name here here = refl
 nth-name (there x) (there y) = nth-name x y
-
--- The variable that the definition finds by a name is the one with the number, and has its sort.
-pub nth-first : {vs : List Variable} {v : ℕ} {key s : Name} → Apart vs → Nth vs v key → Sorted vs v s → first (isVariable key) vs ≡ some (variable key s)
-nth-first (name-apart {vs} f a) (here {name}) (sorted-here {s}) = first-here name name s vs refl
-nth-first {key} (name-apart {name} {s = t} {vs} f a) (there n) (sorted-there m) =
-    by-name key name
-    (λ q. absurd (nth-found n (rw (← q) at f)))
-    (λ q. first-on key name t vs q ∙ nth-first a n m)

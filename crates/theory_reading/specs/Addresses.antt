@@ -14,7 +14,7 @@ unfoldable pub nameIn : ℕ → List Entry → Option Name
 nameIn a [] = none
 nameIn a (entry e name ∷ entries) = elim (eqb a e) [ true ↦ some name | false ↦ nameIn a entries ]
 
--- What no address stands for.
+-- The symbol of an address that no entry has.
 unfoldable pub noSymbol : Symbol
 noSymbol = symbol [] [] judgment
 

@@ -59,7 +59,7 @@ unfoldable pub variablesPlace : List ℕ → ℕ → ℕ
 variablesPlace heap r = getD heap (r + places.variables) 0
 
 unfoldable pub sortOfVariable : List ℕ → ℕ → ℕ → ℕ
-sortOfVariable heap r v = getD heap (variablesPlace heap r + 3 * v + 2) 0
+sortOfVariable heap r v = getD heap (variablesPlace heap r + places.variable-words * v + 2) 0
 
 -- The variable that has the name `key`.
 unfoldable pub variableFound : List ℕ → List ℕ → ℕ → List ℕ → Option ℕ

@@ -102,7 +102,7 @@ pub fn conclusion(heap: &[u32], r: u32) -> u32
     words::at(heap, r as usize + places::CONCLUSION)
 }
 
-// Where its variables stand, three words each.
+// Where its variables stand.
 pub fn variables(heap: &[u32], r: u32) -> u32
     ensures { λ o. ⌜ o ≡ variablesPlace (now (heap .entry)) r ⌝ }
 {
@@ -114,7 +114,10 @@ pub fn variable_sort(heap: &[u32], r: u32, v: u32) -> u32
     ensures { λ a. ⌜ a ≡ sortOfVariable (now (heap .entry)) r v ⌝ }
 {
     let place = variables(heap, r);
-    words::at(heap, place as usize + 3 * v as usize + 2)
+    words::at(
+        heap,
+        place as usize + places::VARIABLE_WORDS * v as usize + 2,
+    )
 }
 
 // The number of its variable that has the name from `start` to `end` in `from`, as the Rust looks for it.

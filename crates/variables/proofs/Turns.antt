@@ -7,6 +7,7 @@ use lib.ListN.{getD}
 use borrow.Author.Tests.{ne-eqb}
 use Rattle.outcomes.specs.Outcomes.{refused}
 use Rattle.outcomes.specs.Leaving.{_leaving_}
+use Rattle.items.specs.Places as places
 use Rattle.items.specs.declared.Walk.{Walk}
 use mathlib.Core.Option.{none, some}
 use native.Mathlib.Omega.{arith}
@@ -34,15 +35,15 @@ module _ (area text : List ℕ) (place : ℕ) (key : List ℕ) (n : ℕ) where
 
 -- The name's bounds are the variable's words, and the name is compared with the key.
 pub variable-compared : (area text : List ℕ) (place : ℕ) (key : List ℕ) (i : ℕ) {s t : ℕ} {b : Bool}
-    → s ≡ getD area (place + 3 * i) 0
-    → t ≡ getD area (place + 3 * i + 1) 0
+    → s ≡ getD area (place + places.variable-words * i) 0
+    → t ≡ getD area (place + places.variable-words * i + 1) 0
     → b ≡ sameBytes (part s t text) key
     → sameBytes (nameOfVariable area text place i) key ≡ b
 unfolding nameOfVariable
 variable-compared area text place key i p q h = rw (h, p, q)
 
 -- "At another sort is 14": x is the sort that the variable has.
-pub met-apart : (v sort : ℕ) (w : Walk) (vars heap : List ℕ) (x : ℕ) → x ≡ getD vars (3 * v + 2) 0 → (x ≡ sort → ⊥)
+pub met-apart : (v sort : ℕ) (w : Walk) (vars heap : List ℕ) (x : ℕ) → x ≡ getD vars (places.variable-words * v + 2) 0 → (x ≡ sort → ⊥)
     → (refused 14 leaving (vars, heap)) ≡ metAgain v sort w vars heap
 unfolding metAgain
 met-apart v sort w vars heap x e d = rw (← e, ne-eqb x sort d)

@@ -27,7 +27,7 @@ pub fn find_variable(
     let key = words::bytes_part(from, start, end);
     let mut i: u32 = 0;
     while i < count {
-        let v = place as usize + 3 * i as usize;
+        let v = place as usize + places::VARIABLE_WORDS * i as usize;
         let s = words::at(area, v);
         let t = words::at(area, v + 1);
         if words::is_part(text, s as usize, t as usize, key) {
@@ -43,7 +43,7 @@ pub fn introduce(vars: &mut [u32], heap: &mut [u32], s: usize, t: usize, sort: u
     ensures { λ r. ⌜ (ok r leaving (now (vars .exit), now (heap .exit))) ≡ introduced s t sort w (now (vars .entry)) (now (heap .entry)) ⌝ }
 {
     let v = w.variables;
-    let place = 3 * v as usize;
+    let place = places::VARIABLE_WORDS * v as usize;
     words::put(vars, place, items::low(s));
     words::put(vars, place + 1, items::low(t));
     words::put(vars, place + 2, sort);
@@ -61,7 +61,7 @@ pub fn introduce(vars: &mut [u32], heap: &mut [u32], s: usize, t: usize, sort: u
 pub fn meet_again(vars: &[u32], heap: &mut [u32], v: u32, sort: u32, w: Walk) -> Walked
     ensures { λ r. ⌜ (walked r leaving (now (vars .entry), now (heap .exit))) ≡ metAgain v sort w (now (vars .entry)) (now (heap .entry)) ⌝ }
 {
-    if words::at(vars, 3 * v as usize + 2) != sort {
+    if words::at(vars, places::VARIABLE_WORDS * v as usize + 2) != sort {
         return Walked::Refused(14);
     }
     Walked::To(items::push(heap, words::plus(places::VARIABLE, v), w))
