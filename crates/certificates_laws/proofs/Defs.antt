@@ -81,7 +81,7 @@ beside-live : {A B : Type 0} {Q : A → Areas × List ℕ → B → Type 0} {R :
 beside-live live (refuse e) k = refuse e
 beside-live live (leave q) k = leave (k _ _ _ q)
 
-module _ {rules heap : List ℕ} {es : Entries} {bound : ℕ} {th : Theory} (h : Holds rules heap es bound th) (high : bound ≤ places.theory-end)
+module _ {rules heap : List ℕ} {es : Entries} {bound : ℕ} {th : Theory} (h : Holds rules heap es bound th) (high : bound ≤ places.theoryEnd)
     (goalsText certificate : List ℕ) (short : length certificate ≤ 32768) {goals : List Goal} {tally : Tally} (now : Progress)
     {ts : List Term} {store live table : List ℕ} (stack : List ℕ) (stored : Stored es th document01 indexPlaces store ts) (long : length stack ≡ 16384)
     (keep : Keeps places.bindings heap live) where

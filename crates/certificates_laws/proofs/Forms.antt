@@ -49,7 +49,7 @@ Reads rules heap es bound th goalsText certificate goals fuel =
     (walk.formsFrom fuel certificate goalsText rules tally r (areas .0 .0 .0) (areas .0 .0 .1) (areas .0 .1) (areas .1))
     (definition.certificateForms document01 th now is ts)
 
-module _ {rules heap : List ℕ} {es : Entries} {bound : ℕ} {th : Theory} (h : Holds rules heap es bound th) (high : bound ≤ places.theory-end)
+module _ {rules heap : List ℕ} {es : Entries} {bound : ℕ} {th : Theory} (h : Holds rules heap es bound th) (high : bound ≤ places.theoryEnd)
     (w : WellFormed th) (goalsText certificate : List ℕ) (short : length certificate ≤ 32768) {goals : List Goal} where
   module _ (inner rest : Items) {tally : Tally} {r : Reader} {areas : AllAreas} {now : Progress} {ts : List Term}
       (s : Standing rules heap es bound th goalsText certificate goals (group inner then rest) (tally, r) areas (now, ts)) where

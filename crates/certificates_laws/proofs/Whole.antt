@@ -43,7 +43,7 @@ pub record CertificateRead (es : Entries) (th : Theory) (goals : List Goal) (tal
   pub stored : Stored es th document01 indexPlaces (areas .0 .0 .0) (y .1)
 
 -- From where the goals were read.
-pub certificate-law : {rules heap : List ℕ} {es : Entries} {bound : ℕ} {th : Theory} → Holds rules heap es bound th → bound ≤ places.theory-end → WellFormed th
+pub certificate-law : {rules heap : List ℕ} {es : Entries} {bound : ℕ} {th : Theory} → Holds rules heap es bound th → bound ≤ places.theoryEnd → WellFormed th
     → (goalsText certificate : List ℕ) → length certificate ≤ 32768
     → {table : List ℕ} {tally : Tally} {goals : List Goal} {left : Items} {ts : List Term}
     → Gathering goalsText certificate 8192 32768 defBuckets (Means es th ts) (StepRecorded rules heap es bound th ts) table tally goals left

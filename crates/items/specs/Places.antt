@@ -25,8 +25,8 @@ abbrev pub variable : ℕ
 variable = 16384
 
 -- A sort's entry is its name alone, of so many words.
-abbrev pub sort-words : ℕ
-sort-words = 3
+abbrev pub sortWords : ℕ
+sortWords = 3
 
 -- In an entry, behind the three words of its name. A symbol: what it gives, how many inputs it has, and the inputs.
 abbrev pub output : ℕ
@@ -39,11 +39,11 @@ abbrev pub inputs : ℕ
 inputs = 5
 
 -- A rule: how many premises and variables it has, where its conclusion and its variables stand, and its patterns.
-abbrev pub premise-count : ℕ
-premise-count = 3
+abbrev pub premiseCount : ℕ
+premiseCount = 3
 
-abbrev pub variable-count : ℕ
-variable-count = 4
+abbrev pub variableCount : ℕ
+variableCount = 4
 
 abbrev pub conclusion : ℕ
 conclusion = 5
@@ -55,12 +55,12 @@ abbrev pub patterns : ℕ
 patterns = 7
 
 -- Words of each variable of a rule: where its name begins and ends, and its sort.
-abbrev pub variable-words : ℕ
-variable-words = 3
+abbrev pub variableWords : ℕ
+variableWords = 3
 
 -- Where the entries of any accepted rulebook end at the latest, as crate theory_laws shows.
-abbrev pub theory-end : ℕ
-theory-end = 11948
+abbrev pub theoryEnd : ℕ
+theoryEnd = 11948
 
 -- Words of bindings, one for each variable of the rule of the step that is being read; the theory stands below.
 abbrev pub bindings : ℕ

@@ -8,7 +8,7 @@
 // pattern has one word a node, in preorder: a symbol's address, whose arguments follow, or `VARIABLE` and a variable's number. While a rule
 // is read its variables stand in an area of their own, as they will in its entry.
 ghost use mathlib.Core.Path.{_≡_};
-ghost use Prim.Native.Nat.{_-_, _%_};
+ghost use Prim.Native.Nat.{_-_};
 ghost use lib.Dec.{eqb};
 ghost use Rattle.outcomes.specs.Outcomes.{ok, refusal};
 ghost use Rattle.outcomes.specs.Leaving.{_leaving_};
@@ -79,13 +79,6 @@ pub fn walked_refusal(r: Walked) -> u32
         Walked::To(_) => 0,
         Walked::Refused(n) => n,
     }
-}
-
-// The low 32 bits of a place.
-pub fn low(x: usize) -> u32
-    ensures { λ r. ⌜ r ≡ x % 4294967296 ⌝ }
-{
-    (x % 4294967296) as u32
 }
 
 // One word more in the theory.

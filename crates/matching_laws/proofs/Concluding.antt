@@ -91,7 +91,7 @@ module _ {text heap : List ℕ} {es : Entries} {top : ℕ} {th : Theory} (h : Ho
       let up = list-width (w .at-premises) in
       let high = w .high in
       let over = flat-rises (w .at-conclusion) in
-      let n : premiseCount now e ≡ length ps = keep .words (e + layout.premise-count) (omega arith) ∙ w .premise-count in
+      let n : premiseCount now e ≡ length ps = keep .words (e + layout.premiseCount) (omega arith) ∙ w .premise-count in
       let x : premisesPlace e ≡ e + layout.patterns = sum-small e layout.patterns (omega arith) in
       rw (eq-eqb word 0 z, n, x, built-defined limits th steps name vs ps c refs binds ts)
       (bind-aside (store, stack) _ _
@@ -108,7 +108,7 @@ module _ {text heap : List ℕ} {es : Entries} {top : ℕ} {th : Theory} (h : Ho
       let up = list-width (w .at-premises) in
       let high = w .high in
       let over = flat-rises (w .at-conclusion) in
-      let n : premiseCount now e ≡ length ps = keep .words (e + layout.premise-count) (omega arith) ∙ w .premise-count in
+      let n : premiseCount now e ≡ length ps = keep .words (e + layout.premiseCount) (omega arith) ∙ w .premise-count in
       let x : premisesPlace e ≡ e + layout.patterns = sum-small e layout.patterns (omega arith) in
       let m : word - 1 ≡ k = omega arith in
       let s : conclusionPlace now e ≡ w .conclusion-place = keep .words (e + layout.conclusion) (omega arith) ∙ w .to-conclusion in

@@ -27,7 +27,7 @@ use Rattle.matching_laws.proofs.Starting.{narrow-01, steps-at}
 use Rattle.matching_laws.proofs.Concluding.{ConcludedTo, step-concluded}
 
 -- `heap` is the theory's area as the rulebook left it, `now` the same with the bindings of the step.
-pub step-judged : {rules heap : List ℕ} {es : Entries} {top : ℕ} {th : Theory} → Holds rules heap es top th → top ≤ layout.theory-end
+pub step-judged : {rules heap : List ℕ} {es : Entries} {top : ℕ} {th : Theory} → Holds rules heap es top th → top ≤ layout.theoryEnd
     → {goalsText certificate table : List ℕ} {Recorded : ℕ → ℕ → ℕ → Step → Type 0} {tally : Tally} {goals openGoals : List Goal} {defs : List Def}
     {steps : List Step} {ts : List Term}
     → Tables goalsText certificate table defBuckets (Means es th ts) Recorded tally goals openGoals defs steps

@@ -45,13 +45,13 @@ bodyRead text counts w vars heap = do
 -- The four words behind a rule's name: how many premises and variables it has, and where its conclusion and its variables stand.
 unfoldable pub ruleDescribed : ℕ → ℕ → ℕ → ℕ → ℕ → List ℕ → List ℕ
 ruleDescribed e premises variables conclusion place heap =
-    set (set (set (set heap (e + places.premise-count) premises) (e + places.variable-count) variables) (e + places.conclusion) conclusion)
+    set (set (set (set heap (e + places.premiseCount) premises) (e + places.variableCount) variables) (e + places.conclusion) conclusion)
     (e + places.variables) place
 
 -- The rule's variables stored behind its patterns.
 unfoldable pub variablesStored : Walk → List ℕ → List ℕ → Did (List ℕ) Walk
 variablesStored w vars heap =
-    ok (withTop w ((w .top + places.variable-words * w .variables) % 4294967296)) leaving copied heap (w .top) vars 0 (places.variable-words * w .variables)
+    ok (withTop w ((w .top + places.variableWords * w .variables) % 4294967296)) leaving copied heap (w .top) vars 0 (places.variableWords * w .variables)
 
 -- A rule's entry, then the closing of its declaration.
 unfoldable pub ruleEntered : List ℕ → ℕ → ℕ → ℕ → ℕ → ℕ → Walk → List ℕ → List ℕ → Did (List ℕ) Walk

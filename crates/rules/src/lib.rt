@@ -89,7 +89,7 @@ pub fn store_variables(vars: &[u32], heap: &mut [u32], w: Walk) -> Walk
     Walk {
         reader,
         opened: w.opened,
-        top: items::low(top as usize + end),
+        top: words::low(top as usize + end),
         variables: w.variables,
     }
 }

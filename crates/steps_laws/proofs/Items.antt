@@ -112,7 +112,7 @@ variable-sort : {heap : List ℕ} {es : Entries} {e : ℕ} {vs : List Variable} 
 unfolding rulebook.sortOf
 variable-sort (variable-is e n l a) = (n, a)
 
-module _ {rules heap : List ℕ} {es : Entries} {bound : ℕ} {th : Theory} (h : Holds rules heap es bound th) (high : bound ≤ places.theory-end)
+module _ {rules heap : List ℕ} {es : Entries} {bound : ℕ} {th : Theory} (h : Holds rules heap es bound th) (high : bound ≤ places.theoryEnd)
     (text : List ℕ) (short : length text ≤ 32768) (table : List ℕ) (defs : List Def) (ts₀ : List Term) {base : ℕ}
     (abbreviations : Defs text table defBuckets base (Means es th ts₀) defs)
     {e : ℕ} {rule : Rule} (by-rule : RuleAt rules heap es bound e rule) (distinct : Apart (variablesOf rule)) (top : ℕ) (held : List ℕ)

@@ -105,7 +105,7 @@ counted {S} {A} {Q} {R} p u (refusals.ok a) c r ts f g s k = by (c a) s where
   by true (leave q) = k _ _ _ q
   by false (refuse e) = refuse e
 
-module _ {rules heap : List ℕ} {es : Entries} {bound : ℕ} {th : Theory} (h : Holds rules heap es bound th) (high : bound ≤ places.theory-end)
+module _ {rules heap : List ℕ} {es : Entries} {bound : ℕ} {th : Theory} (h : Holds rules heap es bound th) (high : bound ≤ places.theoryEnd)
     (w : WellFormed th) (goalsText certificate : List ℕ) (short : length certificate ≤ 32768)
     {table : List ℕ} {tally : Tally} {goals : List Goal} {ts : List Term} (now : Progress)
     (Recorded : ℕ → ℕ → ℕ → Step → Type 0) (judged : (j r p : ℕ) (s : Step) → Recorded j r p s → Means es th ts j (judgmentOf s))

@@ -47,7 +47,7 @@ unfoldable pub sortDeclared : List ℕ → List ℕ → Walk → List ℕ → Di
 sortDeclared text counts w heap = do
   ((s, t, q), heap) ← declaredName text counts w leaving heap
   (q, heap) ← entered text places.sorts (w .top) s t q heap
-  closingDue text (reserved q places.sort-words) leaving heap
+  closingDue text (reserved q places.sortWords) leaving heap
 
 -- "Inputs left to right", then the closing.
 unfoldable pub inputs : ℕ → List ℕ → List ℕ → Walk → List ℕ → Did (List ℕ) Walk

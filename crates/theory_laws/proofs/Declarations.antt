@@ -181,7 +181,7 @@ module _ (text member-counts : List ℕ) (Before : Reader → Stream Token → T
     pub top : ℕ
     pub holds : Holds text (areas .1) entries top th
     pub low : places.entries ≤ top
-    pub high : top ≤ places.theory-end
+    pub high : top ≤ places.theoryEnd
     pub long : length (areas .0) ≡ 16384
 
   pub declarations-law : (xs : Sexps) (fuel : ℕ) (th : Theory) (es : Entries) {w : Walk} (vars : List ℕ) {heap : List ℕ}

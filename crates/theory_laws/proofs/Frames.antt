@@ -87,7 +87,7 @@ module _ {es es′ : Entries} (g : Grown es es′) where
 
   pub variables-kept : {text area area′ : List ℕ} {o : ℕ} {vs : List Variable} (top : ℕ)
       → ((i : ℕ) → o ≤ i → i < top → getD area′ i 0 ≡ getD area i 0)
-      → o + places.variable-words * length vs ≤ top
+      → o + places.variableWords * length vs ≤ top
       → VariablesAt text area es o vs
       → VariablesAt text area′ es′ o vs
   variables-kept top k h no-variables = no-variables
@@ -107,8 +107,8 @@ module _ {es es′ : Entries} (g : Grown es es′) where
       rule-at {name = name} {vs = vs} {premises = premises} {conclusion = conclusion} record {
         low = l;
         called = g .rules _ (w .called);
-        premise-count = k (e + places.premise-count) (omega arith) (omega arith) ∙ w .premise-count;
-        variable-count = k (e + places.variable-count) (omega arith) (omega arith) ∙ w .variable-count;
+        premise-count = k (e + places.premiseCount) (omega arith) (omega arith) ∙ w .premise-count;
+        variable-count = k (e + places.variableCount) (omega arith) (omega arith) ∙ w .variable-count;
         conclusion-place = w .conclusion-place;
         variables-place = w .variables-place;
         to-conclusion = k (e + places.conclusion) (omega arith) (omega arith) ∙ w .to-conclusion;

@@ -48,7 +48,7 @@ bare-width (b ∷ c ∷ cs) n q e = rw (q, sameList) (sym (ne-eqb n 1 (λ h. ome
 
 -- A variable of the rule by its bytes, the words of its variables standing from `place` on: v is its number.
 pub data Placed (area : List ℕ) (es : Entries) (place i : ℕ) (us : List Variable) (key : Name) (v : ℕ) : Variable → Type 0 where
-  placed : {k : ℕ} {name s : Name} → v ≡ i + k → name ≡ key → Nth us k key → SortAt es (getD area (place + places.variable-words * v + 2) 0) s
+  placed : {k : ℕ} {name s : Name} → v ≡ i + k → name ≡ key → Nth us k key → SortAt es (getD area (place + places.variableWords * v + 2) 0) s
       → Placed area es place i us key v (variable name s)
 
 placed-later : {area : List ℕ} {es : Entries} {place i : ℕ} {u : Variable} {us : List Variable} {key : Name} {o : Option ℕ} {p : Option Variable}
@@ -58,7 +58,7 @@ placed-later both-none = both-none
 placed-later (both-some {e = v} (placed {k} e q n a)) = both-some {e = v} (placed {k = suc k} (omega arith) q (there n) a)
 
 module _ (text area : List ℕ) (place : ℕ) (key : Name) where
-  name-same : (i o : ℕ) (name s : Name) → o ≡ place + places.variable-words * i → part (getD area o 0) (getD area (o + 1) 0) text ≡ name
+  name-same : (i o : ℕ) (name s : Name) → o ≡ place + places.variableWords * i → part (getD area o 0) (getD area (o + 1) 0) text ≡ name
       → sameBytes (nameOfVariable area text place i) key ≡ isVariable key (variable name s)
   unfolding nameOfVariable isVariable
   name-same i o name s e n = same-named _ _ ∙ rw (← e, n) (named-turned name key)
@@ -67,7 +67,7 @@ module _ (text area : List ℕ) (place : ℕ) (key : Name) where
   unfolding isVariable
   name-equal name s q = named-decides .equal key name q
 
-  pub variables-from : {es : Entries} {o : ℕ} {us : List Variable} (i : ℕ) → o ≡ place + places.variable-words * i → VariablesAt text area es o us
+  pub variables-from : {es : Entries} {o : ℕ} {us : List Variable} (i : ℕ) → o ≡ place + places.variableWords * i → VariablesAt text area es o us
       → Agree (Placed area es place i us key) (variableFrom (length us) area text place key i) (first (isVariable key) us)
   unfolding variableFrom first
   variables-from i e no-variables = both-none

@@ -36,7 +36,7 @@ nth-below (x ∷ vs) (there n) = omega (arith, nth-below vs n)
 
 pub variables-more : {text area : List ℕ} {es : Entries} {o : ℕ} {vs : List Variable} (name s : Name) (p : ℕ)
     → VariablesAt text area es o vs
-    → p ≡ o + places.variable-words * length vs
+    → p ≡ o + places.variableWords * length vs
     → part (getD area p 0) (getD area (p + 1) 0) text ≡ name
     → SortAt es (getD area (p + 2) 0) s
     → VariablesAt text area es o (vs ++ (variable name s ∷ []))

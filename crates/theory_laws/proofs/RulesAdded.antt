@@ -21,7 +21,7 @@ use Rattle.theory_laws.proofs.Adding.{Adds, adds-kept, others, newer}
 
 -- Variables in another area, from another place on.
 pub variables-moved : {text area area′ : List ℕ} {es es′ : Entries} {o : ℕ} {vs : List Variable} (g : Grown es es′) (o′ : ℕ)
-    → ((i i′ : ℕ) → i′ + o ≡ i + o′ → o ≤ i → i < o + places.variable-words * length vs → getD area′ i′ 0 ≡ getD area i 0)
+    → ((i i′ : ℕ) → i′ + o ≡ i + o′ → o ≤ i → i < o + places.variableWords * length vs → getD area′ i′ 0 ≡ getD area i 0)
     → VariablesAt text area es o vs
     → VariablesAt text area′ es′ o′ vs
 variables-moved g o′ k no-variables = no-variables
@@ -29,15 +29,15 @@ variables-moved {o} g o′ k (one-variable {name} {s} {vs} n a r) =
     one-variable {o = o′} {name = name} {s = s}
     (rw (k o o′ (omega arith) (omega arith) (omega arith), k (o + 1) (o′ + 1) (omega arith) (omega arith) (omega arith)) n)
     (rw (k (o + 2) (o′ + 2) (omega arith) (omega arith) (omega arith)) (sort-kept g a))
-    (variables-moved g (o′ + places.variable-words) (λ i i′ e l u. k i i′ (omega arith) (omega arith) (omega arith)) r)
+    (variables-moved g (o′ + places.variableWords) (λ i i′ e l u. k i i′ (omega arith) (omega arith) (omega arith)) r)
 
 -- The four words behind a rule's name.
 module _ (heap : List ℕ) (e a b c d : ℕ) where
   abbrev one : List ℕ
-  one = set heap (e + places.premise-count) a
+  one = set heap (e + places.premiseCount) a
 
   abbrev two : List ℕ
-  two = set one (e + places.variable-count) b
+  two = set one (e + places.variableCount) b
 
   abbrev three : List ℕ
   three = set two (e + places.conclusion) c
@@ -46,29 +46,29 @@ module _ (heap : List ℕ) (e a b c d : ℕ) where
   unfolding ruleDescribed
   length-rule = simp length-set
 
-  pub rule-other : (i : ℕ) → (e + places.premise-count ≤ i → i ≤ e + places.variables → ⊥) → getD (ruleDescribed e a b c d heap) i 0 ≡ getD heap i 0
+  pub rule-other : (i : ℕ) → (e + places.premiseCount ≤ i → i ≤ e + places.variables → ⊥) → getD (ruleDescribed e a b c d heap) i 0 ≡ getD heap i 0
   unfolding ruleDescribed
   rule-other i h =
       getD-set-other three (e + places.variables) i d 0 (λ k. h (omega arith) (omega arith))
       ∙ getD-set-other two (e + places.conclusion) i c 0 (λ k. h (omega arith) (omega arith))
-      ∙ getD-set-other one (e + places.variable-count) i b 0 (λ k. h (omega arith) (omega arith))
-      ∙ getD-set-other heap (e + places.premise-count) i a 0 (λ k. h (omega arith) (omega arith))
+      ∙ getD-set-other one (e + places.variableCount) i b 0 (λ k. h (omega arith) (omega arith))
+      ∙ getD-set-other heap (e + places.premiseCount) i a 0 (λ k. h (omega arith) (omega arith))
 
   module _ (fits : e + places.variables < length heap) where
-    pub rule-first : getD (ruleDescribed e a b c d heap) (e + places.premise-count) 0 ≡ a
+    pub rule-first : getD (ruleDescribed e a b c d heap) (e + places.premiseCount) 0 ≡ a
     unfolding ruleDescribed
     rule-first =
-        getD-set-other three (e + places.variables) (e + places.premise-count) d 0 (λ k. omega arith)
-        ∙ getD-set-other two (e + places.conclusion) (e + places.premise-count) c 0 (λ k. omega arith)
-        ∙ getD-set-other one (e + places.variable-count) (e + places.premise-count) b 0 (λ k. omega arith)
-        ∙ getD-set-same heap (e + places.premise-count) a 0 (omega arith)
+        getD-set-other three (e + places.variables) (e + places.premiseCount) d 0 (λ k. omega arith)
+        ∙ getD-set-other two (e + places.conclusion) (e + places.premiseCount) c 0 (λ k. omega arith)
+        ∙ getD-set-other one (e + places.variableCount) (e + places.premiseCount) b 0 (λ k. omega arith)
+        ∙ getD-set-same heap (e + places.premiseCount) a 0 (omega arith)
 
-    pub rule-second : getD (ruleDescribed e a b c d heap) (e + places.variable-count) 0 ≡ b
+    pub rule-second : getD (ruleDescribed e a b c d heap) (e + places.variableCount) 0 ≡ b
     unfolding ruleDescribed
     rule-second =
-        getD-set-other three (e + places.variables) (e + places.variable-count) d 0 (λ k. omega arith)
-        ∙ getD-set-other two (e + places.conclusion) (e + places.variable-count) c 0 (λ k. omega arith)
-        ∙ getD-set-same one (e + places.variable-count) b 0 (simp length-set (omega arith))
+        getD-set-other three (e + places.variables) (e + places.variableCount) d 0 (λ k. omega arith)
+        ∙ getD-set-other two (e + places.conclusion) (e + places.variableCount) c 0 (λ k. omega arith)
+        ∙ getD-set-same one (e + places.variableCount) b 0 (simp length-set (omega arith))
 
     pub rule-third : getD (ruleDescribed e a b c d heap) (e + places.conclusion) 0 ≡ c
     unfolding ruleDescribed
@@ -146,10 +146,10 @@ module _ (text heap middle vars : List ℕ) (es : Entries) (th : Theory) (e top 
         low = low;
         called = List·Memᴰ·head refl;
         premise-count =
-            copied-before (3 * v) described-words top vars 0 (e + places.premise-count) (omega arith) ∙ rule-first named-words e n v mid top rule-long-enough
+            copied-before (3 * v) described-words top vars 0 (e + places.premiseCount) (omega arith) ∙ rule-first named-words e n v mid top rule-long-enough
             ∙ many-premises;
         variable-count =
-            copied-before (3 * v) described-words top vars 0 (e + places.variable-count) (omega arith) ∙ rule-second named-words e n v mid top rule-long-enough
+            copied-before (3 * v) described-words top vars 0 (e + places.variableCount) (omega arith) ∙ rule-second named-words e n v mid top rule-long-enough
             ∙ many-variables;
         conclusion-place = mid;
         variables-place = top;

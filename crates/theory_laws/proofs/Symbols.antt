@@ -61,25 +61,25 @@ module _ (text counted : List ℕ) (Before : Reader → Stream Token → Type 0)
 
   sort-added : {heap : List ℕ} {es : Entries} {top : ℕ} {th : Theory} (name : Name) (s t : ℕ) → Holds text heap es top th
       → places.entries ≤ top
-      → top + places.sort-words ≤ 16384
+      → top + places.sortWords ≤ 16384
       → part s t text ≡ name
       → s < 4294967296
       → t < 4294967296
       → someOf (named name) (th .sorts) ≡ false
-      → Holds text (added heap places.sorts places.buckets top text s t) (withSort es (entry top name)) (top + places.sort-words)
+      → Holds text (added heap places.sorts places.buckets top text s t) (withSort es (entry top name)) (top + places.sortWords)
       record { sorts = th .sorts ++ (name ∷ []); symbols = th .symbols; rules = th .rules }
   sort-added {heap} {es} {top} {th} name s t h low fits p small-start small-end new =
       record {
         long = length-added heap places.sorts places.buckets top text s t ∙ h .long;
-        sorts = newer k (top + places.sort-words) (omega arith) (λ e a m. sort-kept g m) name name p (λ key. refl) (sort-at (List·Memᴰ·head refl)) new
+        sorts = newer k (top + places.sortWords) (omega arith) (λ e a m. sort-kept g m) name name p (λ key. refl) (sort-at (List·Memᴰ·head refl)) new
             (h .sorts);
         constructors =
-            others k (top + places.sort-words) (omega arith) (λ e c m. symbol-kept g (adds-kept k) (omega arith) m) places.constructors (omega arith)
+            others k (top + places.sortWords) (omega arith) (λ e c m. symbol-kept g (adds-kept k) (omega arith) m) places.constructors (omega arith)
             (λ i a b c d. omega arith) (h .constructors);
         predicates =
-            others k (top + places.sort-words) (omega arith) (λ e c m. symbol-kept g (adds-kept k) (omega arith) m) places.predicates (omega arith)
+            others k (top + places.sortWords) (omega arith) (λ e c m. symbol-kept g (adds-kept k) (omega arith) m) places.predicates (omega arith)
             (λ i a b c d. omega arith) (h .predicates);
-        rules = others k (top + places.sort-words) (omega arith) (λ e c m. rule-kept g (adds-kept k) (omega arith) m) places.rules (omega arith)
+        rules = others k (top + places.sortWords) (omega arith) (λ e c m. rule-kept g (adds-kept k) (omega arith) m) places.rules (omega arith)
             (λ i a b c d. omega arith) (h .rules);
       } where
         g : Grown es (withSort es (entry top name))
@@ -104,13 +104,13 @@ module _ (text counted : List ℕ) (Before : Reader → Stream Token → Type 0)
       → NameRead text counted Before reads n (closing ▹ ts) ks w b name
       → Simulates (Stood ts ks)
       (leaving._>>=_ (entered text places.sorts (w .top) (b .0) (b .1) (b .2) heap)
-      (λ (q, heap). closingDue text (reserved q places.sort-words) leaving heap))
+      (λ (q, heap). closingDue text (reserved q places.sortWords) leaving heap))
       (need (not (someOf (named name) (th .sorts))) duplicate >>= λ _. ok record { sorts = th .sorts ++ (name ∷ []); symbols = th .symbols; rules = th .rules })
   unfolding entered reserved number weight
   sort-entered {th} {es} n {ts} {ks} {w} {heap} b name r (name-read {s} {t} {next} p l u z k) =
       let c = r .room in
-      let e : sum32 (w .top) places.sort-words ≡ w .top + places.sort-words = sum-small (w .top) places.sort-words (omega arith) in
-      let q : Walk = withTop (readOn w next) (sum32 (w .top) places.sort-words) in
+      let e : sum32 (w .top) places.sortWords ≡ w .top + places.sortWords = sum-small (w .top) places.sortWords (omega arith) in
+      let q : Walk = withTop (readOn w next) (sum32 (w .top) places.sortWords) in
       let m : ClosingMet text counted Before reads ts ks q =
       closing-met text counted Before reads record { before = k .before; counted = k .counted; few = k .few } in
       test-then heap (not (present (found heap places.sorts places.buckets text (part s t text)))) 13 duplicate (readOn w next)

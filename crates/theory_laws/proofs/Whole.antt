@@ -85,7 +85,7 @@ pub record Judged (text : List ℕ) (c : Counts) (areas : AllAreas) (th : Theory
   pub top : ℕ
   pub holds : Holds text (areas .2) entries top th
   pub low : places.entries ≤ top
-  pub high : top ≤ places.theory-end
+  pub high : top ≤ places.theoryEnd
   pub vars-long : length (areas .0) ≡ 16384
   pub counts-long : length (areas .1) ≡ 16384
 

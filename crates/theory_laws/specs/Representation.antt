@@ -81,7 +81,7 @@ pub data VariablesAt (text area : List ℕ) (es : Entries) : ℕ → List Variab
   one-variable : {o : ℕ} {name s : Name} {vs : List Variable}
       → part (getD area o 0) (getD area (o + 1) 0) text ≡ name
       → SortAt es (getD area (o + 2) 0) s
-      → VariablesAt text area es (o + places.variable-words) vs
+      → VariablesAt text area es (o + places.variableWords) vs
       → VariablesAt text area es o (variable name s ∷ vs)
 
 -- The entry of a rule.
@@ -89,8 +89,8 @@ pub record RuleWords (text heap : List ℕ) (es : Entries) (top e : ℕ) (name :
     (conclusion : Pattern) : Type 0 where
   pub low : places.entries ≤ e
   pub called : List·Memᴰ (entry e name) (es .rules)
-  pub premise-count : getD heap (e + places.premise-count) 0 ≡ length premises
-  pub variable-count : getD heap (e + places.variable-count) 0 ≡ length vs
+  pub premise-count : getD heap (e + places.premiseCount) 0 ≡ length premises
+  pub variable-count : getD heap (e + places.variableCount) 0 ≡ length vs
   pub conclusion-place : ℕ
   pub variables-place : ℕ
   pub to-conclusion : getD heap (e + places.conclusion) 0 ≡ conclusion-place
@@ -99,7 +99,7 @@ pub record RuleWords (text heap : List ℕ) (es : Entries) (top e : ℕ) (name :
   pub at-conclusion : Flat heap es top (e + places.patterns) top vs conclusion-place conclusion variables-place
   pub at-variables : VariablesAt text heap es variables-place vs
   pub rising : e + places.patterns ≤ variables-place
-  pub high : variables-place + places.variable-words * length vs ≤ top
+  pub high : variables-place + places.variableWords * length vs ≤ top
 
 pub data RuleAt (text heap : List ℕ) (es : Entries) (top e : ℕ) : Rule → Type 0 where
   rule-at : {name : Name} {vs : List Variable} {premises : List Pattern} {conclusion : Pattern}

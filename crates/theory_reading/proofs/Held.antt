@@ -1,6 +1,6 @@
 -- What is read of a held theory is what the definition says of it. Assumes nothing.
 use mathlib.Core.Path.{_≡_, refl, ap, sym, _∙_}
-use mathlib.Core.Bool.{Bool, true, false, _&&_}
+use mathlib.Core.Bool.{Bool, true, false, _&&_, and-false}
 use mathlib.Core.List.{List, [], _∷_}
 use mathlib.Core.Option.{Option}
 use Prim.Native.Nat.{ℕ, suc, _+_, _≤_, _<_}
@@ -30,17 +30,13 @@ use Rattle.theory_reading.specs.Reading.{constructorFound, predicateFoun
 use Rattle.theory_reading.specs.Reading.{premiseCount, variableCount, variablesPlace}
 use Rattle.theory_reading.specs.Reading.{sortOfVariable, variableFound}
 
--- As many arguments as inputs.
-no-and : (b : Bool) → (b && false) ≡ false
-no-and true = refl
-no-and false = refl
-
+-- Arguments that are not as many as the inputs are not accepted.
 accepts-uneven : (ss : List Name) (ts : Terms) → (length ss ≡ width ts → ⊥) → accepts ss ts ≡ false
 unfolding accepts width
 accepts-uneven [] []ₜ n = absurd (n refl)
 accepts-uneven [] (t ∷ₜ ts) n = refl
 accepts-uneven (s ∷ ss) []ₜ n = refl
-accepts-uneven (s ∷ ss) (t ∷ₜ ts) n = rw (accepts-uneven ss ts (λ e. n (ap suc e))) (no-and (hasSort s t))
+accepts-uneven (s ∷ ss) (t ∷ₜ ts) n = rw (accepts-uneven ss ts (λ e. n (ap suc e))) (and-false (hasSort s t))
 
 -- The heads of some terms, from the k-th on.
 pub data Heads (heap : List ℕ) (es : Entries) (top : ℕ) (head : ℕ → ℕ) : ℕ → Terms → Type 0 where
@@ -156,11 +152,11 @@ module _ {text heap : List ℕ} {es : Entries} {top : ℕ} {th : Theory} (h : Ho
   variables-are (rule-at w) = rw (w .to-variables) (w .at-variables)
 
   -- Bindings have room from word 12,288 on. What keeps the words below keeps the theory.
-  pub bindings-fit : {e : ℕ} {r : Rule} → top ≤ places.theory-end → RuleAt text heap es top e r → places.bindings + length (variablesOf r) ≤ 16384
+  pub bindings-fit : {e : ℕ} {r : Rule} → top ≤ places.theoryEnd → RuleAt text heap es top e r → places.bindings + length (variablesOf r) ≤ 16384
   unfolding variablesOf
   bindings-fit t (rule-at w) = let l = w .low in let u = w .rising in let k = w .high in omega arith
 
-  pub holds-now : top ≤ places.theory-end → {now : List ℕ} → Keeps places.bindings heap now → Holds text now es top th
+  pub holds-now : top ≤ places.theoryEnd → {now : List ℕ} → Keeps places.bindings heap now → Holds text now es top th
   holds-now t k = holds-kept (keeps-less (omega arith) k) (omega arith) h
 
   -- A variable of the rule by its bytes.

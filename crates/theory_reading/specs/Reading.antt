@@ -44,10 +44,10 @@ accepted head heap c n = pick (eqb (arityOf heap c) n) (λ _. allFit head heap c
 
 -- The words of a rule's entry.
 unfoldable pub premiseCount : List ℕ → ℕ → ℕ
-premiseCount heap r = getD heap (r + places.premise-count) 0
+premiseCount heap r = getD heap (r + places.premiseCount) 0
 
 unfoldable pub variableCount : List ℕ → ℕ → ℕ
-variableCount heap r = getD heap (r + places.variable-count) 0
+variableCount heap r = getD heap (r + places.variableCount) 0
 
 unfoldable pub premisesPlace : ℕ → ℕ
 premisesPlace r = sum32 r places.patterns
@@ -59,7 +59,7 @@ unfoldable pub variablesPlace : List ℕ → ℕ → ℕ
 variablesPlace heap r = getD heap (r + places.variables) 0
 
 unfoldable pub sortOfVariable : List ℕ → ℕ → ℕ → ℕ
-sortOfVariable heap r v = getD heap (variablesPlace heap r + places.variable-words * v + 2) 0
+sortOfVariable heap r v = getD heap (variablesPlace heap r + places.variableWords * v + 2) 0
 
 -- The variable that has the name `key`.
 unfoldable pub variableFound : List ℕ → List ℕ → ℕ → List ℕ → Option ℕ

@@ -35,15 +35,15 @@ module _ (area text : List ℕ) (place : ℕ) (key : List ℕ) (n : ℕ) where
 
 -- The name's bounds are the variable's words, and the name is compared with the key.
 pub variable-compared : (area text : List ℕ) (place : ℕ) (key : List ℕ) (i : ℕ) {s t : ℕ} {b : Bool}
-    → s ≡ getD area (place + places.variable-words * i) 0
-    → t ≡ getD area (place + places.variable-words * i + 1) 0
+    → s ≡ getD area (place + places.variableWords * i) 0
+    → t ≡ getD area (place + places.variableWords * i + 1) 0
     → b ≡ sameBytes (part s t text) key
     → sameBytes (nameOfVariable area text place i) key ≡ b
 unfolding nameOfVariable
 variable-compared area text place key i p q h = rw (h, p, q)
 
 -- "At another sort is 14": x is the sort that the variable has.
-pub met-apart : (v sort : ℕ) (w : Walk) (vars heap : List ℕ) (x : ℕ) → x ≡ getD vars (places.variable-words * v + 2) 0 → (x ≡ sort → ⊥)
+pub met-apart : (v sort : ℕ) (w : Walk) (vars heap : List ℕ) (x : ℕ) → x ≡ getD vars (places.variableWords * v + 2) 0 → (x ≡ sort → ⊥)
     → (refused 14 leaving (vars, heap)) ≡ metAgain v sort w vars heap
 unfolding metAgain
 met-apart v sort w vars heap x e d = rw (← e, ne-eqb x sort d)

@@ -19,7 +19,7 @@ Areas = List ℕ × List ℕ
 
 -- The name of a rule's variable. The words of the variables stand from `place` on.
 unfoldable pub nameOfVariable : List ℕ → List ℕ → ℕ → ℕ → List ℕ
-nameOfVariable area text place v = part (getD area (place + places.variable-words * v) 0) (getD area (place + places.variable-words * v + 1) 0) text
+nameOfVariable area text place v = part (getD area (place + places.variableWords * v) 0) (getD area (place + places.variableWords * v + 1) 0) text
 
 -- The first variable that has the name `key`, from the i-th on.
 unfoldable pub variableFrom : ℕ → List ℕ → List ℕ → ℕ → List ℕ → ℕ → Option ℕ
@@ -36,7 +36,7 @@ variableWord v = sum32 places.variable v
 -- A new variable's three words.
 unfoldable pub withVariable : List ℕ → ℕ → ℕ → ℕ → ℕ → List ℕ
 withVariable vars v s t sort =
-    set (set (set vars (places.variable-words * v) (s % 4294967296)) (places.variable-words * v + 1) (t % 4294967296)) (places.variable-words * v + 2) sort
+    set (set (set vars (places.variableWords * v) (s % 4294967296)) (places.variableWords * v + 1) (t % 4294967296)) (places.variableWords * v + 2) sort
 
 abbrev pub oneVariable : Walk → Walk
 oneVariable w = record { reader = w .reader; opened = w .opened; top = w .top; variables = sum32 (w .variables) 1 }
@@ -49,7 +49,7 @@ introduced s t sort w vars heap =
 -- "At another sort is 14."
 unfoldable pub metAgain : ℕ → ℕ → Walk → List ℕ → List ℕ → Did Areas Walk
 metAgain v sort w vars heap = do
-  _ ← need (eqb (getD vars (places.variable-words * v + 2) 0) sort) 14 leaving (vars, heap)
+  _ ← need (eqb (getD vars (places.variableWords * v + 2) 0) sort) 14 leaving (vars, heap)
   beside vars (pushed (variableWord v) w heap)
 
 abbrev pub variableAt : Option ℕ → ℕ → ℕ → ℕ → Walk → List ℕ → List ℕ → Did Areas Walk

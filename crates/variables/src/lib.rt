@@ -44,8 +44,8 @@ pub fn introduce(vars: &mut [u32], heap: &mut [u32], s: usize, t: usize, sort: u
 {
     let v = w.variables;
     let place = places::VARIABLE_WORDS * v as usize;
-    words::put(vars, place, items::low(s));
-    words::put(vars, place + 1, items::low(t));
+    words::put(vars, place, words::low(s));
+    words::put(vars, place + 1, words::low(t));
     words::put(vars, place + 2, sort);
     let reader = w.reader;
     let q = Walk {
