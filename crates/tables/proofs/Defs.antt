@@ -12,7 +12,7 @@ use Rattle.horn.specs.Checker.{Def, def, isDef, meaning}
 use Rattle.names.specs.Tables.{Entry, entry, top, Table, no-entry, Stands, none-yet, other-kind, declared, Agree, both-none, both-some, present}
 use Rattle.names.proofs.Kept.{kept-within, kept-put, add-law}
 use Rattle.names.proofs.Declared.{stands-kept, find-agrees, find-present}
-use Rattle.tables.specs.Words.{goalBuckets, entered, defFound, defMeaning}
+use Rattle.tables.specs.Words.{goalBuckets, entryWords, valueOffset, entered, defFound, defMeaning}
 use Rattle.tables.specs.Representation.{DefAt, Defs}
 use Rattle.facts.proofs.Lists.{one-more}
 use Rattle.tables.proofs.Areas.{Same, entered-value, entered-same}
@@ -23,7 +23,7 @@ module _ {text table : List ℕ} {buckets base : ℕ} {Means : ℕ → Term → 
   pub defs-kept : (table′ : List ℕ) → Defs text table buckets base Means defs
       → length table′ ≡ length table
       → Same table table′ goalBuckets (goalBuckets + buckets)
-      → Same table table′ base (base + 4 * length defs)
+      → Same table table′ base (base + entryWords * length defs)
       → Defs text table′ buckets base Means defs
   defs-kept table′ d l h k =
       let b = d .below in
@@ -31,24 +31,25 @@ module _ {text table : List ℕ} {buckets base : ℕ} {Means : ℕ → Term → 
         entries = d .entries;
         names = kept-within table′ (d .names) l (λ i x y. h .words i x y) (λ i x y. k .words i x (omega arith));
         below = b;
-        stands = stands-kept isDef (DefAt table Means base (base + 4 * length defs)) (DefAt table′ Means base (base + 4 * length defs)) (d .stands)
+        stands = stands-kept isDef (DefAt table Means base (base + entryWords * length defs)) (DefAt table′ Means base (base + entryWords * length defs))
+            (d .stands)
             (λ e name a m x.
             let low = x .above in
             let high = x .below in
-            record { above = low; below = high; value = rw (k .words (e + 3) (omega arith) (omega arith)) (x .value) });
+            record { above = low; below = high; value = rw (k .words (e + valueOffset) (omega arith) (omega arith)) (x .value) });
       }
 
   -- One abbreviation more.
   pub defs-add : (s t w : ℕ) (u : Term) → Defs text table buckets base Means defs
-      → base + 4 * length defs + 4 ≤ length table
+      → base + entryWords * length defs + entryWords ≤ length table
       → s < 4294967296
       → t < 4294967296
       → Means w u
       → someOf (isDef (part s t text)) defs ≡ false
-      → Defs text (entered goalBuckets buckets (base + 4 * length defs) text s t w table) buckets base Means (defs ++ (def (part s t text) u ∷ []))
+      → Defs text (entered goalBuckets buckets (base + entryWords * length defs) text s t w table) buckets base Means (defs ++ (def (part s t text) u ∷ []))
   unfolding top isDef entered meaning
   defs-add s t w u d room x y m n =
-      let e : ℕ = base + 4 * length defs in
+      let e : ℕ = base + entryWords * length defs in
       let name : Name = part s t text in
       let f = d .names .buckets-first in
       let p = d .names .some-bucket in
@@ -56,30 +57,30 @@ module _ {text table : List ℕ} {buckets base : ℕ} {Means : ℕ → Term → 
       let same = entered-same table goalBuckets buckets e text s t w p base e f (omega arith) in
       record {
         entries = entry e name ∷ d .entries;
-        names = kept-put (e + 3) w (add-law e s t (d .names) (d .below) (omega arith) x y) (omega arith);
+        names = kept-put (e + valueOffset) w (add-law e s t (d .names) (d .below) (omega arith) x y) (omega arith);
         below = omega arith;
         stands =
             declared {a = def name u} {e = e} {name = name} refl (λ key. refl)
             (record { above = omega arith; below = omega arith; value = rw (entered-value table goalBuckets buckets e text s t w (omega arith)) m })
             n
-            (stands-kept isDef (DefAt table Means base (base + 4 * length defs))
-            (DefAt (entered goalBuckets buckets e text s t w table) Means base (base + 4 * length (defs ++ (def name u ∷ [])))) (d .stands)
+            (stands-kept isDef (DefAt table Means base (base + entryWords * length defs))
+            (DefAt (entered goalBuckets buckets e text s t w table) Means base (base + entryWords * length (defs ++ (def name u ∷ [])))) (d .stands)
             (λ i other a q z.
             let low = z .above in
             let high = z .below in
-            record { above = low; below = omega arith; value = rw (same .words (i + 3) (omega arith) (omega arith)) (z .value) }));
+            record { above = low; below = omega arith; value = rw (same .words (i + valueOffset) (omega arith) (omega arith)) (z .value) }));
       }
 
   -- The test for duplicates, and the search.
   pub def-known : (key : Name) → Defs text table buckets base Means defs → present (defFound buckets text key table) ≡ someOf (isDef key) defs
   unfolding defFound
-  def-known key d = find-present isDef (DefAt table Means base (base + 4 * length defs)) key (d .names) (d .stands)
+  def-known key d = find-present isDef (DefAt table Means base (base + entryWords * length defs)) key (d .names) (d .stands)
 
   pub meaning-agrees : (key : Name) → Defs text table buckets base Means defs
       → Agree (λ w a. Means w (meaning a)) (defMeaning buckets text key table) (first (isDef key) defs)
   unfolding defFound defMeaning
   meaning-agrees key d =
-      agreed (find-agrees isDef (DefAt table Means base (base + 4 * length defs)) key (d .names) (d .stands))
+      agreed (find-agrees isDef (DefAt table Means base (base + entryWords * length defs)) key (d .names) (d .stands))
       (λ f n. rw (f, defMeaning, n) both-none)
       (λ e a f n x. rw (f, defMeaning, n) (both-some (x .value)))
 
@@ -134,6 +135,7 @@ defs-mean {table} {base} {Means} {defs} Means′ f d =
       entries = d .entries;
       names = d .names;
       below = d .below;
-      stands = stands-kept isDef (DefAt table Means base (base + 4 * length defs)) (DefAt table Means′ base (base + 4 * length defs)) (d .stands)
+      stands = stands-kept isDef (DefAt table Means base (base + entryWords * length defs)) (DefAt table Means′ base (base + entryWords * length defs))
+          (d .stands)
           (λ e name a m x. record { above = x .above; below = x .below; value = f _ _ (x .value) });
     }

@@ -18,14 +18,14 @@ use Rattle.horn.proofs.Equality.{case, named-decides, decides-false, differ, fi
 use Rattle.names.specs.Tables.{Entry, entry, top, Stands, other-kind, declared, Owns, bucket-word, entry-word, Agree, both-none, both-some, present}
 use Rattle.names.proofs.Kept.{kept-within, kept-put, kept-set, add-law}
 use Rattle.names.proofs.Declared.{stands-kept, find-agrees, find-present}
-use Rattle.tables.specs.Words.{goalBuckets, entered, goalFound, openAt, goalOpen}
+use Rattle.tables.specs.Words.{goalBuckets, entryWords, valueOffset, entered, goalFound, openAt, goalOpen}
 use Rattle.tables.specs.Representation.{Sits, here, there, GoalsAt, no-goal, still-open, is-closed, Goals, OpenAt, OpenAgree}
 use Rattle.tables.specs.Representation.{none-open as nothing-open, one-open}
 use Rattle.facts.proofs.Lists.{one-more}
 use Rattle.tables.proofs.Areas.{Same, length-entered, entered-value, entered-same}
 
 -- Addresses: bounds, and a list with one thing more.
-pub sits-bounds : {A : Type 0} {b e : ℕ} {things : List A} {a : A} → Sits b things e a → (b ≤ e) × (e + 4 ≤ b + 4 * length things)
+pub sits-bounds : {A : Type 0} {b e : ℕ} {things : List A} {a : A} → Sits b things e a → (b ≤ e) × (e + entryWords ≤ b + entryWords * length things)
 sits-bounds (here h) = (omega arith, omega arith)
 sits-bounds (there s) = let k = sits-bounds s in (omega arith, omega arith)
 
@@ -33,9 +33,9 @@ pub sits-more : {A : Type 0} {b e : ℕ} {things : List A} {a : A} (more : List 
 sits-more more (here h) = here h
 sits-more more (there s) = there (sits-more more s)
 
-pub sits-last : {A : Type 0} (b e : ℕ) (things : List A) (a : A) → e ≡ b + 4 * length things → Sits b (things ++ (a ∷ [])) e a
+pub sits-last : {A : Type 0} (b e : ℕ) (things : List A) (a : A) → e ≡ b + entryWords * length things → Sits b (things ++ (a ∷ [])) e a
 sits-last b e [] a h = here {b = b} {e = e} (omega arith)
-sits-last b e (c ∷ things) a h = there (sits-last (b + 4) e things a (omega arith))
+sits-last b e (c ∷ things) a h = there (sits-last (b + entryWords) e things a (omega arith))
 
 at-same : (table : List ℕ) (i k : ℕ) → i ≡ k → getD table i 0 ≡ getD table k 0
 at-same table i k h = rw h
@@ -67,30 +67,33 @@ none-of-sitting test (there {c} {things} s) n = none-of-sitting test s (none-of-
 module _ {Means : ℕ → Term → Type 0} where
   -- What keeps the values of goals.
   pub values-kept : {table table′ : List ℕ} {b : ℕ} {goals openGoals : List Goal} → GoalsAt table Means b goals openGoals
-      → ((i : ℕ) → b ≤ i → i < b + 4 * length goals → getD table′ i 0 ≡ getD table i 0)
+      → ((i : ℕ) → b ≤ i → i < b + entryWords * length goals → getD table′ i 0 ≡ getD table i 0)
       → GoalsAt table′ Means b goals openGoals
   values-kept no-goal k = no-goal
   values-kept (still-open {b} v m n g) k =
-      still-open (k (b + 3) (omega arith) (omega arith) ∙ v) m n (values-kept g (λ i l h. k i (omega arith) (omega arith)))
+      still-open (k (b + valueOffset) (omega arith) (omega arith) ∙ v) m n (values-kept g (λ i l h. k i (omega arith) (omega arith)))
   values-kept (is-closed {b} v n g) k =
-      is-closed (k (b + 3) (omega arith) (omega arith) ∙ v) n (values-kept g (λ i l h. k i (omega arith) (omega arith)))
+      is-closed (k (b + valueOffset) (omega arith) (omega arith) ∙ v) n (values-kept g (λ i l h. k i (omega arith) (omega arith)))
 
   -- One goal more, whose name is new.
   pub values-add : {table : List ℕ} {b : ℕ} {goals openGoals : List Goal} (w : ℕ) (name : Name) (j : Term) → GoalsAt table Means b goals openGoals
-      → getD table (b + 4 * length goals + 3) 0 ≡ w + 1
+      → getD table (b + entryWords * length goals + valueOffset) 0 ≡ w + 1
       → Means w j
       → someOf (isGoal name) goals ≡ false
       → GoalsAt table Means b (goals ++ (goal name j ∷ [])) (openGoals ++ (goal name j ∷ []))
   unfolding isGoal someOf
-  values-add {table} w name j (no-goal {b}) v m n = still-open {b = b} {w = w} (at-same table (b + 3) (b + 4 * 0 + 3) (omega arith) ∙ v) m refl no-goal
+  values-add {table} w name j (no-goal {b}) v m n =
+      still-open {b = b} {w = w} (at-same table (b + valueOffset) (b + entryWords * 0 + valueOffset) (omega arith) ∙ v) m refl no-goal
   values-add {table} w name j (still-open {b} {name = other} {j = i} {goals} u k f g) v m n =
       let (x, y) = none-of-head (isGoal name) (goal other i) goals n in
       still-open u k (none-of-more (isGoal other) goals (goal name j) f (other-name name other x))
-      (values-add w name j g (at-same table (b + 4 + 4 * length goals + 3) (b + 4 * suc (length goals) + 3) (omega arith) ∙ v) m y)
+      (values-add w name j g
+      (at-same table (b + entryWords + entryWords * length goals + valueOffset) (b + entryWords * suc (length goals) + valueOffset) (omega arith) ∙ v) m y)
   values-add {table} w name j (is-closed {b} {name = other} {j = i} {goals} u f g) v m n =
       let (x, y) = none-of-head (isGoal name) (goal other i) goals n in
       is-closed u (none-of-more (isGoal other) goals (goal name j) f (other-name name other x))
-      (values-add w name j g (at-same table (b + 4 + 4 * length goals + 3) (b + 4 * suc (length goals) + 3) (omega arith) ∙ v) m y)
+      (values-add w name j g
+      (at-same table (b + entryWords + entryWords * length goals + valueOffset) (b + entryWords * suc (length goals) + valueOffset) (omega arith) ∙ v) m y)
 
   -- Where a name is no goal's, it is no open goal's.
   pub none-open : {table : List ℕ} {b : ℕ} {goals openGoals : List Goal} (key : Name) → GoalsAt table Means b goals openGoals
@@ -105,10 +108,11 @@ module _ {Means : ℕ → Term → Type 0} where
   -- A goal's value says whether it is open.
   pub closed-is-none : {table : List ℕ} {b e : ℕ} {goals openGoals : List Goal} {name : Name} {j : Term} → GoalsAt table Means b goals openGoals
       → Sits b goals e (goal name j)
-      → getD table (e + 3) 0 ≡ 0
+      → getD table (e + valueOffset) 0 ≡ 0
       → first (isGoal name) openGoals ≡ none
   unfolding first isGoal
-  closed-is-none {table} {e} (still-open {b} {w} v m f g) (here h) z = let u = at-same table (e + 3) (b + 3) (omega arith) in absurd (omega arith)
+  closed-is-none {table} {e} (still-open {b} {w} v m f g) (here h) z =
+      let u = at-same table (e + valueOffset) (b + valueOffset) (omega arith) in absurd (omega arith)
   closed-is-none {name} (still-open {name = other} v m f g) (there s) z =
       let x : named name other ≡ false = other-name other name (none-of-sitting (isGoal other) s f) in
       rw (x, first) (closed-is-none g s z)
@@ -117,18 +121,18 @@ module _ {Means : ℕ → Term → Type 0} where
 
   pub open-is-some : {table : List ℕ} {b e : ℕ} (v : ℕ) {goals openGoals : List Goal} {name : Name} {j : Term} → GoalsAt table Means b goals openGoals
       → Sits b goals e (goal name j)
-      → getD table (e + 3) 0 ≡ v + 1
+      → getD table (e + valueOffset) 0 ≡ v + 1
       → (first (isGoal name) openGoals ≡ some (goal name j)) × Means v j
   unfolding first isGoal
   open-is-some {table} {e} v {name} {j} (still-open {b} {w} u m f g) (here h) z =
-      let q = at-same table (e + 3) (b + 3) (omega arith) in
+      let q = at-same table (e + valueOffset) (b + valueOffset) (omega arith) in
       let k : w ≡ v = omega arith in
       (rw (named-decides .same name, first), rw (← k) m)
   open-is-some v {name} (still-open {name = other} u m f g) (there s) z =
       let x : named name other ≡ false = other-name other name (none-of-sitting (isGoal other) s f) in
       let (p, q) = open-is-some v g s z in
       (rw (x, first) p, q)
-  open-is-some {table} {e} v (is-closed {b} u f g) (here h) z = let q = at-same table (e + 3) (b + 3) (omega arith) in absurd (omega arith)
+  open-is-some {table} {e} v (is-closed {b} u f g) (here h) z = let q = at-same table (e + valueOffset) (b + valueOffset) (omega arith) in absurd (omega arith)
   open-is-some v (is-closed u f g) (there s) z = open-is-some v g s z
 
   -- A name that no goal has is not taken out.
@@ -145,14 +149,15 @@ module _ {Means : ℕ → Term → Type 0} where
   -- Closing an open goal: its value is 0 and it is taken out of the open ones, which are one fewer.
   pub values-close : {table : List ℕ} {b e : ℕ} (v : ℕ) {goals openGoals : List Goal} {name : Name} {j : Term} → GoalsAt table Means b goals openGoals
       → Sits b goals e (goal name j)
-      → getD table (e + 3) 0 ≡ v + 1
-      → e + 4 ≤ length table
-      → GoalsAt (set table (e + 3) 0) Means b goals (without name openGoals) × (length openGoals ≡ length (without name openGoals) + 1)
+      → getD table (e + valueOffset) 0 ≡ v + 1
+      → e + entryWords ≤ length table
+      → GoalsAt (set table (e + valueOffset) 0) Means b goals (without name openGoals) × (length openGoals ≡ length (without name openGoals) + 1)
   unfolding without isGoal
   values-close {table} {e} v {name} {j} (still-open {b} {w} {goals} {openGoals} u m f g) (here h) z l =
       rw (named-decides .same name, without, without-none name g f) (
-        is-closed (at-same (set table (e + 3) 0) (b + 3) (e + 3) (omega arith) ∙ getD-set-same table (e + 3) 0 0 (omega arith)) f
-            (values-kept g (λ i x y. getD-set-other table (e + 3) i 0 0 (λ q. omega arith))),
+        is-closed (at-same (set table (e + valueOffset) 0) (b + valueOffset) (e + valueOffset) (omega arith)
+            ∙ getD-set-same table (e + valueOffset) 0 0 (omega arith)) f
+            (values-kept g (λ i x y. getD-set-other table (e + valueOffset) i 0 0 (λ q. omega arith))),
         omega arith,
       )
   values-close {table} {e} v {name} {j} (still-open {b} {w} {name = other} {j = i} {goals} {openGoals} u m f g) (there s) z l =
@@ -160,19 +165,20 @@ module _ {Means : ℕ → Term → Type 0} where
       let (low, high) = sits-bounds s in
       let (p, q) = values-close v g s z l in
       rw (x, without)
-      (still-open {w = w} (getD-set-other table (e + 3) (b + 3) 0 0 (λ q. omega arith) ∙ u) m f p, omega arith)
-  values-close {table} {e} v (is-closed {b} u f g) (here h) z l = let q = at-same table (e + 3) (b + 3) (omega arith) in absurd (omega arith)
+      (still-open {w = w} (getD-set-other table (e + valueOffset) (b + valueOffset) 0 0 (λ q. omega arith) ∙ u) m f p, omega arith)
+  values-close {table} {e} v (is-closed {b} u f g) (here h) z l =
+      let q = at-same table (e + valueOffset) (b + valueOffset) (omega arith) in absurd (omega arith)
   values-close {table} {e} v (is-closed {b} u f g) (there s) z l =
       let (low, high) = sits-bounds s in
       let (p, q) = values-close v g s z l in
-      (is-closed (getD-set-other table (e + 3) (b + 3) 0 0 (λ q. omega arith) ∙ u) f p, q)
+      (is-closed (getD-set-other table (e + valueOffset) (b + valueOffset) 0 0 (λ q. omega arith) ∙ u) f p, q)
 
 module _ {text table : List ℕ} {base : ℕ} {Means : ℕ → Term → Type 0} {goals openGoals : List Goal} where
   -- Whatever keeps the buckets of goals and the goals' words keeps the goals.
   pub goals-kept : (table′ : List ℕ) → Goals text table base Means goals openGoals
       → length table′ ≡ length table
       → Same table table′ 0 goalBuckets
-      → Same table table′ base (base + 4 * length goals)
+      → Same table table′ base (base + entryWords * length goals)
       → Goals text table′ base Means goals openGoals
   goals-kept table′ g l h k =
       let b = g .below in
@@ -188,17 +194,17 @@ module _ {text table : List ℕ} {base : ℕ} {Means : ℕ → Term → Type 0} 
 
   -- One goal more.
   pub goals-add : (s t w v : ℕ) (j : Term) → Goals text table base Means goals openGoals
-      → base + 4 * length goals + 4 ≤ length table
+      → base + entryWords * length goals + entryWords ≤ length table
       → s < 4294967296
       → t < 4294967296
       → v ≡ w + 1
       → Means w j
       → someOf (isGoal (part s t text)) goals ≡ false
-      → Goals text (entered 0 goalBuckets (base + 4 * length goals) text s t v table) base Means
+      → Goals text (entered 0 goalBuckets (base + entryWords * length goals) text s t v table) base Means
       (goals ++ (goal (part s t text) j ∷ [])) (openGoals ++ (goal (part s t text) j ∷ []))
   unfolding top isGoal entered
   goals-add s t w v j g room x y z m n =
-      let e : ℕ = base + 4 * length goals in
+      let e : ℕ = base + entryWords * length goals in
       let name : Name = part s t text in
       let new : List Goal = goal name j ∷ [] in
       let f = g .names .buckets-first in
@@ -206,7 +212,7 @@ module _ {text table : List ℕ} {base : ℕ} {Means : ℕ → Term → Type 0} 
       let c = length-entered table 0 goalBuckets e text s t v in
       record {
         entries = entry e name ∷ g .entries;
-        names = kept-put (e + 3) v (add-law e s t (g .names) (g .below) (omega arith) x y) (omega arith);
+        names = kept-put (e + valueOffset) v (add-law e s t (g .names) (g .below) (omega arith) x y) (omega arith);
         below = omega arith;
         inside = omega arith;
         stands = declared refl (λ key. refl) (sits-last base e goals (goal name j) refl) n
@@ -227,7 +233,8 @@ stands-means {M} {e} (declared {a} {e = d} q n k f s) (List·Memᴰ·head m) = l
 stands-means (declared q n k f s) (List·Memᴰ·tail m) = stands-means s m
 
 -- Entries are four words apart.
-sits-apart : {A : Type 0} {b d e : ℕ} {things : List A} {a c : A} → Sits b things d a → Sits b things e c → d ≤ e + 3 → e + 3 < d + 3 → ⊥
+sits-apart : {A : Type 0} {b d e : ℕ} {things : List A} {a c : A} → Sits b things d a → Sits b things e c → d ≤ e + valueOffset
+    → e + valueOffset < d + valueOffset → ⊥
 sits-apart (here h) (here k) l r = omega arith
 sits-apart (here h) (there k) l r = let (x, y) = sits-bounds k in omega arith
 sits-apart (there h) (here k) l r = let (x, y) = sits-bounds h in omega arith
@@ -253,12 +260,12 @@ module _ {text table : List ℕ} {base : ℕ} {Means : ℕ → Term → Type 0} 
   open-by key e (goal name j) h s =
       let k : key ≡ name = named-decides .equal key name h in
       let s′ : Sits base goals e (goal key j) = rw k s in
-      case (eqb (getD table (e + 3) 0) 0)
+      case (eqb (getD table (e + valueOffset) 0) 0)
       (λ z. rw (z, openAt, closed-is-none (g .values) s′ (eqb-true _ _ z)) nothing-open)
       (λ z.
-      let n = eqb-false (getD table (e + 3) 0) 0 z in
-      let v : getD table (e + 3) 0 ≡ (getD table (e + 3) 0 - 1) + 1 = omega arith in
-      let (p, m) = open-is-some (getD table (e + 3) 0 - 1) (g .values) s′ v in
+      let n = eqb-false (getD table (e + valueOffset) 0) 0 z in
+      let v : getD table (e + valueOffset) 0 ≡ (getD table (e + valueOffset) 0 - 1) + 1 = omega arith in
+      let (p, m) = open-is-some (getD table (e + valueOffset) 0 - 1) (g .values) s′ v in
       rw (z, openAt, p) (one-open (record { judgment = j; is-goal = refl; sits = s′; value = v; means = m })))
 
   -- The search for a goal still open is the definition's.
@@ -271,7 +278,7 @@ module _ {text table : List ℕ} {base : ℕ} {Means : ℕ → Term → Type 0} 
 
   -- Closing an open goal.
   pub goals-close : (key : Name) (e w : ℕ) (a : Goal) → OpenAt table base Means goals key e w a
-      → Goals text (set table (e + 3) 0) base Means goals (without key openGoals) × (length openGoals ≡ length (without key openGoals) + 1)
+      → Goals text (set table (e + valueOffset) 0) base Means goals (without key openGoals) × (length openGoals ≡ length (without key openGoals) + 1)
   goals-close key e w a o =
       let s : Sits base goals e (goal key (o .judgment)) = rw (o .is-goal) at (o .sits) in
       let (low, high) = sits-bounds s in
@@ -280,14 +287,14 @@ module _ {text table : List ℕ} {base : ℕ} {Means : ℕ → Term → Type 0} 
       let (p, q) = values-close w (g .values) s (o .value) (omega arith) in (
         record {
           entries = g .entries;
-          names = kept-set (e + 3) 0 (g .names) (not-owned s);
+          names = kept-set (e + valueOffset) 0 (g .names) (not-owned s);
           below = g .below;
-          inside = rw (length-set table (e + 3) 0) (g .inside);
+          inside = rw (length-set table (e + valueOffset) 0) (g .inside);
           stands = g .stands;
           values = p;
         },
         q,
       ) where
-        not-owned : {j : Term} → Sits base goals e (goal key j) → Owns 0 goalBuckets (g .entries) (e + 3) → ⊥
+        not-owned : {j : Term} → Sits base goals e (goal key j) → Owns 0 goalBuckets (g .entries) (e + valueOffset) → ⊥
         not-owned s (bucket-word l h) = let (low, high) = sits-bounds s in let f = g .names .buckets-first in omega arith
         not-owned s (entry-word m l h) = let (b, t) = stands-means (g .stands) m in sits-apart t s l h

@@ -18,8 +18,8 @@ use Rattle.names.specs.Tables.{top, none-yet, present}
 use Rattle.names.proofs.Kept.{empty-table}
 use Rattle.words.proofs.Writing.{length-cleared, getD-cleared}
 use Rattle.words.specs.Sums.{sum32}
-use Rattle.tables.specs.Words.{goalBuckets, noneYet, entered, goalFound, goalOpen, goalAdded, goalCounted, goalClosed, goalDone, defFound}
-use Rattle.tables.specs.Words.{defAdded, defCounted, stepAdded, stepCounted, stepWord}
+use Rattle.tables.specs.Words.{goalBuckets, entryWords, valueOffset, stepWords, noneYet, entered, goalFound, goalOpen, goalAdded}
+use Rattle.tables.specs.Words.{goalCounted, goalClosed, goalDone, defFound, defAdded, defCounted, stepAdded, stepCounted, stepWord}
 use Rattle.tables.specs.declared.Tally.{Tally}
 use Rattle.tables.specs.Representation.{GoalsAt, no-goal, still-open, is-closed, StepAt, Tables, OpenAt, OpenAgree, StepAgree}
 use Rattle.words.proofs.Sums.{sum-small}
@@ -98,7 +98,7 @@ module _ {goalsText certificate table : List ℕ} {buckets : ℕ} {Means : ℕ �
 
   -- One abbreviation more.
   pub add-def : (s t w : ℕ) (u : Term)
-      → tally .top + 4 + 3 * length steps ≤ length table
+      → tally .top + entryWords + stepWords * length steps ≤ length table
       → s < 4294967296
       → t < 4294967296
       → Means w u
@@ -113,18 +113,19 @@ module _ {goalsText certificate table : List ℕ} {buckets : ℕ} {Means : ℕ �
       let k = h .small in
       let p = h .def-part .names .some-bucket in
       let l = length-entered table goalBuckets buckets e certificate s t w in
-      let z = sum-small e 4 (omega arith) in
+      let z = sum-small e entryWords (omega arith) in
       let o = one-more defs (def (part s t certificate) u) in
       record {
         goal-part =
             goals-kept (entered goalBuckets buckets e certificate s t w table) (h .goal-part) l
             (entered-below table goalBuckets buckets e certificate s t w p 0 goalBuckets (omega arith) (omega arith))
-            (entered-same table goalBuckets buckets e certificate s t w p (goalBuckets + buckets) (goalBuckets + buckets + 4 * length goals)
+            (entered-same table goalBuckets buckets e certificate s t w p (goalBuckets + buckets) (goalBuckets + buckets + entryWords * length goals)
             (omega arith) (omega arith));
         def-part = rw q (defs-add s t w u (h .def-part) (omega arith) x y m n);
         step-part =
             steps-kept (entered goalBuckets buckets e certificate s t w table) (h .step-part) l
-            (entered-above table goalBuckets buckets e certificate s t w p (length table - 3 * length steps) (length table) (omega arith) (omega arith));
+            (entered-above table goalBuckets buckets e certificate s t w p (length table - stepWords * length steps) (length table) (omega arith)
+            (omega arith));
         small = omega arith;
         room = omega arith;
         top-is = omega arith;
@@ -135,7 +136,7 @@ module _ {goalsText certificate table : List ℕ} {buckets : ℕ} {Means : ℕ �
 
   -- One step more.
   pub add-step : (j r place : ℕ) (s : Step)
-      → tally .top + 3 * length steps + 3 ≤ length table
+      → tally .top + stepWords * length steps + stepWords ≤ length table
       → place < 4294967296
       → Recorded j r place s
       → Tables goalsText certificate (stepAdded j r place tally table) buckets Means Recorded (stepCounted tally)
@@ -152,11 +153,12 @@ module _ {goalsText certificate table : List ℕ} {buckets : ℕ} {Means : ℕ �
         goal-part =
             goals-kept (stepAdded j r place tally table) (h .goal-part) l
             (step-added-below table j r place tally 0 goalBuckets (omega arith))
-            (step-added-below table j r place tally (goalBuckets + buckets) (goalBuckets + buckets + 4 * length goals) (omega arith));
+            (step-added-below table j r place tally (goalBuckets + buckets) (goalBuckets + buckets + entryWords * length goals) (omega arith));
         def-part =
             defs-kept (stepAdded j r place tally table) (h .def-part) l
             (step-added-below table j r place tally goalBuckets (goalBuckets + buckets) (omega arith))
-            (step-added-below table j r place tally (goalBuckets + buckets + 4 * length goals) (goalBuckets + buckets + 4 * length goals + 4 * length defs)
+            (step-added-below table j r place tally (goalBuckets + buckets + entryWords * length goals)
+            (goalBuckets + buckets + entryWords * length goals + entryWords * length defs)
             (omega arith));
         step-part = steps-add j r place s tally (h .step-part) c (omega arith) x m;
         small = omega arith;
@@ -175,19 +177,20 @@ module _ {goalsText certificate table : List ℕ} {buckets : ℕ} {Means : ℕ �
       let q = h .top-is in
       let k = h .room in
       let (low, high) = sits-bounds (a .sits) in
-      let l = length-set table (e + 3) 0 in
+      let l = length-set table (e + valueOffset) 0 in
       let c = h .left-is in
       let (p, o) = goals-close (h .goal-part) key e w g a in
       record {
         goal-part = p;
         def-part =
-            defs-kept (set table (e + 3) 0) (h .def-part) l
-            (set-same table (e + 3) 0 goalBuckets (goalBuckets + buckets) (λ x y. omega arith))
-            (set-same table (e + 3) 0 (goalBuckets + buckets + 4 * length goals) (goalBuckets + buckets + 4 * length goals + 4 * length defs)
+            defs-kept (set table (e + valueOffset) 0) (h .def-part) l
+            (set-same table (e + valueOffset) 0 goalBuckets (goalBuckets + buckets) (λ x y. omega arith))
+            (set-same table (e + valueOffset) 0 (goalBuckets + buckets + entryWords * length goals)
+            (goalBuckets + buckets + entryWords * length goals + entryWords * length defs)
             (λ x y. omega arith));
         step-part =
-            steps-kept (set table (e + 3) 0) (h .step-part) l
-            (set-same table (e + 3) 0 (length table - 3 * length steps) (length table) (λ x y. omega arith));
+            steps-kept (set table (e + valueOffset) 0) (h .step-part) l
+            (set-same table (e + valueOffset) 0 (length table - stepWords * length steps) (length table) (λ x y. omega arith));
         small = let i = h .small in omega arith;
         room = omega arith;
         top-is = q;
@@ -231,7 +234,7 @@ module _ {goalsText certificate table : List ℕ} {buckets : ℕ} {Means : ℕ �
 pub add-goal : {goalsText certificate table : List ℕ} {buckets : ℕ} {Means : ℕ → Term → Type 0} {Recorded : ℕ → ℕ → ℕ → Step → Type 0} {tally : Tally}
     {goals openGoals : List Goal} {steps : List Step} (s t w : ℕ) (j : Term)
     → Tables goalsText certificate table buckets Means Recorded tally goals openGoals [] steps
-    → tally .top + 4 + 3 * length steps ≤ length table
+    → tally .top + entryWords + stepWords * length steps ≤ length table
     → s < 4294967296
     → t < 4294967296
     → w + 1 < 4294967296
@@ -244,14 +247,14 @@ add-goal {goalsText} {certificate} {table} {buckets} {tally} {goals} {openGoals}
     let e : ℕ = tally .top in
     let v : ℕ = sum32 w 1 in
     let g : Goal = goal (part s t goalsText) j in
-    let q : e ≡ goalBuckets + buckets + 4 * length goals = let u = h .top-is in omega arith in
+    let q : e ≡ goalBuckets + buckets + entryWords * length goals = let u = h .top-is in omega arith in
     let i = h .step-part .inside in
     let k = h .small in
     let c = h .goals-is in
     let d = h .left-is in
     let shorter = open-few (h .goal-part .values) in
     let l = length-entered table 0 goalBuckets e goalsText s t v in
-    let u₁ = sum-small e 4 (omega arith) in
+    let u₁ = sum-small e entryWords (omega arith) in
     let u₂ = sum-small (tally .goals) 1 (omega arith) in
     let u₃ = sum-small (tally .left) 1 (omega arith) in
     let o₁ = one-more goals g in
@@ -259,15 +262,16 @@ add-goal {goalsText} {certificate} {table} {buckets} {tally} {goals} {openGoals}
     record {
       goal-part = rw q (goals-add s t w v j (h .goal-part) (omega arith) x y (sum-small w 1 z) m n);
       def-part =
-          defs-raised (goalBuckets + buckets + 4 * length (goals ++ (g ∷ [])))
+          defs-raised (goalBuckets + buckets + entryWords * length (goals ++ (g ∷ [])))
           (defs-kept (entered 0 goalBuckets e goalsText s t v table) (h .def-part) l
           (entered-same table 0 goalBuckets e goalsText s t v (omega arith) goalBuckets (goalBuckets + buckets) (omega arith) (omega arith))
-          (entered-same table 0 goalBuckets e goalsText s t v (omega arith) (goalBuckets + buckets + 4 * length goals)
-          (goalBuckets + buckets + 4 * length goals + 0) (omega arith) (omega arith)))
+          (entered-same table 0 goalBuckets e goalsText s t v (omega arith) (goalBuckets + buckets + entryWords * length goals)
+          (goalBuckets + buckets + entryWords * length goals + 0) (omega arith) (omega arith)))
           (omega arith);
       step-part =
           steps-kept (entered 0 goalBuckets e goalsText s t v table) (h .step-part) l
-          (entered-above table 0 goalBuckets e goalsText s t v (omega arith) (length table - 3 * length steps) (length table) (omega arith) (omega arith));
+          (entered-above table 0 goalBuckets e goalsText s t v (omega arith) (length table - stepWords * length steps) (length table) (omega arith)
+          (omega arith));
       small = omega arith;
       room = omega arith;
       top-is = omega arith;

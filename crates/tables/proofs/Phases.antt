@@ -21,7 +21,8 @@ use Rattle.capacity.proofs.Forms.{goal-keeps, certificate-keeps}
 use Rattle.capacity.proofs.Rooms.{goals-start, certificate-start}
 use Rattle.tables.specs.declared.Tally.{Tally}
 use Rattle.words.specs.Sums.{sum32}
-use Rattle.tables.specs.Words.{goalBuckets, noneYet, goalAdded, goalCounted, goalClosed, goalDone, defAdded, defCounted, stepAdded, stepCounted}
+use Rattle.tables.specs.Words.{goalBuckets, valueOffset, noneYet, goalAdded, goalCounted, goalClosed, goalDone, defAdded, defCounted}
+use Rattle.tables.specs.Words.{stepAdded, stepCounted}
 use Rattle.tables.specs.Representation.{OpenAt}
 use Rattle.tables.specs.Phases.{Gathering, Between}
 use Rattle.facts.proofs.Lists.{one-more}
@@ -150,7 +151,7 @@ module _ (goalsText certificate : List ℕ) (goalsBytes certificateBytes buckets
     next-result key e w a f o =
         record {
           tables = close-goal (g .tables) key e w a o;
-          roomy = same-room _ (length-set table (e + 3) 0) (g .roomy);
+          roomy = same-room _ (length-set table (e + valueOffset) 0) (g .roomy);
           few = g .few;
           budget = certificate-keeps limits th now item rest store f (g .budget);
         }

@@ -13,7 +13,7 @@ use Rattle.capacity.specs.Budgets.{GoalBudget, Budget, Roomy}
 use Rattle.capacity.proofs.Rooms.{goals-fit, tables-fit}
 use Rattle.tables.specs.declared.Tally.{Tally}
 use Rattle.tables.specs.Representation.{Tables}
-use Rattle.tables.specs.Words.{goalBuckets}
+use Rattle.tables.specs.Words.{goalBuckets, entryWords, stepWords}
 
 module _ {goalsText certificate table : List ℕ} {buckets : ℕ} {Means : ℕ → Term → Type 0} {Recorded : ℕ → ℕ → ℕ → Step → Type 0} {tally : Tally}
     {goals openGoals : List Goal} {goalsBytes certificateBytes : ℕ} (roomy : Roomy (goalBuckets + buckets) goalsBytes certificateBytes (length table)) where
@@ -22,15 +22,17 @@ module _ {goalsText certificate table : List ℕ} {buckets : ℕ} {Means : ℕ �
       → Tables goalsText certificate table buckets Means Recorded tally goals openGoals [] []
       → GoalBudget goalsBytes more left
       → length more ≡ length goals + 1
-      → tally .top + 4 + 3 * 0 ≤ length table
+      → tally .top + entryWords + stepWords * 0 ≤ length table
   goal-room h b n = let f = goals-fit roomy b in let t = h .top-is in omega arith
 
   -- While the certificate is read.
   module _ {defs : List Def} {steps : List Step} {next : Progress} {left : Items}
       (h : Tables goalsText certificate table buckets Means Recorded tally goals openGoals defs steps)
       (few : 11 * length goals ≤ goalsBytes) (b : Budget certificateBytes next left) where
-    pub def-room : length (next .defs) ≡ length defs + 1 → length (next .steps) ≡ length steps → tally .top + 4 + 3 * length steps ≤ length table
+    pub def-room : length (next .defs) ≡ length defs + 1 → length (next .steps) ≡ length steps
+        → tally .top + entryWords + stepWords * length steps ≤ length table
     def-room d s = let f = tables-fit (length goals) roomy few b in let t = h .top-is in omega arith
 
-    pub step-room : length (next .defs) ≡ length defs → length (next .steps) ≡ length steps + 1 → tally .top + 3 * length steps + 3 ≤ length table
+    pub step-room : length (next .defs) ≡ length defs → length (next .steps) ≡ length steps + 1
+        → tally .top + stepWords * length steps + stepWords ≤ length table
     step-room d s = let f = tables-fit (length goals) roomy few b in let t = h .top-is in omega arith

@@ -13,7 +13,7 @@ use Rattle.horn.specs.Matching.{Step}
 use Rattle.horn.proofs.Equality.{case}
 use Rattle.horn.proofs.Inversion.{none-some, some-equal}
 use Rattle.names.proofs.Holds.{by-number}
-use Rattle.tables.specs.Words.{stepAt, stepAdded, stepWord}
+use Rattle.tables.specs.Words.{stepWords, stepAt, stepAdded, stepWord}
 use Rattle.tables.specs.declared.Tally.{Tally}
 use Rattle.tables.specs.Representation.{StepAt, Steps, StepAgree, no-step, one-step}
 use Rattle.facts.proofs.Lists.{one-more, last-is, before-last, beyond}
@@ -41,13 +41,13 @@ module _ (table : List ℕ) (a j r p : ℕ) where
   three-length : length three ≡ length table
   three-length = simp length-set
 
-  three-other : (i : ℕ) → (a ≤ i → i < a + 3 → ⊥) → getD three i 0 ≡ getD table i 0
+  three-other : (i : ℕ) → (a ≤ i → i < a + stepWords → ⊥) → getD three i 0 ≡ getD table i 0
   three-other i n =
       getD-set-other two (a + 2) i p 0 (λ q. n (omega arith) (omega arith))
       ∙ getD-set-other one (a + 1) i r 0 (λ q. n (omega arith) (omega arith))
       ∙ getD-set-other table a i j 0 (λ q. n (omega arith) (omega arith))
 
-  module _ (fits : a + 3 ≤ length table) where
+  module _ (fits : a + stepWords ≤ length table) where
     three-first : getD three a 0 ≡ j
     three-first =
         getD-set-other two (a + 2) a p 0 (λ q. omega arith)
@@ -68,25 +68,25 @@ module _ (table : List ℕ) (j r place : ℕ) (tally : Tally) where
   unfolding stepAdded
   step-added-length = three-length table (stepAt (length table) (tally .steps)) j r (place % 4294967296)
 
-  pub step-added-below : (low high : ℕ) → high + 3 * (tally .steps + 1) ≤ length table → Same table (stepAdded j r place tally table) low high
+  pub step-added-below : (low high : ℕ) → high + stepWords * (tally .steps + 1) ≤ length table → Same table (stepAdded j r place tally table) low high
   unfolding stepAdded stepAt
   step-added-below low high h =
-      record { words = λ i l k. three-other table (length table - 3 * (tally .steps + 1)) j r (place % 4294967296) i (λ x y. omega arith) }
+      record { words = λ i l k. three-other table (length table - stepWords * (tally .steps + 1)) j r (place % 4294967296) i (λ x y. omega arith) }
 
-  step-added-above : (low high : ℕ) → 3 * (tally .steps + 1) ≤ length table → length table ≤ low + 3 * tally .steps
+  step-added-above : (low high : ℕ) → stepWords * (tally .steps + 1) ≤ length table → length table ≤ low + stepWords * tally .steps
       → Same table (stepAdded j r place tally table) low high
   unfolding stepAdded stepAt
   step-added-above low high f h =
-      record { words = λ i l k. three-other table (length table - 3 * (tally .steps + 1)) j r (place % 4294967296) i (λ x y. omega arith) }
+      record { words = λ i l k. three-other table (length table - stepWords * (tally .steps + 1)) j r (place % 4294967296) i (λ x y. omega arith) }
 
-  step-newest : 3 * (tally .steps + 1) ≤ length table → place < 4294967296
+  step-newest : stepWords * (tally .steps + 1) ≤ length table → place < 4294967296
       → (getD (stepAdded j r place tally table) (stepAt (length table) (tally .steps)) 0 ≡ j)
       × (getD (stepAdded j r place tally table) (stepAt (length table) (tally .steps) + 1) 0 ≡ r)
       × (getD (stepAdded j r place tally table) (stepAt (length table) (tally .steps) + 2) 0 ≡ place)
   unfolding stepAdded stepAt
   step-newest h k =
-      let a : ℕ = length table - 3 * (tally .steps + 1) in
-      let f : a + 3 ≤ length table = omega arith in (
+      let a : ℕ = length table - stepWords * (tally .steps + 1) in
+      let f : a + stepWords ≤ length table = omega arith in (
         three-first table a j r (place % 4294967296) f,
         three-second table a j r (place % 4294967296) f,
         three-third table a j r (place % 4294967296) f
@@ -97,7 +97,7 @@ module _ {table : List ℕ} {Recorded : ℕ → ℕ → ℕ → Step → Type 0}
   -- Whatever keeps the words of the steps keeps them.
   pub steps-kept : (table′ : List ℕ) → Steps table Recorded steps
       → length table′ ≡ length table
-      → Same table table′ (length table - 3 * length steps) (length table)
+      → Same table table′ (length table - stepWords * length steps) (length table)
       → Steps table′ Recorded steps
   unfolding StepAt stepAt
   steps-kept table′ st l k =
@@ -108,10 +108,10 @@ module _ {table : List ℕ} {Recorded : ℕ → ℕ → ℕ → Step → Type 0}
             let b = below-count steps n h in
             rw (
               l,
-              k .words (length table - 3 * (n + 1)) (omega arith) (omega arith),
-              k .words (length table - 3 * (n + 1) + 1) (omega arith)
+              k .words (length table - stepWords * (n + 1)) (omega arith) (omega arith),
+              k .words (length table - stepWords * (n + 1) + 1) (omega arith)
                   (omega arith),
-              k .words (length table - 3 * (n + 1) + 2) (omega arith) (omega arith),
+              k .words (length table - stepWords * (n + 1) + 2) (omega arith) (omega arith),
             )
             (st .words n s h);
       }
@@ -129,7 +129,7 @@ module _ {table : List ℕ} {Recorded : ℕ → ℕ → ℕ → Step → Type 0}
 
   pub steps-add : (j r place : ℕ) (s : Step) (tally : Tally) → Steps table Recorded steps
       → tally .steps ≡ length steps
-      → 3 * length steps + 3 ≤ length table
+      → stepWords * length steps + stepWords ≤ length table
       → place < 4294967296
       → Recorded j r place s
       → Steps (stepAdded j r place tally table) Recorded (steps ++ (s ∷ []))
@@ -139,7 +139,7 @@ module _ {table : List ℕ} {Recorded : ℕ → ℕ → ℕ → Step → Type 0}
       let o = one-more steps s in
       let l = step-added-length table j r place tally in
       let older = steps-kept (stepAdded j r place tally table) st l
-      (step-added-above table j r place tally (length table - 3 * length steps) (length table) (omega arith) (omega arith)) in
+      (step-added-above table j r place tally (length table - stepWords * length steps) (length table) (omega arith) (omega arith)) in
       let (x, y, z) = step-newest table j r place tally (omega arith) small in
       record {
         inside = omega arith;

@@ -57,35 +57,39 @@ plain-pattern th name s vs k = chose-false _ _ k
 
 -- The words of a variable that is introduced.
 module _ (vars : List ℕ) (v s t a : ℕ) where
+  -- Where they begin.
+  abbrev place : ℕ
+  place = places.variableWords * v
+
   pub length-with : length (withVariable vars v s t a) ≡ length vars
   unfolding withVariable
   length-with = simp length-set
 
-  pub with-below : (i : ℕ) → i < 3 * v → getD (withVariable vars v s t a) i 0 ≡ getD vars i 0
+  pub with-below : (i : ℕ) → i < place → getD (withVariable vars v s t a) i 0 ≡ getD vars i 0
   unfolding withVariable
   with-below i h =
-      getD-set-other (set (set vars (3 * v) (s % 4294967296)) (3 * v + 1) (t % 4294967296)) (3 * v + 2) i a 0 (λ k. omega arith)
-      ∙ getD-set-other (set vars (3 * v) (s % 4294967296)) (3 * v + 1) i (t % 4294967296) 0 (λ k. omega arith)
-      ∙ getD-set-other vars (3 * v) i (s % 4294967296) 0 (λ k. omega arith)
+      getD-set-other (set (set vars place (s % 4294967296)) (place + 1) (t % 4294967296)) (place + 2) i a 0 (λ k. omega arith)
+      ∙ getD-set-other (set vars place (s % 4294967296)) (place + 1) i (t % 4294967296) 0 (λ k. omega arith)
+      ∙ getD-set-other vars place i (s % 4294967296) 0 (λ k. omega arith)
 
-  module _ (fits : 3 * v + 3 ≤ length vars) where
-    pub with-start : getD (withVariable vars v s t a) (3 * v) 0 ≡ s % 4294967296
+  module _ (fits : place + places.variableWords ≤ length vars) where
+    pub with-start : getD (withVariable vars v s t a) place 0 ≡ s % 4294967296
     unfolding withVariable
     with-start =
-        getD-set-other (set (set vars (3 * v) (s % 4294967296)) (3 * v + 1) (t % 4294967296)) (3 * v + 2) (3 * v) a 0 (λ k. omega arith)
-        ∙ getD-set-other (set vars (3 * v) (s % 4294967296)) (3 * v + 1) (3 * v) (t % 4294967296) 0 (λ k. omega arith)
-        ∙ getD-set-same vars (3 * v) (s % 4294967296) 0 (omega arith)
+        getD-set-other (set (set vars place (s % 4294967296)) (place + 1) (t % 4294967296)) (place + 2) place a 0 (λ k. omega arith)
+        ∙ getD-set-other (set vars place (s % 4294967296)) (place + 1) place (t % 4294967296) 0 (λ k. omega arith)
+        ∙ getD-set-same vars place (s % 4294967296) 0 (omega arith)
 
-    pub with-end : getD (withVariable vars v s t a) (3 * v + 1) 0 ≡ t % 4294967296
+    pub with-end : getD (withVariable vars v s t a) (place + 1) 0 ≡ t % 4294967296
     unfolding withVariable
     with-end =
-        getD-set-other (set (set vars (3 * v) (s % 4294967296)) (3 * v + 1) (t % 4294967296)) (3 * v + 2) (3 * v + 1) a 0 (λ k. omega arith)
-        ∙ getD-set-same (set vars (3 * v) (s % 4294967296)) (3 * v + 1) (t % 4294967296) 0 (simp length-set (omega arith))
+        getD-set-other (set (set vars place (s % 4294967296)) (place + 1) (t % 4294967296)) (place + 2) (place + 1) a 0 (λ k. omega arith)
+        ∙ getD-set-same (set vars place (s % 4294967296)) (place + 1) (t % 4294967296) 0 (simp length-set (omega arith))
 
-    pub with-sort : getD (withVariable vars v s t a) (3 * v + 2) 0 ≡ a
+    pub with-sort : getD (withVariable vars v s t a) (place + 2) 0 ≡ a
     unfolding withVariable
     with-sort =
-        getD-set-same (set (set vars (3 * v) (s % 4294967296)) (3 * v + 1) (t % 4294967296)) (3 * v + 2) a 0 (simp length-set (omega arith))
+        getD-set-same (set (set vars place (s % 4294967296)) (place + 1) (t % 4294967296)) (place + 2) a 0 (simp length-set (omega arith))
 
 module _ (text counts : List ℕ) (Before : Reader → Stream Token → Type 0) (th : Theory) (es : Entries) (base spare : ℕ) where
   abbrev pub Was : ℕ → Stream Token → List ℕ → List Variable → Walk → List ℕ → List ℕ → Type 0
@@ -137,7 +141,7 @@ module _ (text counts : List ℕ) (Before : Reader → Stream Token → Type 0) 
   with-variable {vs} {w} {vars} name sortName s t a r p hs ht m =
       let c = r .room in
       let l = r .long in
-      let f : 3 * w .variables + 3 ≤ length vars = omega (arith, r .many) in
+      let f : places.variableWords * w .variables + places.variableWords ≤ length vars = omega (arith, r .many) in
       record {
         walks = record { before = r .walks .before; counted = r .walks .counted; few = r .walks .few };
         holds = r .holds;
@@ -146,8 +150,9 @@ module _ (text counts : List ℕ) (Before : Reader → Stream Token → Type 0) 
         many = sum-small (w .variables) 1 (omega (arith, r .many)) ∙ ap (λ (n : ℕ). n + 1) (r .many) ∙ sym (length-append vs (variable name sortName ∷ []));
         long = length-with vars (w .variables) s t a ∙ l;
         variables =
-            variables-more name sortName (3 * w .variables)
-            (variables-kept grown-none (3 * w .variables) (λ i x y. with-below vars (w .variables) s t a i y) (omega (arith, r .many)) (r .variables))
+            variables-more name sortName (places.variableWords * w .variables)
+            (variables-kept grown-none (places.variableWords * w .variables) (λ i x y. with-below vars (w .variables) s t a i y) (omega (arith, r .many))
+            (r .variables))
             (omega (arith, r .many))
             (rw (with-start vars (w .variables) s t a f, with-end vars (w .variables) s t a f, mod-eq-of-lt hs, mod-eq-of-lt ht) p)
             (rw (with-sort vars (w .variables) s t a f) m);
@@ -194,9 +199,9 @@ module _ (text counts : List ℕ) (Before : Reader → Stream Token → Type 0) 
   variable-law {vs} {w} {vars} {heap} name sortName s t a r p hs ht m (both-some {e = v} (placed {k} {s = u} e _ x y)) =
       let c = r .room in
       let q : v ≡ k = omega arith in
-      let z : 0 + 3 * v + 2 ≡ 3 * v + 2 = omega arith in
+      let z : 0 + places.variableWords * v + 2 ≡ places.variableWords * v + 2 = omega arith in
       let l = nth-below vs x in
-      test (eqb (getD vars (3 * v + 2) 0) a) 14 twoSorts _ _
+      test (eqb (getD vars (places.variableWords * v + 2) 0) a) 14 twoSorts _ _
       (same-sort (r .holds) (rw z at y) m ∙ named-turned u sortName) refl
       (λ _. leave (again name v (less-credit r 3 (omega arith)) (rw q x) (omega arith)))
 

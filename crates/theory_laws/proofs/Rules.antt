@@ -184,8 +184,8 @@ module _ (text counted : List ℕ) (Before : Reader → Stream Token → Type 0)
         let above = r .above in
         let low = r .base-low in
         let v = r .many in
-        let k : (q .top + 3 * q .variables) % 4294967296 ≡ q .top + 3 * q .variables = mod-eq-of-lt (omega arith) in
-        let q′ : Walk = withTop q ((q .top + 3 * q .variables) % 4294967296) in
+        let k : (q .top + places.variableWords * q .variables) % 4294967296 ≡ q .top + places.variableWords * q .variables = mod-eq-of-lt (omega arith) in
+        let q′ : Walk = withTop q ((q .top + places.variableWords * q .variables) % 4294967296) in
         let m : ClosingMet text counted Before reads ts ks q′ =
         closing-met text counted Before reads record { before = r .walks .before; counted = r .walks .counted; few = r .walks .few } in
         aside {Q = λ q₁ heap₁ th′. Stood text counted Before reads short ts ks q₁ heap₁ th′} (areas .0)
@@ -196,7 +196,8 @@ module _ (text counted : List ℕ) (Before : Reader → Stream Token → Type 0)
         rw (m .met)
         (leave {a = readOn q′ (m .next)} {s = copied (ruleDescribed base n (q .variables) mid (q .top)
         (added (areas .1) places.rules places.buckets base text s t)) (q .top)
-        (areas .0) 0 (3 * q .variables)} {b = record { sorts = th .sorts; symbols = th .symbols; rules = th .rules ++ (rule name (c .1) (p .0) (c .0) ∷ []) }}
+        (areas .0) 0 (places.variableWords * q .variables)}
+        {b = record { sorts = th .sorts; symbols = th .symbols; rules = th .rules ++ (rule name (c .1) (p .0) (c .0) ∷ []) }}
         record {
           entries = withRule es (entry base name);
           ready = record {

@@ -88,12 +88,17 @@ rule-grown es e = record { sorts = λ x m. m; constructors = λ x m. m; predicat
 
 module _ (text heap middle vars : List ℕ) (es : Entries) (th : Theory) (e top s t n v : ℕ) (name : Name)
     (vs : List Variable) (premises : List Pattern) (conclusion : Pattern) (mid : ℕ)
-    (h : Holds text heap es e th) (keeps : Keeps e heap middle) (low : places.entries ≤ e) (rising : e + places.patterns ≤ top) (fits : top + 3 * v ≤ 16384)
+    (h : Holds text heap es e th) (keeps : Keeps e heap middle) (low : places.entries ≤ e) (rising : e + places.patterns ≤ top)
+    (fits : top + places.variableWords * v ≤ 16384)
     (p : part s t text ≡ name) (small-start : s < 4294967296) (small-end : t < 4294967296)
     (many-premises : n ≡ length premises) (many-variables : v ≡ length vs)
     (at-premises : FlatList middle es e (e + places.patterns) top vs (e + places.patterns) premises mid)
     (at-conclusion : Flat middle es e (e + places.patterns) top vs mid conclusion top)
     (at-variables : VariablesAt text vars es 0 vs) where
+  -- How many words the variables take.
+  abbrev variables-size : ℕ
+  variables-size = places.variableWords * v
+
   abbrev named-words : List ℕ
   named-words = added middle places.rules places.buckets e text s t
 
@@ -101,7 +106,7 @@ module _ (text heap middle vars : List ℕ) (es : Entries) (th : Theory) (e top 
   described-words = ruleDescribed e n v mid top named-words
 
   abbrev pub rule-words : List ℕ
-  rule-words = copied described-words top vars 0 (3 * v)
+  rule-words = copied described-words top vars 0 variables-size
 
   length-middle : length described-words ≡ 16384
   length-middle = length-rule named-words e n v mid top ∙ length-added middle places.rules places.buckets e text s t ∙ keeps .same-length ∙ h .long
@@ -109,13 +114,13 @@ module _ (text heap middle vars : List ℕ) (es : Entries) (th : Theory) (e top 
   -- Words between the entry's seven words and the variables, and words below the entry.
   pattern-words : (i : ℕ) → e + places.patterns ≤ i → i < top → getD rule-words i 0 ≡ getD middle i 0
   pattern-words i l u =
-      copied-before (3 * v) described-words top vars 0 i (omega arith)
+      copied-before variables-size described-words top vars 0 i (omega arith)
       ∙ rule-other named-words e n v mid top i (λ x y. omega arith)
       ∙ added-other middle places.rules places.buckets e text s t (omega arith) i (λ x y. omega arith) (λ x y. omega arith)
 
   older-words : (i : ℕ) → places.entries ≤ i → i < e → getD rule-words i 0 ≡ getD middle i 0
   older-words i l u =
-      copied-before (3 * v) described-words top vars 0 i (omega arith)
+      copied-before variables-size described-words top vars 0 i (omega arith)
       ∙ rule-other named-words e n v mid top i (λ x y. omega arith)
       ∙ added-other middle places.rules places.buckets e text s t (omega arith) i (λ x y. omega arith) (λ x y. omega arith)
 
@@ -124,9 +129,10 @@ module _ (text heap middle vars : List ℕ) (es : Entries) (th : Theory) (e top 
     middle = middle;
     keeps = keeps;
     same-length =
-        length-copied (3 * v) described-words top vars 0 ∙ length-rule named-words e n v mid top ∙ length-added middle places.rules places.buckets e text s t;
+        length-copied variables-size described-words top vars 0 ∙ length-rule named-words e n v mid top
+        ∙ length-added middle places.rules places.buckets e text s t;
     words = λ i u.
-        copied-before (3 * v) described-words top vars 0 i (omega arith)
+        copied-before variables-size described-words top vars 0 i (omega arith)
         ∙ rule-other named-words e n v mid top i (λ x y. omega arith);
     room = let l = h .long in omega arith;
     base-low = low;
@@ -138,7 +144,7 @@ module _ (text heap middle vars : List ℕ) (es : Entries) (th : Theory) (e top 
   rule-long-enough : e + places.variables < length named-words
   rule-long-enough = let l = h .long in let q = keeps .same-length in rw (length-added middle places.rules places.buckets e text s t) (omega arith)
 
-  new-rule : RuleAt text rule-words (withRule es (entry e name)) (top + 3 * v) e (rule name vs premises conclusion)
+  new-rule : RuleAt text rule-words (withRule es (entry e name)) (top + variables-size) e (rule name vs premises conclusion)
   new-rule =
       let g = rule-grown es (entry e name) in
       let l = length-middle in
@@ -146,17 +152,19 @@ module _ (text heap middle vars : List ℕ) (es : Entries) (th : Theory) (e top 
         low = low;
         called = List·Memᴰ·head refl;
         premise-count =
-            copied-before (3 * v) described-words top vars 0 (e + places.premiseCount) (omega arith) ∙ rule-first named-words e n v mid top rule-long-enough
-            ∙ many-premises;
+            copied-before variables-size described-words top vars 0 (e + places.premiseCount) (omega arith)
+            ∙ rule-first named-words e n v mid top rule-long-enough ∙ many-premises;
         variable-count =
-            copied-before (3 * v) described-words top vars 0 (e + places.variableCount) (omega arith) ∙ rule-second named-words e n v mid top rule-long-enough
-            ∙ many-variables;
+            copied-before variables-size described-words top vars 0 (e + places.variableCount) (omega arith)
+            ∙ rule-second named-words e n v mid top rule-long-enough ∙ many-variables;
         conclusion-place = mid;
         variables-place = top;
         to-conclusion =
-            copied-before (3 * v) described-words top vars 0 (e + places.conclusion) (omega arith) ∙ rule-third named-words e n v mid top rule-long-enough;
+            copied-before variables-size described-words top vars 0 (e + places.conclusion) (omega arith)
+            ∙ rule-third named-words e n v mid top rule-long-enough;
         to-variables =
-            copied-before (3 * v) described-words top vars 0 (e + places.variables) (omega arith) ∙ rule-fourth named-words e n v mid top rule-long-enough;
+            copied-before variables-size described-words top vars 0 (e + places.variables) (omega arith)
+            ∙ rule-fourth named-words e n v mid top rule-long-enough;
         at-premises = premises-kept g older-words (omega arith) pattern-words (omega arith) (λ i x y. y) at-premises;
         at-conclusion = flat-kept g older-words (omega arith) pattern-words (omega arith) (λ i x y. y) at-conclusion;
         at-variables =
@@ -164,31 +172,31 @@ module _ (text heap middle vars : List ℕ) (es : Entries) (th : Theory) (e top 
             (λ i i′ q x y.
             let z : i′ ≡ top + i = omega arith in
             let n : 0 + i ≡ i = omega arith in
-            rw z (rw n at (copied-there (3 * v) described-words top vars 0 i (omega arith) (omega arith))))
+            rw z (rw n at (copied-there variables-size described-words top vars 0 i (omega arith) (omega arith))))
             at-variables;
         rising = rising;
         high = omega arith;
       }
 
   pub rule-added : someOf (isRule name) (th .rules) ≡ false
-      → Holds text rule-words (withRule es (entry e name)) (top + 3 * v)
+      → Holds text rule-words (withRule es (entry e name)) (top + variables-size)
       record { sorts = th .sorts; symbols = th .symbols; rules = th .rules ++ (rule name vs premises conclusion ∷ []) }
   unfolding isRule
   rule-added new =
       let g = rule-grown es (entry e name) in
       let k = rule-adds in
       record {
-        long = length-copied (3 * v) described-words top vars 0 ∙ length-middle;
-        sorts = others k (top + 3 * v) (omega arith) (λ d x y. sort-kept g y) 0 (omega arith) (λ i x y z u. omega arith) (h .sorts);
+        long = length-copied variables-size described-words top vars 0 ∙ length-middle;
+        sorts = others k (top + variables-size) (omega arith) (λ d x y. sort-kept g y) places.sorts (omega arith) (λ i x y z u. omega arith) (h .sorts);
         constructors =
-            others k (top + 3 * v) (omega arith) (λ d c y. symbol-kept g (adds-kept k) (omega arith) y) places.constructors (omega arith)
+            others k (top + variables-size) (omega arith) (λ d c y. symbol-kept g (adds-kept k) (omega arith) y) places.constructors (omega arith)
             (λ i x y z u. omega arith)
             (h .constructors);
         predicates =
-            others k (top + 3 * v) (omega arith) (λ d c y. symbol-kept g (adds-kept k) (omega arith) y) places.predicates (omega arith)
+            others k (top + variables-size) (omega arith) (λ d c y. symbol-kept g (adds-kept k) (omega arith) y) places.predicates (omega arith)
             (λ i x y z u. omega arith)
             (h .predicates);
         rules =
-            newer k (top + 3 * v) (omega arith) (λ d c y. rule-kept g (adds-kept k) (omega arith) y) name (rule name vs premises conclusion) p (λ key. refl)
-            new-rule new (h .rules);
+            newer k (top + variables-size) (omega arith) (λ d c y. rule-kept g (adds-kept k) (omega arith) y) name (rule name vs premises conclusion) p
+            (λ key. refl) new-rule new (h .rules);
       }
