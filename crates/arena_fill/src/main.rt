@@ -6,6 +6,7 @@ const LIMIT: u32 = 8192;
 
 const PLACES: u32 = 4096;
 
+// One word everywhere in the area.
 fn fill(a: &mut [u32], v: u32) {
     let mut i: usize = 0;
     while i < 16384 {
@@ -26,12 +27,14 @@ fn prepare(a: &mut [u32], garbage: u32) {
     }
 }
 
+// A label and a number as a line.
 fn line(label: &[u8], n: u32) {
     io::write_all(1, label);
     io::print_decimal(1, n as u64);
     io::write_all(1, b"\n");
 }
 
+// An answer as a line.
 fn show(r: arena::Answer) {
     match r {
         arena::Answer::Found(k) => line(b"found ", k),
@@ -40,15 +43,18 @@ fn show(r: arena::Answer) {
     }
 }
 
+// A request at document 01's limits.
 fn ask(a: &mut [u32], key: &[u32]) -> arena::Answer {
     arena::intern(a, NODES, LIMIT, PLACES, key)
 }
 
+// A node of one word.
 fn ask_narrow(a: &mut [u32], w: u32) -> arena::Answer {
     let key = [w];
     ask(a, &key)
 }
 
+// A node of eight words, told apart by its second.
 fn ask_wide(a: &mut [u32], w: u32) -> arena::Answer {
     let key = [7, w, 7, 7, 7, 7, 7, 7];
     ask(a, &key)
@@ -65,6 +71,7 @@ fn each(a: &mut [u32], first: u32, step: u32, n: u32) {
     }
 }
 
+// How many answers of each kind there were, and the sum of the numbers given.
 struct Tally {
     found: u32,
     made: u32,
@@ -73,6 +80,7 @@ struct Tally {
 }
 
 impl Tally {
+    // No answer yet.
     fn new() -> Tally {
         Tally {
             found: 0,
@@ -82,6 +90,7 @@ impl Tally {
         }
     }
 
+    // One answer more.
     fn and(self, r: arena::Answer) -> Tally {
         let mut t = self;
         match r {
@@ -101,6 +110,7 @@ impl Tally {
     }
 }
 
+// A tally as four lines.
 fn report(t: Tally) {
     line(b"all found ", t.found);
     line(b"all made ", t.made);
@@ -108,6 +118,7 @@ fn report(t: Tally) {
     line(b"sum of numbers ", t.sum);
 }
 
+// A node of one word or of eight.
 fn ask_one(a: &mut [u32], w: u32, wide: bool) -> arena::Answer {
     if wide {
         return ask_wide(a, w);
@@ -137,6 +148,7 @@ fn totals(a: &[u32]) {
     line(b"behind ", words::at(a, 14338));
 }
 
+// What the store holds of a node.
 fn node(a: &[u32], k: u32) {
     line(b"size ", arena::node_size(a, k));
     line(b"head ", arena::node_head(a, NODES, PLACES, k));
@@ -159,6 +171,7 @@ fn share(a: &mut [u32]) {
     node(a, 19);
 }
 
+// Nodes of one word, up to the last node that the store may hold.
 fn to_nodes(a: &mut [u32]) {
     many(a, 1000000, 2027, false);
     totals(a);
@@ -175,6 +188,7 @@ fn when_full(a: &mut [u32]) {
     totals(a);
 }
 
+// Nodes of eight words, up to the last word that the store may hold.
 fn to_words(a: &mut [u32]) {
     each(a, 95473, 355, 8);
     many(a, 0, 1022, true);
@@ -185,6 +199,7 @@ fn to_words(a: &mut [u32]) {
     totals(a);
 }
 
+// A store full by its words still finds what it holds.
 fn past_words(a: &mut [u32]) {
     show(ask_narrow(a, 1));
     show(ask_wide(a, 1023));
@@ -194,6 +209,7 @@ fn past_words(a: &mut [u32]) {
     totals(a);
 }
 
+// First a store filled to its nodes, over garbage; then one filled to its words, over ones.
 fn run(a: &mut [u32]) {
     prepare(a, 3735928559);
     totals(a);

@@ -22,12 +22,14 @@ fn proof(label: &[u8], name: &[u8]) {
     show(label, b"bench/rulebook.txt", b"bench/goals.txt", name);
 }
 
+// Each of the three texts refused.
 fn refused() {
     rulebook(b"rulebook refused", b"refused/rulebook.txt");
     goals(b"goals refused", b"refused/goals.txt");
     proof(b"certificate refused", b"refused/proof.txt");
 }
 
+// Each of the three files missing, and all.
 fn missing() {
     rulebook(b"no rulebook.txt", b"none/rulebook.txt");
     goals(b"no goals.txt", b"none/goals.txt");
@@ -56,12 +58,14 @@ fn missing_first() {
     );
 }
 
+// Each of the three files empty.
 fn empty() {
     rulebook(b"rulebook empty", b"empty/rulebook.txt");
     goals(b"goals empty", b"empty/goals.txt");
     proof(b"certificate empty", b"empty/proof.txt");
 }
 
+// Files as long as they may be.
 fn at_limits() {
     rulebook(b"rulebook of 8,192 bytes", b"limit/rulebook.txt");
     goals(b"goals of 8,192 bytes", b"limit/goals.txt");
@@ -74,6 +78,7 @@ fn at_limits() {
     );
 }
 
+// Files that are too long: 2, before any text is judged.
 fn too_long() {
     rulebook(b"rulebook of 8,193 bytes", b"long/rulebook.txt");
     goals(b"goals of 8,193 bytes", b"long/goals.txt");

@@ -20,7 +20,7 @@ use Rattle.names.proofs.Kept.{kept-within, kept-put, kept-set, add-law}
 use Rattle.names.proofs.Declared.{stands-kept, find-agrees, find-present}
 use Rattle.tables.specs.Words.{goalBuckets, entryWords, valueOffset, entered, goalFound, openAt, goalOpen}
 use Rattle.tables.specs.Representation.{Sits, here, there, GoalsAt, no-goal, still-open, is-closed, Goals, OpenAt, OpenAgree}
-use Rattle.tables.specs.Representation.{none-open as nothing-open, one-open}
+use Rattle.tables.specs.Representation.{none-open, one-open}
 use Rattle.facts.proofs.Lists.{one-more}
 use Rattle.tables.proofs.Areas.{Same, length-entered, entered-value, entered-same}
 
@@ -96,14 +96,14 @@ module _ {Means : ℕ → Term → Type 0} where
       (at-same table (b + entryWords + entryWords * length goals + valueOffset) (b + entryWords * suc (length goals) + valueOffset) (omega arith) ∙ v) m y)
 
   -- Where a name is no goal's, it is no open goal's.
-  pub none-open : {table : List ℕ} {b : ℕ} {goals openGoals : List Goal} (key : Name) → GoalsAt table Means b goals openGoals
+  pub name-not-open : {table : List ℕ} {b : ℕ} {goals openGoals : List Goal} (key : Name) → GoalsAt table Means b goals openGoals
       → someOf (isGoal key) goals ≡ false
       → first (isGoal key) openGoals ≡ none
   unfolding first
-  none-open key no-goal n = refl
-  none-open key (still-open {name} {j} {goals} {openGoals} v m f g) n =
-      let (x, y) = none-of-head (isGoal key) (goal name j) goals n in rw (x, first) (none-open key g y)
-  none-open key (is-closed {name} {j} {goals} v f g) n = none-open key g (none-of-head (isGoal key) (goal name j) goals n .1)
+  name-not-open key no-goal n = refl
+  name-not-open key (still-open {name} {j} {goals} {openGoals} v m f g) n =
+      let (x, y) = none-of-head (isGoal key) (goal name j) goals n in rw (x, first) (name-not-open key g y)
+  name-not-open key (is-closed {name} {j} {goals} v f g) n = name-not-open key g (none-of-head (isGoal key) (goal name j) goals n .1)
 
   -- A goal's value says whether it is open.
   pub closed-is-none : {table : List ℕ} {b e : ℕ} {goals openGoals : List Goal} {name : Name} {j : Term} → GoalsAt table Means b goals openGoals
@@ -116,7 +116,7 @@ module _ {Means : ℕ → Term → Type 0} where
   closed-is-none {name} (still-open {name = other} v m f g) (there s) z =
       let x : named name other ≡ false = other-name other name (none-of-sitting (isGoal other) s f) in
       rw (x, first) (closed-is-none g s z)
-  closed-is-none {name} (is-closed {goals} v f g) (here h) z = none-open name g f
+  closed-is-none {name} (is-closed {goals} v f g) (here h) z = name-not-open name g f
   closed-is-none (is-closed v f g) (there s) z = closed-is-none g s z
 
   pub open-is-some : {table : List ℕ} {b e : ℕ} (v : ℕ) {goals openGoals : List Goal} {name : Name} {j : Term} → GoalsAt table Means b goals openGoals
@@ -261,7 +261,7 @@ module _ {text table : List ℕ} {base : ℕ} {Means : ℕ → Term → Type 0} 
       let k : key ≡ name = named-decides .equal key name h in
       let s′ : Sits base goals e (goal key j) = rw k s in
       case (eqb (getD table (e + valueOffset) 0) 0)
-      (λ z. rw (z, openAt, closed-is-none (g .values) s′ (eqb-true _ _ z)) nothing-open)
+      (λ z. rw (z, openAt, closed-is-none (g .values) s′ (eqb-true _ _ z)) none-open)
       (λ z.
       let n = eqb-false (getD table (e + valueOffset) 0) 0 z in
       let v : getD table (e + valueOffset) 0 ≡ (getD table (e + valueOffset) 0 - 1) + 1 = omega arith in
@@ -273,7 +273,7 @@ module _ {text table : List ℕ} {base : ℕ} {Means : ℕ → Term → Type 0} 
   unfolding goalOpen goalFound
   open-agrees key =
       agreed (find-agrees isGoal (Sits base goals) key (g .names) (g .stands))
-      (λ f n. rw (f, goalOpen, none-open key (g .values) (sym (goal-known key) ∙ ap present f)) nothing-open)
+      (λ f n. rw (f, goalOpen, name-not-open key (g .values) (sym (goal-known key) ∙ ap present f)) none-open)
       (λ e a f n s. rw (f, goalOpen) (open-by key e a (first-some (isGoal key) goals n .1) s))
 
   -- Closing an open goal.

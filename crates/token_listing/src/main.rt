@@ -30,6 +30,7 @@ fn text_of(line: &[u8], out: &mut [u8]) -> usize {
     len
 }
 
+// A token as a line: a bracket, or the bounds of an atom.
 fn show(t: lex::Token) {
     match t {
         lex::Token::Opening => {
@@ -68,6 +69,7 @@ fn list(text: &[u8]) {
     }
 }
 
+// The last line of a text: its end, or the refusal of a bad line.
 fn close(read: lex::Read) {
     match read {
         lex::Read::Got(t, _) => show(t),
