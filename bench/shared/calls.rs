@@ -8,12 +8,20 @@ pub const LONGEST_RULEBOOK: usize = 8_192;
 pub const LONGEST_GOALS: usize = 8_192;
 pub const LONGEST_CERTIFICATE: usize = 32_768;
 
-/// A report of either call.
+/// A report of the call with the rulebook alone.
+#[repr(C)]
+struct RulebookReport {
+    number: u32,
+    _counts: [u32; 4],
+}
+
+/// A report of the call with three texts.
 #[repr(C)]
 #[derive(Debug, PartialEq)]
 struct Report {
     number: u32,
     counts: [u32; 4],
+    requested: u32,
 }
 
 unsafe extern "C" {
@@ -30,7 +38,7 @@ unsafe extern "C" {
         c_words: usize,
         d: *mut u32,
         d_words: usize,
-    ) -> Report;
+    ) -> RulebookReport;
     #[rustfmt::skip]
     fn horn_release(
         rulebook: *const u8,
@@ -62,7 +70,7 @@ fn number<T>(answer: &Result<T, String>) -> u32 {
 pub struct Rulebook(pub String);
 
 impl Rulebook {
-    fn called(&self, areas: &mut Areas) -> Report {
+    fn called(&self, areas: &mut Areas) -> RulebookReport {
         let [a, b, c, d] = areas.each_mut().map(|w| w.as_mut_ptr());
         unsafe { horn_rulebook(self.0.as_ptr(), self.0.len(), a, AREA, b, AREA, c, AREA, d, AREA) }
     }
@@ -108,6 +116,12 @@ impl Release {
         [self.rulebook.len(), self.goals.len(), self.certificate.len()]
     }
 
+    /// Requests to the store by the second opinion.
+    fn requested(&self) -> u32 {
+        let [r, g, p] = [&self.rulebook, &self.goals, &self.certificate].map(|text| text.as_bytes());
+        second::release(r, g, p, [AREA; 4], second::LIMITS).requested.unwrap_or(0) as u32
+    }
+
     fn called(&self, areas: &mut Areas) -> Report {
         let [a, b, c, d] = areas.each_mut().map(|w| w.as_mut_ptr());
         let [r, g, p] = [&self.rulebook, &self.goals, &self.certificate].map(|text| text.as_ptr());
@@ -144,8 +158,10 @@ impl Work for Release {
         assert!((0..3).all(|i| self.lengths()[i] <= limits[i]), "a text is too long");
         let (_, answer) = self.rust();
         let number = number(&answer);
+        // The Rust has four counts; the fifth is that of compare's second opinion.
+        let requested = answer.as_ref().map_or(0, |_| self.requested());
         let counts = answer.map_or([0; 4], |r| [r.steps, r.goals, r.terms, r.bytes as usize].map(|n| n as u32));
-        assert_eq!(self.called(areas), Report { number, counts }, "the port answers something else");
+        assert_eq!(self.called(areas), Report { number, counts, requested }, "the port answers something else");
         number
     }
 }

@@ -40,13 +40,13 @@ static int judge(Text rulebook, uint32_t number, uint32_t rules)
     return r.number == number && r.rules == rules;
 }
 
-/* Number, steps, goals, terms and bytes, parted by tabs, as document 01 has them. */
-static int release(Text rulebook, Text goals, Text certificate, uint32_t number, uint32_t bytes)
+/* Number, steps, goals, terms, bytes and nodes requested, parted by tabs, as the program writes them. */
+static int release(Text rulebook, Text goals, Text certificate, uint32_t number, uint32_t bytes, uint32_t requested)
 {
     HornReport r = horn_release(rulebook.bytes, rulebook.length, goals.bytes, goals.length,
         certificate.bytes, certificate.length, AREAS);
-    printf("%u\t%u\t%u\t%u\t%u\n", r.number, r.steps, r.goals, r.terms, r.bytes);
-    return r.number == number && r.bytes == bytes;
+    printf("%u\t%u\t%u\t%u\t%u\t%u\n", r.number, r.steps, r.goals, r.terms, r.bytes, r.requested);
+    return r.number == number && r.bytes == bytes && r.requested == requested;
 }
 
 int main(void)
@@ -56,6 +56,9 @@ int main(void)
     Text twice = text("(sort a)(sort a)");
     Text goals = text("(goal g (hold (s z)))");
     Text certificate = text("(step 0 base ())\n(step 1 more (0))\n(result g 1)\n");
+    /* The same conclusion a second time, stated: through an abbreviation one request, written out three. */
+    Text shared = text("(def ?a (s z))(step 0 base ())(step 1 more (0) (hold ?a))(step 2 more (0) (hold ?a))(result g 1)");
+    Text written = text("(step 0 base ())(step 1 more (0) (hold (s z)))(step 2 more (0) (hold (s z)))(result g 1)");
     Text other = text("(step 0 base ())(result g 0)");
     for (int i = 0; i < 4; i++) {
         areas[i] = block(HORN_AREA_WORDS * sizeof *areas[i]);
@@ -63,8 +66,10 @@ int main(void)
     }
     int held = judge(rulebook, 0, 2);
     held &= judge(twice, 13, 0);
-    held &= release(rulebook, goals, certificate, 0, 48);
-    held &= release(rulebook, goals, other, 27, 0);
+    held &= release(rulebook, goals, certificate, 0, 48, 7);
+    held &= release(rulebook, goals, shared, 0, 96, 9);
+    held &= release(rulebook, goals, written, 0, 88, 11);
+    held &= release(rulebook, goals, other, 27, 0, 0);
     /* The areas held other words before; now all are 0. */
     for (size_t i = 0; i < 4 * HORN_AREA_WORDS; i++)
         held &= areas[i / HORN_AREA_WORDS][i % HORN_AREA_WORDS] == 0;
@@ -74,6 +79,8 @@ int main(void)
     free(twice.bytes);
     free(goals.bytes);
     free(certificate.bytes);
+    free(shared.bytes);
+    free(written.bytes);
     free(other.bytes);
     puts(held ? "as document 01 says" : "NOT as document 01 says");
     return !held;

@@ -20,7 +20,7 @@ extern "C" {
 #define HORN_GOALS_BYTES 8192
 #define HORN_CERTIFICATE_BYTES 32768
 /*
- * The most stack that either call takes on any texts: stack.c measures 78,936 bytes on texts of 256 levels, all that may nest, and
+ * The most stack that either call takes on any texts: stack.c measures 78,952 bytes on texts of 256 levels, all that may nest, and
  * 62,632 for a rulebook alone.
  */
 #define HORN_STACK_BYTES 98304
@@ -34,13 +34,19 @@ typedef struct {
     uint32_t rules;
 } HornRulebookReport;
 
-/* A number as above, and the counts of steps, goals, terms in the store and bytes of the certificate, all 0 on a refusal. */
+/*
+ * A number as above, and the counts of steps, goals, terms in the store, bytes of the certificate, and nodes requested, all 0 on a
+ * refusal. A node is requested each time that goals or certificate write it or a step builds it; an abbreviation's use is no request.
+ * The store found it or made it: `terms` were made, the others found, so `requested` against `terms` shows how much is shared. It can
+ * be far above 65,535.
+ */
 typedef struct {
     uint32_t number;
     uint32_t steps;
     uint32_t goals;
     uint32_t terms;
     uint32_t bytes;
+    uint32_t requested;
 } HornReport;
 
 /*

@@ -7,12 +7,15 @@ import sys
 sys.dont_write_bytecode = True
 from reading import LIST, NONE, Reader, Refused, Theory, is_atom, number, questioned, refuse
 
+FOUND, MADE = "FOUND", "MADE"
+
 
 class Release:
     """A node is its number in `nodes`, a list of (head, argument numbers); equal nodes have one number (17.1)."""
 
     def __init__(self, theory, goals, certificate):
         self.th, self.nodes, self.numbers, self.words = theory, [], {}, 0
+        self.found, self.made = 0, 0
         self.defs, self.open, self.steps = {}, {}, []
         self.r = Reader(goals)
         self.read_goals()
@@ -22,13 +25,22 @@ class Release:
 
     def keep(self, h, args):
         n = (h, tuple(args))
-        if n not in self.numbers:
-            if len(self.nodes) + 1 > 2048 or self.words + 1 + len(args) > 8192:
-                refuse(28)
-            self.numbers[n] = len(self.nodes)
-            self.nodes.append(n)
-            self.words += 1 + len(args)
-        return self.numbers[n]
+        if n in self.numbers:
+            return FOUND, self.numbers[n]
+        if len(self.nodes) + 1 > 2048 or self.words + 1 + len(args) > 8192:
+            refuse(28)
+        self.numbers[n] = len(self.nodes)
+        self.nodes.append(n)
+        self.words += 1 + len(args)
+        return MADE, self.numbers[n]
+
+    def request(self, h, args):
+        met, n = self.keep(h, args)
+        if met == FOUND:
+            self.found += 1
+        else:
+            self.made += 1
+        return n
 
     def sort_of(self, n):
         return self.nodes[n][0][2]
@@ -36,7 +48,7 @@ class Release:
     def make(self, h, args):
         if len(args) != len(h[1]) or any(self.sort_of(a) != s for a, s in zip(args, h[1])):
             refuse(15)
-        return self.keep(h, args)
+        return self.request(h, args)
 
     def term(self, x, d):
         if x != LIST:
@@ -182,7 +194,7 @@ class Release:
             if p not in binds:
                 refuse(26)
             return binds[p]
-        return self.keep(p[0], [self.build(q, binds) for q in p[1]])
+        return self.request(p[0], [self.build(q, binds) for q in p[1]])
 
 
 def lengths(areas, texts):
@@ -205,9 +217,9 @@ def release_call(areas, r, g, c):
     try:
         lengths(areas, [(r, 8192), (g, 8192), (c, 32768)])
         done = Release(Theory(Reader(r).read_whole()), g, c)
-        return 0, len(done.steps), done.goals, len(done.nodes), len(c)
+        return 0, len(done.steps), done.goals, len(done.nodes), len(c), done.found + done.made
     except Refused as e:
-        return e.args[0], 0, 0, 0, 0
+        return e.args[0], 0, 0, 0, 0, 0
 
 
 sys.setrecursionlimit(10000)

@@ -1,5 +1,6 @@
-//! A second opinion on both calls, worked from document 01 and its readings alone: it shares no code with the port,
-//! with the Rust or with the opened copy of it. It takes raw bytes, any lengths of areas and texts, any limits of the store.
+//! A second opinion on both calls, worked from document 01, its readings and the customer's later requests alone: it shares
+//! no code with the port, with the Rust or with the opened copy of it. It takes raw bytes, any lengths of areas and texts,
+//! any limits of the store.
 //!
 //! `misread!("...")` marks the place of a misreading of 01 that can be planted, one at a time: see misreadings.rs.
 #[macro_use]
@@ -15,11 +16,13 @@ pub use misreadings::{COUNT, name, plant};
 use reader::Reader;
 use rulebook::Rulebook;
 
-/// A number and four counts.
+/// A number and four counts, and of the call with three texts a fifth, which the customer's request L1 added: "every request
+/// to the store that was met, found or made".
 #[derive(Clone, Copy, PartialEq, Eq, Debug)]
 pub struct Answer {
     pub number: u8,
     pub counts: [usize; 4],
+    pub requested: Option<usize>,
 }
 
 /// Nodes and words that the store may hold.
@@ -65,13 +68,6 @@ fn lengths(areas: [usize; 4], texts: &[(usize, usize)]) -> Outcome<()> {
     if long { Err(2) } else { Ok(()) }
 }
 
-fn answer(outcome: Outcome<[usize; 4]>) -> Answer {
-    match outcome {
-        Ok(counts) => Answer { number: 0, counts },
-        Err(number) => Answer { number, counts: [0; 4] },
-    }
-}
-
 /// The limit of rulebook and goals.
 fn short_limit(goals: bool) -> usize {
     let (less, more) = if goals {
@@ -92,14 +88,19 @@ fn certificate_limit() -> usize {
 
 /// The call with the rulebook alone.
 pub fn rulebook(text: &[u8], areas: [usize; 4]) -> Answer {
-    answer(lengths(areas, &[(text.len(), short_limit(false))]).and_then(|()| {
+    let read = || {
+        lengths(areas, &[(text.len(), short_limit(false))])?;
         let book = Rulebook::read(text)?;
         let mut counts = [book.sorts.len(), book.constructors.len(), book.predicates.len(), book.rules.len()];
         if misread!("counts of constructors and predicates exchanged") {
             counts.swap(1, 2);
         }
         Ok(counts)
-    }))
+    };
+    match read() {
+        Ok(counts) => Answer { number: 0, counts, requested: None },
+        Err(number) => Answer { number, counts: [0; 4], requested: None },
+    }
 }
 
 /// The call with three texts.
@@ -114,22 +115,49 @@ pub fn release(rulebook: &[u8], goals: &[u8], certificate: &[u8], areas: [usize;
         _ if misread!("the certificate's length is tested after the goals") => &all[..2],
         _ => &all[..],
     };
-    answer(lengths(areas, tested).and_then(|()| {
+    // What was requested before a refusal.
+    let mut until = 0;
+    let mut read = || {
+        lengths(areas, tested)?;
         let book = Rulebook::read(rulebook)?;
         if all[1].0 > all[1].1 {
             return Err(2);
         }
         let mut checker = release::Checker::new(&book, limits);
         let early = if misread!("no goal is told only at the end") { Ok(()) } else { Err(17) };
-        match checker.goals(Reader::new(goals)) {
+        let goals = checker.goals(Reader::new(goals));
+        until = checker.store.requested;
+        match goals {
             Err(17) => early?,
             other => other?,
         }
         if all[2].0 > all[2].1 {
             return Err(2);
         }
-        checker.certificate(Reader::new(certificate))
-    }))
+        let counts = checker.certificate(Reader::new(certificate));
+        until = checker.store.requested;
+        counts
+    };
+    let outcome = read();
+    answered(outcome, until)
+}
+
+/// The answer of a release, and what was requested before a refusal.
+fn answered(outcome: Outcome<[usize; 5]>, until: usize) -> Answer {
+    match outcome {
+        Ok([steps, goals, terms, bytes, requested]) => {
+            let mut counts = [steps, goals, terms, bytes];
+            let mut requested = requested;
+            if misread!("counts of terms and requests exchanged") {
+                std::mem::swap(&mut counts[2], &mut requested);
+            }
+            Answer { number: 0, counts, requested: Some(requested) }
+        }
+        Err(number) => {
+            let requested = if misread!("a refusal has the count of its requests") { until } else { 0 };
+            Answer { number, counts: [0; 4], requested: Some(requested) }
+        }
+    }
 }
 
 /// Whether an answer leaves the first 16,384 words of each area zero; otherwise it leaves all untouched.

@@ -126,7 +126,9 @@ impl<'a> Checker<'a> {
                 if a == b"?" && misread!("? alone for a term is 11") {
                     return Err(11);
                 }
-                return self.abbreviations.get(a).copied().ok_or(12);
+                let term = self.abbreviations.get(a).copied().ok_or(12)?;
+                self.store.requested += usize::from(misread!("an abbreviation that is looked up is requested"));
+                return Ok(term);
             }
             Token::Atom(a) => (a, false),
             _ => (reader.head(depth + 1)?, true),
@@ -169,7 +171,21 @@ impl<'a> Checker<'a> {
         if !fits {
             return Err(15);
         }
-        self.store.put(Head::Constructor(c), args)
+        let unseen = match listed {
+            true => misread!("a term in brackets requests only its arguments"),
+            false => misread!("a constant is not requested"),
+        };
+        self.counted(!unseen, |s| s.store.put(Head::Constructor(c), args))
+    }
+
+    /// What `ask` does; its requests are counted, unless a misreading says otherwise.
+    pub fn counted<T>(&mut self, counts: bool, ask: impl FnOnce(&mut Self) -> Outcome<T>) -> Outcome<T> {
+        let before = self.store.requested;
+        let answer = ask(self);
+        if !counts {
+            self.store.requested = before;
+        }
+        answer
     }
 
     /// What follows a judgment's head.
@@ -185,7 +201,8 @@ impl<'a> Checker<'a> {
             return Err(12);
         };
         let symbol = &self.book.predicates[p];
-        let args = self.arguments(reader, depth + 1, symbol)?;
+        let all = !misread!("a judgment is requested without its terms");
+        let args = self.counted(all, |s| s.arguments(reader, depth + 1, symbol))?;
         let fits = self.fits(symbol, &args);
         if !fits && misread!("a judgment is stored before 15") {
             self.store.put(Head::Predicate(p), args.clone())?;
@@ -193,7 +210,7 @@ impl<'a> Checker<'a> {
         if !fits {
             return Err(15);
         }
-        self.store.put(Head::Predicate(p), args)
+        self.counted(!misread!("a judgment requests only its terms"), |s| s.store.put(Head::Predicate(p), args))
     }
 
     pub fn goals(&mut self, mut reader: Reader<'a>) -> Outcome<()> {
@@ -227,7 +244,7 @@ impl<'a> Checker<'a> {
         }
         reader.list_item(1)?;
         let head = reader.head(2)?;
-        let judgment = self.judgment(reader, head, 1)?;
+        let judgment = self.counted(!misread!("goals request nothing"), |s| s.judgment(reader, head, 1))?;
         if question {
             return Err(11);
         }
@@ -248,7 +265,7 @@ impl<'a> Checker<'a> {
         Ok(())
     }
 
-    pub fn certificate(&mut self, mut reader: Reader<'a>) -> Outcome<[usize; 4]> {
+    pub fn certificate(&mut self, mut reader: Reader<'a>) -> Outcome<[usize; 5]> {
         self.bytes = reader.length();
         while reader.peek()?.is_some() {
             reader.list_item(0)?;
@@ -282,7 +299,15 @@ impl<'a> Checker<'a> {
             }
             _ => self.store.nodes.len(),
         };
-        Ok([self.steps.len(), self.goals.len(), terms, self.bytes])
+        Ok([self.steps.len(), self.goals.len(), terms, self.bytes, self.requested()])
+    }
+
+    fn requested(&self) -> usize {
+        match self.store.requested {
+            n if misread!("requested is cut to 16 bits") => n % 65_536,
+            n if misread!("requested is at most 65,535") => n.min(65_535),
+            n => n,
+        }
     }
 
     fn def(&mut self, reader: &mut Reader<'a>) -> Outcome<()> {
@@ -305,7 +330,7 @@ impl<'a> Checker<'a> {
                 self.abbreviations.insert(name, z);
             }
         }
-        let term = self.term(reader, 1)?;
+        let term = self.counted(!misread!("an abbreviation's term requests nothing"), |s| s.term(reader, 1))?;
         if wrong {
             return Err(11);
         }
@@ -354,6 +379,7 @@ impl<'a> Checker<'a> {
             reader.closing()?;
         }
         self.goals[goal].open = false;
+        self.store.requested += usize::from(misread!("a result is requested"));
         Ok(())
     }
 }

@@ -102,7 +102,8 @@ impl<'a> Checker<'a> {
             find(&self.book.predicates, head).ok_or(12)?;
             return Err(22);
         }
-        let judgment = self.judgment(reader, head, 1)?;
+        let all = !misread!("a stated conclusion requests nothing");
+        let judgment = self.counted(all, |s| s.judgment(reader, head, 1))?;
         if *stated == Some(judgment) && misread!("an equal second conclusion passes") {
             return Ok(());
         }
@@ -135,7 +136,7 @@ impl<'a> Checker<'a> {
         if bound && misread!("a bound variable before its term") {
             return Err(21);
         }
-        let term = self.term(reader, 2)?;
+        let term = self.counted(!misread!("a binding requests nothing"), |s| s.term(reader, 2))?;
         let sorted = self.sort_of(term) == rule.variables[found].1 || misread!("a binding's sort is not tested");
         if !sorted && misread!("a binding's sort before its closing") {
             return Err(21);
@@ -235,6 +236,9 @@ impl<'a> Checker<'a> {
                     return Err(25);
                 }
             }
+            if misread!("a premise that is matched is requested") {
+                self.store.requested += nodes(premise);
+            }
         }
         if mismatch {
             return Err(25);
@@ -243,9 +247,30 @@ impl<'a> Checker<'a> {
             self.conclusion(rule, values, stated)?;
         }
         match stated {
-            Some(judgment) => Ok(judgment),
-            None => self.build(&rule.conclusion, values, true),
+            Some(judgment) => {
+                if misread!("a stated conclusion is built too") {
+                    self.store.requested += nodes(&rule.conclusion);
+                }
+                Ok(judgment)
+            }
+            None => self.built(rule, values),
         }
+    }
+
+    /// The conclusion, which is not stated.
+    fn built(&mut self, rule: &Rule<'a>, values: &Values) -> Outcome<usize> {
+        let (requested, held) = (self.store.requested, self.store.nodes.len());
+        let judgment = self.build(&rule.conclusion, values, true)?;
+        let found = held == self.store.nodes.len();
+        if misread!("a conclusion that is built requests nothing") {
+            self.store.requested = requested;
+        }
+        if misread!("a conclusion that is built is one request")
+            || (found && misread!("a conclusion that is found whole is one request"))
+        {
+            self.store.requested = requested + 1;
+        }
+        Ok(judgment)
     }
 
     fn conclusion(&mut self, rule: &Rule<'a>, values: &mut Values, stated: Option<usize>) -> Outcome<()> {
@@ -265,7 +290,10 @@ impl<'a> Checker<'a> {
     /// Built left to right, each node after its arguments.
     pub fn build(&mut self, pattern: &Pattern, values: &Values, judgment: bool) -> Outcome<usize> {
         match pattern {
-            Pattern::Variable(v) => values[*v].ok_or(26),
+            Pattern::Variable(v) => {
+                self.store.requested += usize::from(misread!("a bound variable is requested"));
+                values[*v].ok_or(26)
+            }
             Pattern::Apply(h, args) => {
                 if misread!("unbound variables before the store") && args.iter().any(|p| unbound(p, values)) {
                     return Err(26);
@@ -281,6 +309,14 @@ impl<'a> Checker<'a> {
                 self.store.put(if judgment { Head::Predicate(*h) } else { Head::Constructor(*h) }, built)
             }
         }
+    }
+}
+
+/// Constructors and predicates of a pattern, at all their places.
+fn nodes(pattern: &Pattern) -> usize {
+    match pattern {
+        Pattern::Variable(_) => 0,
+        Pattern::Apply(_, args) => 1 + args.iter().map(nodes).sum::<usize>(),
     }
 }
 

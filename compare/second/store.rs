@@ -20,11 +20,13 @@ pub struct Store {
     numbers: HashMap<Node, usize>,
     words: usize,
     limits: Limits,
+    /// "every request to the store that was met, found or made"
+    pub requested: usize,
 }
 
 impl Store {
     pub fn new(limits: Limits) -> Self {
-        Self { nodes: Vec::new(), numbers: HashMap::new(), words: 0, limits }
+        Self { nodes: Vec::new(), numbers: HashMap::new(), words: 0, limits, requested: 0 }
     }
 
     pub fn put(&mut self, head: Head, args: Vec<usize>) -> Outcome<usize> {
@@ -53,6 +55,7 @@ impl Store {
         }
         if let Some(&n) = self.numbers.get(&key) {
             if !misread!("equal nodes are stored again") {
+                self.requested += usize::from(!misread!("a node that is found is not requested"));
                 return Ok(n);
             }
         }
@@ -62,6 +65,7 @@ impl Store {
         self.words += 1 + args.len();
         self.numbers.insert(key, self.nodes.len());
         self.nodes.push(Node { head, args });
+        self.requested += usize::from(!misread!("a node that is made is not requested"));
         Ok(self.nodes.len() - 1)
     }
 }

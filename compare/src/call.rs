@@ -9,10 +9,19 @@ use std::collections::BTreeMap;
 use std::io::Write;
 use std::sync::atomic::Ordering::Relaxed;
 
+/// What the call with the rulebook alone hands back.
 #[repr(C)]
-pub struct Report {
+struct RulebookReport {
     number: u32,
     counts: [u32; 4],
+}
+
+/// What the call with three texts hands back.
+#[repr(C)]
+struct ReleaseReport {
+    number: u32,
+    counts: [u32; 4],
+    requested: u32,
 }
 
 unsafe extern "C" {
@@ -28,7 +37,7 @@ unsafe extern "C" {
         c_words: usize,
         d: *mut u32,
         d_words: usize,
-    ) -> Report;
+    ) -> RulebookReport;
     fn horn_release(
         rulebook: *const u8,
         rulebook_bytes: usize,
@@ -44,14 +53,19 @@ unsafe extern "C" {
         c_words: usize,
         d: *mut u32,
         d_words: usize,
-    ) -> Report;
+    ) -> ReleaseReport;
+}
+
+/// A number that no paper has shows as 255.
+fn number(n: u32) -> u8 {
+    u8::try_from(n).unwrap_or(u8::MAX)
 }
 
 /// A call of the library, with what it is held to.
 pub trait Call {
     type Case;
-    /// What the four counts count.
-    const COUNTED: [&str; 4];
+    /// What the counts count.
+    const COUNTED: &[&str];
     /// Numbers that must come often, beside 0, 1 and 2.
     const NUMBERS: &[u8];
     /// Numbers that must not come at all.
@@ -62,7 +76,8 @@ pub trait Call {
     fn rust(case: &Self::Case) -> Option<(Answer, Source)>;
     /// What the second opinion says.
     fn second(case: &Self::Case, areas: [usize; 4]) -> Answer;
-    fn call(texts: &[(*const u8, usize)], areas: [*mut u32; 4], lent: [usize; 4]) -> Report;
+    /// What the library answers.
+    fn call(texts: &[(*const u8, usize)], areas: [*mut u32; 4], lent: [usize; 4]) -> Answer;
 }
 
 /// Drawn cases, a line each: the call, the areas' lengths, the texts in hexadecimal; then `=` and the library's answer.
@@ -74,11 +89,10 @@ pub fn answers<C: Call>(name: &str, n: usize, seed: u64, out: &mut impl Write) -
         let lent = lent::lengths(&mut rng);
         let texts = C::texts(&case);
         let pointers: Vec<_> = texts.iter().map(|t| (t.as_ptr(), t.len())).collect();
-        let r = C::call(&pointers, areas.each_mut().map(|a| a.as_mut_ptr()), lent);
+        let answer = C::call(&pointers, areas.each_mut().map(|a| a.as_mut_ptr()), lent);
         let [i, j, k, l] = lent;
-        let [a, b, c, d] = r.counts;
         let texts: Vec<_> = texts.into_iter().map(hex).collect();
-        writeln!(out, "{name} {i} {j} {k} {l} {} = {} {a} {b} {c} {d}", texts.join(" "), r.number)
+        writeln!(out, "{name} {i} {j} {k} {l} {} = {}", texts.join(" "), answer.to_string().replace('\t', " "))
     })
 }
 
@@ -86,7 +100,7 @@ pub struct RulebookAlone;
 
 impl Call for RulebookAlone {
     type Case = Vec<u8>;
-    const COUNTED: [&str; 4] = ["sorts", "constructors", "predicates", "rules"];
+    const COUNTED: &[&str] = &["sorts", "constructors", "predicates", "rules"];
     const NUMBERS: &[u8] = &rulebooks::NUMBERS;
     const NEVER: &[u8] = &[10];
 
@@ -106,9 +120,10 @@ impl Call for RulebookAlone {
         oracle::opinion_on_rulebook(text, areas)
     }
 
-    fn call(texts: &[(*const u8, usize)], [a, b, c, d]: [*mut u32; 4], [i, j, k, l]: [usize; 4]) -> Report {
+    fn call(texts: &[(*const u8, usize)], [a, b, c, d]: [*mut u32; 4], [i, j, k, l]: [usize; 4]) -> Answer {
         let (text, bytes) = texts[0];
-        unsafe { horn_rulebook(text, bytes, a, i, b, j, c, k, d, l) }
+        let r = unsafe { horn_rulebook(text, bytes, a, i, b, j, c, k, d, l) };
+        Answer::rulebook(number(r.number), r.counts.map(|n| n as usize))
     }
 }
 
@@ -116,7 +131,7 @@ pub struct Release;
 
 impl Call for Release {
     type Case = Texts;
-    const COUNTED: [&str; 4] = ["steps", "goals", "terms", "bytes"];
+    const COUNTED: &[&str] = &["steps", "goals", "terms", "bytes", "requested"];
     const NUMBERS: &[u8] = &releases::NUMBERS;
 
     fn draw(rng: &mut Random) -> Texts {
@@ -135,9 +150,10 @@ impl Call for Release {
         oracle::opinion(texts, areas, second::LIMITS)
     }
 
-    fn call(texts: &[(*const u8, usize)], [a, b, c, d]: [*mut u32; 4], [i, j, k, l]: [usize; 4]) -> Report {
+    fn call(texts: &[(*const u8, usize)], [a, b, c, d]: [*mut u32; 4], [i, j, k, l]: [usize; 4]) -> Answer {
         let [(r, rn), (g, gn), (p, pn)] = texts[..] else { unreachable!("three texts") };
-        unsafe { horn_release(r, rn, g, gn, p, pn, a, i, b, j, c, k, d, l) }
+        let r = unsafe { horn_release(r, rn, g, gn, p, pn, a, i, b, j, c, k, d, l) };
+        Answer::release(number(r.number), r.counts.map(|n| n as usize), r.requested as usize)
     }
 }
 
@@ -151,7 +167,8 @@ pub struct Seen {
     cases: usize,
     longer: usize,
     short: usize,
-    most: [usize; 4],
+    /// The largest of each count.
+    most: [usize; 5],
     differences: usize,
     /// The shortest of them, and some more.
     shortest: Vec<String>,
@@ -168,7 +185,7 @@ impl Seen {
             cases: 0,
             longer: 0,
             short: 0,
-            most: [0; 4],
+            most: [0; 5],
             differences: 0,
             shortest: Vec::new(),
         }
@@ -188,7 +205,7 @@ impl Seen {
         self.rows.entry(answer.number).or_default()[source as usize] += 1;
         self.longer += usize::from(lengths.iter().all(|&n| n > AREA));
         self.short += usize::from(lengths.iter().filter(|&&n| n < AREA).count() > 1);
-        (0..4).for_each(|i| self.most[i] = answer.counts[i].max(self.most[i]));
+        self.most.iter_mut().zip(answer.counts()).for_each(|(most, n)| *most = n.max(*most));
         let (said, wrong) = self.call::<C>(case, lengths, second::clears(answer.number), rng);
         if said != answer || second != answer || !wrong.is_empty() {
             let texts: Vec<_> = C::texts(case).into_iter().map(hex).collect();
@@ -222,10 +239,10 @@ impl Seen {
             texts.iter().zip(&mut self.texts).map(|(text, place)| place.text(text, rng.chance(60))).collect();
         let pointers: Vec<_> =
             placed.iter().zip(&texts).map(|(lent, text)| (lent.pointer().cast_const(), text.len())).collect();
-        let r = C::call(&pointers, areas.map(|a| a.pointer().cast()), lengths);
+        let answer = C::call(&pointers, areas.map(|a| a.pointer().cast()), lengths);
         let mut wrong: Vec<usize> = (0..4).filter(|&i| !areas[i].area_is(held[i], cleared)).collect();
         wrong.extend((0..texts.len()).filter(|&i| !placed[i].text_is(texts[i])).map(|i| 4 + i));
-        (Answer::new(u8::try_from(r.number).unwrap_or(u8::MAX), r.counts.map(|n| n as usize)), wrong)
+        (answer, wrong)
     }
 
     fn prune(&mut self) {
@@ -252,7 +269,8 @@ impl Seen {
         writeln!(out, "rarest\t{}\tnumber {}", least.0, least.1)?;
         writeln!(out, "all four areas longer\t{}", self.longer)?;
         writeln!(out, "several areas short\t{}", self.short)?;
-        let most: Vec<_> = (0..4).map(|i| format!("{} {}", self.most[i], C::COUNTED[i])).collect();
+        let most: Vec<_> =
+            self.most.iter().zip(C::COUNTED).map(|(most, counted)| format!("{most} {counted}")).collect();
         writeln!(out, "most counted\t{}", most.join(", "))?;
         writeln!(out, "differences\t{}", self.differences)
     }

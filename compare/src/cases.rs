@@ -14,27 +14,46 @@ impl Texts {
     }
 }
 
-/// A number and four counts: steps, goals, terms, bytes; or sorts, constructors, predicates, rules.
+/// A number and its counts: steps, goals, terms, bytes and requested; or sorts, constructors, predicates and rules.
 #[derive(Clone, Copy, PartialEq, Eq)]
 pub struct Answer {
     pub number: u8,
-    pub counts: [usize; 4],
+    counts: [usize; 4],
+    /// "every request to the store that was met, found or made"; the call with the rulebook alone has no such count.
+    requested: Option<usize>,
 }
 
 impl Answer {
-    pub fn new(number: u8, counts: [usize; 4]) -> Self {
-        Self { number, counts }
+    /// Of the call with three texts.
+    pub fn release(number: u8, counts: [usize; 4], requested: usize) -> Self {
+        Self { number, counts, requested: Some(requested) }
     }
 
+    /// Of the call with the rulebook alone.
+    pub fn rulebook(number: u8, counts: [usize; 4]) -> Self {
+        Self { number, counts, requested: None }
+    }
+
+    /// Three texts refused.
     pub fn refused(number: u8) -> Self {
-        Self::new(number, [0; 4])
+        Self::release(number, [0; 4], 0)
+    }
+
+    /// A rulebook alone refused.
+    pub fn rulebook_refused(number: u8) -> Self {
+        Self::rulebook(number, [0; 4])
+    }
+
+    /// All its counts: five, or four.
+    pub fn counts(&self) -> impl Iterator<Item = usize> {
+        self.counts.into_iter().chain(self.requested)
     }
 }
 
 impl fmt::Display for Answer {
     fn fmt(&self, f: &mut fmt::Formatter<'_>) -> fmt::Result {
-        let [a, b, c, d] = self.counts;
-        write!(f, "{}\t{a}\t{b}\t{c}\t{d}", self.number)
+        write!(f, "{}", self.number)?;
+        self.counts().try_for_each(|n| write!(f, "\t{n}"))
     }
 }
 

@@ -32,6 +32,7 @@ pub fn case(rng: &mut Random, small: bool) -> Case {
         310..325 => special::deep(rng),
         325..335 => special::doubling(rng),
         335..338 if !small => special::full(rng),
+        338..340 if !small => special::many_requests(rng),
         335..350 => special::soup(rng),
         350..740 => {
             let number = *rng.pick(AIMS);

@@ -74,11 +74,11 @@ fn texts_of(line: &str) -> cases::Texts {
     cases::read(line).unwrap_or_else(|| fail(&format!("not a case line: {line}")))
 }
 
-/// An answer and who gives it; outside the domain there is none, but for the driver's own 2.
+/// An answer and who gives it (the fifth count is the second opinion's); outside the domain there is none, but for the driver's own 2.
 fn reply(reply: &Reply) -> String {
     match reply {
         Reply::Rust(answer, _) => format!("{answer}\trust"),
-        Reply::Outside(why, None) => format!("outside\t-\t-\t-\t-\t{why}"),
+        Reply::Outside(why, None) => format!("outside\t-\t-\t-\t-\t-\t{why}"),
         Reply::Outside(why, Some(own)) => format!("{own}\tdriver: {why}"),
     }
 }
@@ -278,7 +278,9 @@ fn by_hand(out: &mut impl Write) -> Io {
         let (nodes, words) = case.store;
         let call = if case.rulebook_alone { "rulebook" } else { "release" };
         let areas = case.areas.map_or("-".into(), |a| a.map(|n| n.to_string()).join(","));
-        writeln!(out, "{}\t{}\t{nodes}\t{words}\t{areas}\t{call}\t{}", case.texts, case.answer, case.reason)?;
+        // All lines have as many fields: a rulebook alone has no fifth count.
+        let fifth = if case.rulebook_alone { "\t-" } else { "" };
+        writeln!(out, "{}\t{}{fifth}\t{nodes}\t{words}\t{areas}\t{call}\t{}", case.texts, case.answer, case.reason)?;
     }
     if wrong > 0 { fail(&format!("{wrong} answers by hand differ from others")) } else { Ok(()) }
 }

@@ -1,6 +1,7 @@
 //! The Rust's answers. Within its domain they come from the unchanged files (crate `reference`); the opened
 //! copy (crate `opened`) only tells how full the store was and counts a rulebook's declarations. Texts that are not
-//! UTF-8 are answered by the unchanged files as far as they reach; the second opinion (crate `second`) answers all.
+//! UTF-8 are answered by the unchanged files as far as they reach; the second opinion (crate `second`) answers all. The
+//! Rust has four counts of a release: the fifth, requested, is the second opinion's.
 use crate::cases::{Answer, Texts};
 use crate::messages;
 
@@ -33,11 +34,12 @@ pub fn number(message: &str) -> u8 {
     })
 }
 
-fn accepted(steps: usize, goals: usize, terms: usize, bytes: u64) -> Answer {
-    Answer::new(0, [steps, goals, terms, bytes as usize])
+/// Requests to the store by the second opinion, of texts that the unchanged Rust accepts.
+fn requested(rulebook: &[u8], goals: &[u8], certificate: &[u8]) -> usize {
+    second::release(rulebook, goals, certificate, [AREA; 4], second::LIMITS).requested.unwrap_or(0)
 }
 
-/// The unchanged Rust on valid UTF-8, with the text that it refused.
+/// The unchanged Rust on valid UTF-8, with the text that it refused; the fifth count is the second opinion's.
 pub fn unchanged(rulebook: &str, goals: &str, certificate: &[u8]) -> (Answer, Option<Text>) {
     use reference::kernel::Theory;
     let theory = match Theory::parse(rulebook) {
@@ -45,7 +47,10 @@ pub fn unchanged(rulebook: &str, goals: &str, certificate: &[u8]) -> (Answer, Op
         Err(e) => return (Answer::refused(number(&e)), Some(Text::Rulebook)),
     };
     match theory.check_reader(goals, certificate) {
-        Ok(r) => (accepted(r.steps, r.goals, r.terms, r.bytes), None),
+        Ok(r) => {
+            let requested = requested(rulebook.as_bytes(), goals.as_bytes(), certificate);
+            (Answer::release(0, [r.steps, r.goals, r.terms, r.bytes as usize], requested), None)
+        }
         Err(e) => {
             // With an empty certificate, goals that are read whole leave a goal open and nothing else.
             let alone = theory.check_reader(goals, &b""[..]).expect_err("no result, no release");
@@ -64,7 +69,7 @@ pub fn second(texts: &Texts, nodes: usize, words: usize) -> Answer {
     let run = opened::kernel::Theory::parse(&texts.rulebook)
         .and_then(|theory| theory.check_reader(&texts.goals, &texts.certificate[..]));
     match run {
-        Ok(r) => accepted(r.steps, r.goals, r.terms, r.bytes),
+        Ok(r) => Answer::release(0, [r.steps, r.goals, r.terms, r.bytes as usize], opened::store::requested()),
         Err(e) => Answer::refused(number(&e)),
     }
 }
@@ -72,11 +77,11 @@ pub fn second(texts: &Texts, nodes: usize, words: usize) -> Answer {
 /// The call with the rulebook alone, by the opened copy.
 pub fn second_rulebook(rulebook: &[u8]) -> Answer {
     if rulebook.len() > RULEBOOK_BYTES {
-        return Answer::refused(2);
+        return Answer::rulebook_refused(2);
     }
     match opened::kernel::Theory::parse(rulebook) {
-        Ok(theory) => Answer::new(0, theory.counts()),
-        Err(e) => Answer::refused(number(&e)),
+        Ok(theory) => Answer::rulebook(0, theory.counts()),
+        Err(e) => Answer::rulebook_refused(number(&e)),
     }
 }
 
@@ -88,7 +93,7 @@ pub fn rulebook(text: &[u8]) -> Option<Answer> {
     }
     match reference::kernel::Theory::parse(source) {
         Ok(_) => Some(second_rulebook(text)),
-        Err(e) => Some(Answer::refused(number(&e))),
+        Err(e) => Some(Answer::rulebook_refused(number(&e))),
     }
 }
 
@@ -118,7 +123,10 @@ pub fn answer(texts: &Texts) -> Reply {
 }
 
 fn from_second(answer: second::Answer) -> Answer {
-    Answer::new(answer.number, answer.counts)
+    match answer.requested {
+        Some(requested) => Answer::release(answer.number, answer.counts, requested),
+        None => Answer::rulebook(answer.number, answer.counts),
+    }
 }
 
 /// The second opinion on the call with three texts.

@@ -39,7 +39,7 @@ pub fn rulebook_of_any_bytes(text: &[u8]) -> Option<(Answer, Source)> {
     match rulebook(text) {
         Some(answer) => Some((answer, Source::Rust)),
         None if text.len() > RULEBOOK_BYTES => None,
-        None => Some((Answer::refused(read_bytes(text)), Source::Reader)),
+        None => Some((Answer::rulebook_refused(read_bytes(text)), Source::Reader)),
     }
 }
 

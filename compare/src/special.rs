@@ -1,4 +1,5 @@
-//! Cases with a shape of their own: the bench set, depths 255 to 258, abbreviations that double, full stores.
+//! Cases with a shape of their own: the bench set, depths 255 to 258, abbreviations that double, full stores, requests to
+//! the store past 16 bits.
 use crate::cases::Texts;
 use crate::random::Random;
 
@@ -19,6 +20,11 @@ pub fn steps(last: usize) -> String {
         out += &format!("(step {n} more ({}))\n", n - 1);
     }
     out
+}
+
+/// Steps 0 to `count` less one by a rule without premises.
+pub fn steps_by(rule: &str, count: usize) -> String {
+    (0..count).map(|n| format!("(step {n} {rule}())")).collect()
 }
 
 fn nested(count: usize, inner: &str) -> String {
@@ -86,6 +92,79 @@ pub fn full(rng: &mut Random) -> (Texts, String) {
         certificate: certificate.into(),
     };
     (texts, "many-words".into())
+}
+
+/// A term of a conclusion: its text, and the requests that building it takes. A bound variable takes none.
+fn leaf(rng: &mut Random) -> (&'static str, usize) {
+    *rng.pick(&[(" z", 1), (" z", 1), (" ?x", 0), ("(s z)", 2), ("(s ?x)", 1)])
+}
+
+/// A conclusion of so many arguments with so many leaves each, still open at its end, and how many nodes it has.
+fn broad(rng: &mut Random, outer: usize, inner: usize) -> (String, usize) {
+    let (mut conclusion, mut nodes) = (String::from("(p"), 1);
+    for _ in 0..outer {
+        conclusion += "(f";
+        nodes += 1;
+        for _ in 0..inner {
+            let (text, requests) = leaf(rng);
+            conclusion += text;
+            nodes += requests;
+        }
+        conclusion += ")";
+    }
+    (conclusion, nodes)
+}
+
+/// Steps that build it, as long as there are no more requests than wanted; and how many there are then.
+fn broad_steps(rng: &mut Random, nodes: usize, wanted: usize) -> (String, usize) {
+    // The goal takes two requests, each of the first two steps as many, the abbreviation one.
+    let mut certificate = String::from("(def ?z z)(step 0 a()(?x ?z)(h z))(step 1 a()(?x z))");
+    let mut requested = 2 + 1 + 2 + 2;
+    for n in 2.. {
+        let (form, more) = match rng.below(8) {
+            0 => (format!("(step {n} r(0)(?x ?z))"), nodes),
+            1 => (format!("(step {n} r(1)(?x z))"), nodes + 1),
+            _ => (format!("(step {n} r({}))", rng.below(2)), nodes),
+        };
+        if requested + more > wanted {
+            break;
+        }
+        requested += more;
+        certificate += &form;
+    }
+    (certificate, requested)
+}
+
+/// Steps that build a conclusion of hundreds of nodes again and again, each found but for the first time: requests to the
+/// store at 65,535, next to it, next to its multiples, or anywhere beyond.
+pub fn many_requests(rng: &mut Random) -> (Texts, String) {
+    let (outer, inner) = (rng.from(8, 20), rng.from(24, 40));
+    let (conclusion, nodes) = broad(rng, outer, inner);
+    let inputs = |count: usize| vec!["t"; count].join(" ");
+    let rulebook = format!(
+        "(sort t)(ctor z()t)(ctor s(t)t)(ctor f({})t)(pred p({}))(pred h(t))(rule a()(h ?x))(rule r((h ?x)){conclusion}))",
+        inputs(inner),
+        inputs(outer)
+    );
+    let wanted = match rng.below(4) {
+        0 | 1 => rng.from(65_533, 65_538),
+        2 => rng.from(2, 3) * 65_536 + rng.below(3) - 1,
+        _ => rng.from(65_600, 200_000),
+    };
+    let (mut certificate, mut requested) = broad_steps(rng, nodes, wanted);
+    // What is still missing, by abbreviations.
+    for n in 0.. {
+        let whole = format!("(f{})", " z".repeat(inner));
+        let (term, more) = if requested + inner < wanted { (whole, inner + 1) } else { (" z".into(), 1) };
+        if requested + more > wanted {
+            break;
+        }
+        requested += more;
+        certificate += &format!("(def ?{n}{term})");
+    }
+    certificate += "(result g 0)";
+    let texts = Texts { rulebook: rulebook.into(), goals: "(goal g(h z))".into(), certificate: certificate.into() };
+    (texts, "many-requests".into())
 }
 
 /// Tokens without sense.

@@ -5,10 +5,11 @@
 //!     store NODES WORDS       limits of the store, where not 01's
 //!     areas A B C D           lengths of the areas, where not long enough
 //!     call rulebook           the call with the rulebook alone
-//!     = NUMBER [COUNT COUNT COUNT COUNT] | REASON
+//!     = NUMBER [COUNT COUNT COUNT COUNT [COUNT]] | REASON    five counts of three texts, four of a rulebook alone
 //!
 //! In a text `\n`, `\t`, `\\` and `\xHH` are bytes, `\{N*TEXT}` is TEXT, in which escapes count too, N times,
-//! and `\[N]` is 01's certificate of row 28 up to step N. Other lines are blank or start with `#`.
+//! `\[N]` is 01's certificate of row 28 up to step N, and `\<N*RULE>` has steps 0 to N - 1 by RULE, without references.
+//! Other lines are blank or start with `#`.
 use crate::cases::{Answer, Texts};
 use crate::special;
 
@@ -38,16 +39,20 @@ fn unescape(s: &str) -> Result<Vec<u8>, String> {
                 out.push(u8::from_str_radix(digits, 16).map_err(|_| "\\x wants two digits")?);
                 rest = &rest[2..];
             }
-            '{' | '[' => {
-                let end = rest.find(if escape == '{' { '}' } else { ']' }).ok_or("an escape without its end")?;
+            '{' | '[' | '<' => {
+                let closing = [('{', '}'), ('[', ']'), ('<', '>')].into_iter().find(|(open, _)| *open == escape);
+                let end = closing.and_then(|(_, close)| rest.find(close)).ok_or("an escape without its end")?;
                 let inner = &rest[..end];
                 rest = &rest[end + 1..];
                 let number = |s: &str| s.parse::<usize>().map_err(|_| format!("not a number: {s}"));
                 if escape == '[' {
                     out.extend(special::steps(number(inner)?).bytes());
-                } else {
-                    let (count, text) = inner.split_once('*').ok_or("\\{N*TEXT} wants a *")?;
-                    out.extend(unescape(text)?.repeat(number(count)?));
+                    continue;
+                }
+                let (count, text) = inner.split_once('*').ok_or("\\{N*TEXT} and \\<N*RULE> want a *")?;
+                match escape {
+                    '{' => out.extend(unescape(text)?.repeat(number(count)?)),
+                    _ => out.extend(special::steps_by(text, number(count)?).bytes()),
                 }
             }
             other => return Err(format!("unknown escape \\{other}")),
@@ -87,10 +92,16 @@ fn line(case: &mut Written, line: &str) -> Result<bool, String> {
         "call" if rest == "rulebook" => case.rulebook_alone = true,
         "=" => {
             let (answer, reason) = rest.split_once(" | ").ok_or("an answer wants a reason")?;
-            case.answer = match numbers(answer)?[..] {
-                [number] if number > 0 => Answer::refused(number as u8),
-                [number, a, b, c, d] => Answer::new(number as u8, [a, b, c, d]),
-                _ => return Err("an answer is a number, or a number and four counts".into()),
+            case.answer = match (case.rulebook_alone, &numbers(answer)?[..]) {
+                (false, [number]) if *number > 0 => Answer::refused(*number as u8),
+                (true, [number]) if *number > 0 => Answer::rulebook_refused(*number as u8),
+                (false, [number, counts @ .., e]) if counts.len() == 4 => {
+                    Answer::release(*number as u8, counts.try_into().expect("four"), *e)
+                }
+                (true, [number, counts @ ..]) if counts.len() == 4 => {
+                    Answer::rulebook(*number as u8, counts.try_into().expect("four"))
+                }
+                _ => return Err("an answer is a number, or a number and its counts, five of three texts".into()),
             };
             case.reason = reason.trim().replace('\t', " ");
             return Ok(true);

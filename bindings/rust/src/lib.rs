@@ -4,7 +4,8 @@
 //! let mut areas = sambjoek::WorkAreas::new();
 //! let rulebook = b"(sort t)(ctor z () t)(pred hold (t))(rule base () (hold z))";
 //! let report = areas.release(rulebook, b"(goal g (hold z))", b"(step 0 base ())(result g 0)");
-//! assert_eq!(report.unwrap().steps, 1);
+//! let report = report.unwrap();
+//! assert_eq!((report.steps, report.terms, report.requested), (1, 2, 4));
 //! ```
 //!
 //! The library is code for any x86-64 processor and needs `memset` of C. A call takes at most [`STACK_BYTES`] of stack.
@@ -45,13 +46,16 @@ pub struct Report {
     pub terms: u32,
     /// The certificate's length.
     pub bytes: u32,
+    /// How often a node was requested of the store, by goals and certificate together. It was found or made, and those made are
+    /// `terms`: the others were shared. An abbreviation's use is no request. It can be far above 65,535.
+    pub requested: u32,
 }
 
-/// A report as either call returns it to C.
+/// A report as a call returns it to C: 4 counts of the rulebook alone, 5 of three texts.
 #[repr(C)]
-struct Answer {
+struct Answer<const COUNTS: usize> {
     number: u32,
-    counts: [u32; 4],
+    counts: [u32; COUNTS],
 }
 
 unsafe extern "C" {
@@ -68,7 +72,7 @@ unsafe extern "C" {
         c_words: usize,
         d: *mut u32,
         d_words: usize,
-    ) -> Answer;
+    ) -> Answer<4>;
     #[rustfmt::skip]
     fn horn_release(
         rulebook: *const u8,
@@ -85,11 +89,11 @@ unsafe extern "C" {
         c_words: usize,
         d: *mut u32,
         d_words: usize,
-    ) -> Answer;
+    ) -> Answer<5>;
 }
 
-impl Answer {
-    fn counts(self) -> Result<[u32; 4], Refusal> {
+impl<const COUNTS: usize> Answer<COUNTS> {
+    fn counts(self) -> Result<[u32; COUNTS], Refusal> {
         match self.number {
             0 => Ok(self.counts),
             n => Err(Refusal::from_number(n).expect("the calls give 0 or a number of document 01")),
@@ -137,8 +141,8 @@ impl WorkAreas {
         // SAFETY: as above; texts are only read.
         let answer =
             unsafe { horn_release(r, rulebook.len(), g, goals.len(), p, certificate.len(), a, N, b, N, c, N, d, N) };
-        let [steps, goals, terms, bytes] = answer.counts()?;
-        Ok(Report { steps, goals, terms, bytes })
+        let [steps, goals, terms, bytes, requested] = answer.counts()?;
+        Ok(Report { steps, goals, terms, bytes, requested })
     }
 }
 

@@ -17,9 +17,36 @@ fn number<T>(answer: Result<T, Refusal>) -> u32 {
 
 #[test]
 fn bench_set() {
-    assert_eq!(released(R, G, C.as_bytes()), Ok(Report { steps: 2, goals: 1, terms: 4, bytes: 48 }));
+    assert_eq!(released(R, G, C.as_bytes()), Ok(Report { steps: 2, goals: 1, terms: 4, bytes: 48, requested: 7 }));
     let declared = RulebookReport { sorts: 1, constructors: 2, predicates: 1, rules: 2 };
     assert_eq!(WorkAreas::new().rulebook(R.as_bytes()), Ok(declared));
+}
+
+/// Nodes requested: an abbreviation's definition counts, its use does not; a term that is written out counts each time.
+#[test]
+fn requests() {
+    let counted = |c: &str| released(R, G, c.as_bytes()).map(|report| (report.terms, report.requested));
+    let twice =
+        |stated: &str| format!("(step 1 more (0) (hold {stated}))(step 2 more (0) (hold {stated}))(result g 1)");
+    assert_eq!(counted(&format!("(step 0 base ()){}", twice("(s z)"))), Ok((4, 11)));
+    assert_eq!(counted(&format!("(def ?a (s z))(step 0 base ()){}", twice("?a"))), Ok((4, 9)));
+    assert_eq!(counted(&format!("{C}(def ?unused z)")), Ok((4, 8)));
+    assert_eq!(counted(&C.replace("(0)", "(0) (?x z)")), Ok((4, 8)));
+}
+
+/// 71 conclusions of 923 nodes each, which are built, another of one node, and the goal: 65,535; and one and two more.
+#[test]
+fn requests_beyond_16_bits() {
+    let (sorts, constants) = (" t".repeat(460), " c".repeat(460));
+    let rulebook = format!(
+        "(sort t)(ctor c()t)(ctor f({sorts})t)(pred q())(pred p(t t))(rule a()(q))(rule r()(p(f{constants})(f{constants})))"
+    );
+    let steps: String = (1..=71).map(|n| format!("(step {n} r())")).collect();
+    for (defs, requested) in [("", 65_535), ("(def ?c c)", 65_536), ("(def ?c c)(def ?d c)", 65_537)] {
+        let certificate = format!("(step 0 a()){steps}(result g 0){defs}");
+        let report = released(&rulebook, "(goal g(q))", certificate.as_bytes()).unwrap();
+        assert_eq!((report.steps, report.terms, report.requested), (72, 4, requested));
+    }
 }
 
 #[test]

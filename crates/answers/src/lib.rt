@@ -1,12 +1,13 @@
 // Answers of either call, and how programs write and compare them.
 
-// A report of either call, or one that is stated.
+// A report of either call, or one that is stated. The call with the rulebook alone has four counts: its fifth is 0, and is not written.
 pub struct Answer {
     pub number: u32,
     pub first: u32,
     pub second: u32,
     pub third: u32,
     pub fourth: u32,
+    pub fifth: u32,
 }
 
 // How many words of each area are 0 after an answer.
@@ -34,7 +35,10 @@ pub fn same(x: Answer, y: Answer) -> bool {
     if x.third != y.third {
         return false;
     }
-    x.fourth == y.fourth
+    if x.fourth != y.fourth {
+        return false;
+    }
+    x.fifth == y.fifth
 }
 
 // Writes a number behind a space.
@@ -43,8 +47,8 @@ pub fn number(n: u32) {
     io::print_decimal(1, n as u64);
 }
 
-// Writes an answer.
-pub fn show(x: Answer) {
+// Writes an answer of the call with the rulebook alone.
+pub fn show_alone(x: Answer) {
     number(x.number);
     number(x.first);
     number(x.second);
@@ -52,11 +56,26 @@ pub fn show(x: Answer) {
     number(x.fourth);
 }
 
+// Writes an answer of the call with three texts.
+pub fn show(x: Answer) {
+    show_alone(x);
+    number(x.fifth);
+}
+
+// Writes an answer of either call.
+pub fn show_either(alone: bool, x: Answer) {
+    if alone {
+        show_alone(x);
+        return;
+    }
+    show(x);
+}
+
 // Writes what an example answers, and what it did to the areas.
-pub fn show_example(label: &[u8], x: Answer) {
+pub fn show_example(alone: bool, label: &[u8], x: Answer) {
     io::write_all(1, label);
     io::write_all(1, b":");
-    show(x);
+    show_either(alone, x);
     if cleared(x.number) == 0 {
         io::write_all(1, b" untouched\n");
         return;
@@ -72,15 +91,15 @@ pub enum Case {
 }
 
 // The answer of a kept case beside the one that is kept. Where they differ, it says so.
-pub fn compare(label: &[u8], kept: Answer, x: Answer) -> Case {
+pub fn compare(alone: bool, label: &[u8], kept: Answer, x: Answer) -> Case {
     if same(kept, x) {
         return Case::Agrees;
     }
     io::write_all(1, label);
     io::write_all(1, b": kept");
-    show(kept);
+    show_either(alone, kept);
     io::write_all(1, b", answered");
-    show(x);
+    show_either(alone, x);
     io::write_all(1, b"\n");
     Case::Differs
 }

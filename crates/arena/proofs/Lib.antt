@@ -9,4 +9,5 @@ pub mod Interning
 pub mod Trees
 pub mod Turns
 pub mod Readings
+pub mod Behind
 pub mod Settings

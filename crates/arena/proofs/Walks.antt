@@ -163,7 +163,7 @@ unfolding occupied inUse
 occupied-none r zero all = refl
 occupied-none r (suc b) all = rw (all b (omega arith), occupied-none r b (λ i h. all i (omega arith)))
 
-occupied-same : (r r′ : ℕ → ℕ) (b : ℕ) → ((i : ℕ) → i < b → r′ i ≡ r i) → occupied r′ b ≡ occupied r b
+pub occupied-same : (r r′ : ℕ → ℕ) (b : ℕ) → ((i : ℕ) → i < b → r′ i ≡ r i) → occupied r′ b ≡ occupied r b
 unfolding occupied
 occupied-same r r′ zero same = refl
 occupied-same r r′ (suc b) same = rw (same b (omega arith), occupied-same r r′ b (λ i h. same i (omega arith)))

@@ -1,12 +1,12 @@
-// Cases of either call, as a file has them: sixteen bytes, a label, and the three texts, of which the call with the rulebook alone has one.
+// Cases of either call, as a file has them: twenty bytes, a label, and the three texts, of which the call with the rulebook alone has one.
 //
-// The sixteen bytes are the label's length, the lengths of rulebook, goals and certificate, and then a byte and four
-// numbers that each program reads in its own way. The label's length and that byte are one byte, all else two, high byte
-// first.
+// The twenty bytes are the label's length, the lengths of rulebook, goals and certificate, and then a byte and five
+// numbers that each program reads in its own way. The label's length and that byte are one byte, the fifth number is four,
+// since a count of requests to the store does not fit two, all else two, high byte first.
 ghost use Prim.Native.Nat.{_+_, _*_};
 ghost use mathlib.Core.Path.{_≡_};
 ghost use lib.ListN.{getD};
-ghost use Rattle.call_cases.specs.Heads.{pairAt};
+ghost use Rattle.call_cases.specs.Heads.{pairAt, fourAt};
 
 pub struct Head {
     pub label: u32,
@@ -18,6 +18,7 @@ pub struct Head {
     pub second: u32,
     pub third: u32,
     pub fourth: u32,
+    pub fifth: u32,
 }
 
 // A byte as a number.
@@ -34,6 +35,13 @@ fn pair(high: u8, low: u8) -> u32
     wide(high) * 256 + wide(low)
 }
 
+// A number of four bytes, the highest first.
+fn four(highest: u8, high: u8, low: u8, lowest: u8) -> u32
+    ensures { λ r. ⌜ r ≡ (highest * 256 + high) * 65536 + (low * 256 + lowest) ⌝ }
+{
+    pair(highest, high) * 65536 + pair(low, lowest)
+}
+
 // The number of one byte at a place.
 fn one_at(b: &[u8], i: usize) -> u32
     ensures { λ r. ⌜ r ≡ getD (now (b .entry)) i 0 ⌝ }
@@ -48,6 +56,18 @@ fn two_at(b: &[u8], i: usize, j: usize) -> u32
     pair(words::byte(b, i), words::byte(b, j))
 }
 
+// The number of four bytes at four places.
+fn four_at(b: &[u8], i: usize, j: usize, k: usize, l: usize) -> u32
+    ensures { λ r. ⌜ r ≡ fourAt (now (b .entry)) i j k l ⌝ }
+{
+    four(
+        words::byte(b, i),
+        words::byte(b, j),
+        words::byte(b, k),
+        words::byte(b, l),
+    )
+}
+
 // What the first bytes of a case say of it.
 pub fn head_of(b: &[u8]) -> Head
     ensures { λ r. ⌜ r ≡ record {
@@ -60,6 +80,7 @@ pub fn head_of(b: &[u8]) -> Head
       second = pairAt (now (b .entry)) 10 11;
       third = pairAt (now (b .entry)) 12 13;
       fourth = pairAt (now (b .entry)) 14 15;
+      fifth = fourAt (now (b .entry)) 16 17 18 19;
     } ⌝ }
 {
     Head {
@@ -72,6 +93,7 @@ pub fn head_of(b: &[u8]) -> Head
         second: two_at(b, 10, 11),
         third: two_at(b, 12, 13),
         fourth: two_at(b, 14, 15),
+        fifth: four_at(b, 16, 17, 18, 19),
     }
 }
 

@@ -1,9 +1,9 @@
 // Runs either call on the examples of document 01 and of its readings, over areas that held other words, and writes for each its
-// number, its four counts, and what it did to the areas.
+// number, its counts, and what it did to the areas.
 //
 // compare/replay-data writes the file `examples` (crate `call_cases` has its form) and the answers that are due. The byte
 // of a case that is the program's own says what the areas hold before, 1 for ones, else words of no sense; and 2 is added where the
-// rulebook is judged alone. Its four numbers are the words of each area that are lent.
+// rulebook is judged alone. Its first four numbers are the words of each area that are lent; the fifth says nothing.
 use areas::Before;
 use areas::Lengths;
 use call_cases::Head;
@@ -24,21 +24,22 @@ fn judge(h: Head, label: &[u8], rulebook: &[u8], goals: &[u8], certificate: &[u8
         third: h.third,
         fourth: h.fourth,
     };
+    let alone = 2 <= h.own;
     let x = lent_calls::answered(
         held_before(h.own),
-        2 <= h.own,
+        alone,
         lengths,
         rulebook,
         goals,
         certificate,
     );
-    answers::show_example(label, x);
+    answers::show_example(alone, label, x);
 }
 
 // Whether there was a case more in the file.
 fn next(fd: i32) -> bool {
-    let mut head = [0u8; 16];
-    if io::read_full(fd, &mut head) < 16 {
+    let mut head = [0u8; 20];
+    if io::read_full(fd, &mut head) < 20 {
         return false;
     }
     let h = call_cases::head_of(&head);

@@ -1,7 +1,8 @@
-// Replays kept cases with the Rust's answers (compare/cases/fixed.tsv and rulebooks.tsv) over areas that held other words.
+// Replays kept cases with the Rust's answers (compare/cases/fixed.tsv and rulebooks.tsv) over areas that held other words. The fifth
+// count of a release, which the Rust has not, is that of compare's second opinion.
 //
 // compare/replay-data writes the file `cases` (crate `call_cases` has its form). The byte of a case that is the program's own is the
-// number, with 128 added where the rulebook is judged alone; its four numbers are the counts.
+// number, with 128 added where the rulebook is judged alone; its five numbers are the counts, of which a rulebook alone has four and a 0.
 use answers::Answer;
 use answers::Case;
 use answers::Tally;
@@ -18,12 +19,14 @@ fn number_of(own: u32) -> u32 {
 
 // One case beside what was kept of it.
 fn judge(h: Head, label: &[u8], rulebook: &[u8], goals: &[u8], certificate: &[u8]) -> Case {
+    let alone = 128 <= h.own;
     let kept = Answer {
         number: number_of(h.own),
         first: h.first,
         second: h.second,
         third: h.third,
         fourth: h.fourth,
+        fifth: h.fifth,
     };
     let lengths = Lengths {
         first: 16384,
@@ -33,19 +36,19 @@ fn judge(h: Head, label: &[u8], rulebook: &[u8], goals: &[u8], certificate: &[u8
     };
     let x = lent_calls::answered(
         areas::garbage(),
-        128 <= h.own,
+        alone,
         lengths,
         rulebook,
         goals,
         certificate,
     );
-    answers::compare(label, kept, x)
+    answers::compare(alone, label, kept, x)
 }
 
 // The next case of the file.
 fn next(fd: i32) -> Case {
-    let mut head = [0u8; 16];
-    if io::read_full(fd, &mut head) < 16 {
+    let mut head = [0u8; 20];
+    if io::read_full(fd, &mut head) < 20 {
         return Case::End;
     }
     let h = call_cases::head_of(&head);

@@ -3,7 +3,7 @@
 use answers::Answer;
 use answers::number;
 use answers::same;
-use answers::show;
+use answers::show_either;
 use areas::Lengths;
 
 // The case at hand: the lengths of its three texts and of its four areas; and what was counted so far.
@@ -44,9 +44,9 @@ fn show_difference(alone: bool, s: State, stated: Answer, x: Answer) {
     } else {
         io::write_all(1, b" release: stated");
     }
-    show(stated);
+    show_either(alone, stated);
     io::write_all(1, b", answered");
-    show(x);
+    show_either(alone, x);
     io::write_all(1, b"\n");
 }
 
@@ -71,7 +71,16 @@ pub fn ran(alone: bool, s: State, stated: Answer, x: Answer) -> State {
     wrong(after)
 }
 
-// A number, and four counts behind it; where they are left out they are 0.
+// The number behind a space, or 0 at the end of the line.
+fn behind(list: &[u8], at: u32, to: u32) -> u32 {
+    if to <= at {
+        return 0;
+    }
+    case_text::number(list, words::plus(at, 1)).value
+}
+
+// A number, and the counts behind it: five for three texts, four for a rulebook alone, whose answer has a fifth of 0. Where they are left
+// out they are 0.
 pub fn stated(list: &[u8], from: u32, to: u32) -> Answer {
     let n = case_text::number(list, from);
     if to <= n.at {
@@ -81,18 +90,21 @@ pub fn stated(list: &[u8], from: u32, to: u32) -> Answer {
             second: 0,
             third: 0,
             fourth: 0,
+            fifth: 0,
         };
     }
     let first = case_text::number(list, words::plus(n.at, 1));
     let second = case_text::number(list, words::plus(first.at, 1));
     let third = case_text::number(list, words::plus(second.at, 1));
     let fourth = case_text::number(list, words::plus(third.at, 1));
+    let fifth = behind(list, fourth.at, to);
     Answer {
         number: n.value,
         first: first.value,
         second: second.value,
         third: third.value,
         fourth: fourth.value,
+        fifth,
     }
 }
 

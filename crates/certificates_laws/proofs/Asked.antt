@@ -10,7 +10,7 @@ use Rattle.horn.specs.Refusals.{Refusal, Result, number, variableName}
 use Rattle.horn.specs.Names.{Name, questioned, bare}
 use Rattle.horn.specs.Tokens.{Stream, Token}
 use Rattle.horn.specs.NestedLists.{Items}
-use Rattle.horn.specs.StoredTerms.{Term}
+use Rattle.horn.specs.StoredTerms.{Store}
 use Rattle.horn.specs.Checker as definition
 use Rattle.horn.proofs.Equality.{case}
 use Rattle.words.specs.Parts.{part}
@@ -29,19 +29,19 @@ use Rattle.asking.specs.Asking.{inForm, atomDue}
 use Rattle.forms.specs.Forms.{defNamed}
 
 -- What was asked for and tested at once, where the definition does one after the other.
-pub lifted-tested : {S A B C D : Type 0} {Q : A → B → Type 0} {R : C → S → D → Type 0} {o : Outcome A} {s : S} (ts : List Term) (m : Result B) (g : B → Bool)
+pub lifted-tested : {S A B C D : Type 0} {Q : A → B → Type 0} {R : C → S → D → Type 0} {o : Outcome A} {s : S} (ts : Store) (m : Result B) (g : B → Bool)
     (r : Refusal)
-    (f : A × S → Did S C) (f′ : B → List Term → Result D)
+    (f : A × S → Did S C) (f′ : B → Store → Result D)
     → Answers Q o (refusals._>>=_ m (λ b. refusals._>>=_ (refusals.need (g b) r) (λ _. refusals.ok b)))
     → ((a : A) (b : B) → Q a b → Simulates R (f (a, s)) (f′ b ts))
     → Simulates R (leaving._>>=_ (o leaving s) f)
-    (refusals._>>=_ {A = B × List Term} (refusals._>>=_ m (λ b. refusals.ok (b, ts)))
-    (λ p. refusals._>>=_ {A = Unit {0} × List Term} (refusals._>>=_ (refusals.need (g (p .0)) r) (λ u. refusals.ok (u, p .1))) (λ u. f′ (p .0) (u .1))))
+    (refusals._>>=_ {A = B × Store} (refusals._>>=_ m (λ b. refusals.ok (b, ts)))
+    (λ p. refusals._>>=_ {A = Unit {0} × Store} (refusals._>>=_ (refusals.need (g (p .0)) r) (λ u. refusals.ok (u, p .1))) (λ u. f′ (p .0) (u .1))))
 unfolding refusals._>>=_ refusals.need
 lifted-tested {A} {Q} {R} {s} ts (refusals.ok b) g r f f′ h k = by (g b) h where
   by : {o : Outcome A} (t : Bool) → Answers Q o (refusals._>>=_ (refusals.need t r) (λ _. refusals.ok b))
       → Simulates R (leaving._>>=_ (o leaving s) f)
-      (refusals._>>=_ {A = Unit {0} × List Term} (refusals._>>=_ (refusals.need t r) (λ u. refusals.ok (u, ts))) (λ u. f′ b (u .1)))
+      (refusals._>>=_ {A = Unit {0} × Store} (refusals._>>=_ (refusals.need t r) (λ u. refusals.ok (u, ts))) (λ u. f′ b (u .1)))
   by true (both-ok q) = k _ _ q
   by false (both-refuse e) = refuse e
 lifted-tested ts (refusals.refused r′) g r f f′ (both-refuse e) k = refuse e

@@ -11,7 +11,7 @@ use Rattle.horn.specs.Names.{Name, questioned, bare, someOf}
 use Rattle.horn.specs.Tokens.{Stream, Token}
 use Rattle.horn.specs.NestedLists.{Item, Items, _then_}
 use Rattle.horn.specs.Rulebook.{Theory}
-use Rattle.horn.specs.StoredTerms.{Term}
+use Rattle.horn.specs.StoredTerms.{Term, Store}
 use Rattle.horn.specs.Checker as checker
 use Rattle.horn.specs.Checker.{Goal, Def, def, isDef, askWord}
 use Rattle.horn.specs.Matching.{Step}
@@ -51,9 +51,9 @@ abbrev defined : Progress → Name → Term → Progress
 defined now name u = record { defs = now .defs ++ (def name u ∷ []); openGoals = now .openGoals; steps = now .steps }
 
 -- What was read of an abbreviation, and where it was written.
-data DefRead (es : Entries) (th : Theory) (certificate table : List ℕ) (tally : Tally) (now : Progress) (K : Stream Token → Type 0) (ts : List Term) :
-    Tally × Reader → Areas × List ℕ → Progress × List Term → Type 0 where
-  def-read : {s t k : ℕ} {r : Reader} {store stack : List ℕ} {u : Term} {us : List Term}
+data DefRead (es : Entries) (th : Theory) (certificate table : List ℕ) (tally : Tally) (now : Progress) (K : Stream Token → Type 0) (ts : Store) :
+    Tally × Reader → Areas × List ℕ → Progress × Store → Type 0 where
+  def-read : {s t k : ℕ} {r : Reader} {store stack : List ℕ} {u : Term} {us : Store}
       → s < 4294967296
       → t < 4294967296
       → Means es th us k u
@@ -83,7 +83,7 @@ beside-live live (leave q) k = leave (k _ _ _ q)
 
 module _ {rules heap : List ℕ} {es : Entries} {bound : ℕ} {th : Theory} (h : Holds rules heap es bound th) (high : bound ≤ places.theoryEnd)
     (goalsText certificate : List ℕ) (short : length certificate ≤ 32768) {goals : List Goal} {tally : Tally} (now : Progress)
-    {ts : List Term} {store live table : List ℕ} (stack : List ℕ) (stored : Stored es th document01 indexPlaces store ts) (long : length stack ≡ 16384)
+    {ts : Store} {store live table : List ℕ} (stack : List ℕ) (stored : Stored es th document01 indexPlaces store ts) (long : length stack ≡ 16384)
     (keep : Keeps places.bindings heap live) where
   -- The form is read whole before the table is written.
   def-reads : {Recorded : ℕ → ℕ → ℕ → Step → Type 0} (K : Stream Token → Type 0) (is : Items) (r : Reader)
@@ -114,7 +114,7 @@ module _ {rules heap : List ℕ} {es : Entries} {bound : ℕ} {th : Theory} (h :
       (around live (walk.defForm certificate rules live tally r store stack table)) (definition.defForm document01 th now is ts)
   def-law item rest is r so-far same at-items =
       beside-live live (knowing (def-reads (RestComes rest Any) is r (so-far .tables) at-items)) (λ x areas y p. by (p .0) (p .1)) where
-        by : {x : Tally × Reader} {areas : Areas × List ℕ} {y : Progress × List Term}
+        by : {x : Tally × Reader} {areas : Areas × List ℕ} {y : Progress × Store}
             → DefRead es th certificate table tally now (RestComes rest Any) ts x areas y
             → definition.defForm document01 th now is ts ≡ ok y
             → Standing rules heap es bound th goalsText certificate goals rest x ((areas .0, live), areas .1) y

@@ -9,7 +9,7 @@ use Rattle.horn.specs.Refusals.{number}
 use Rattle.horn.specs.Setting.{document01}
 use Rattle.horn.specs.NestedLists.{group, Items, _then_}
 use Rattle.horn.specs.Rulebook.{Theory}
-use Rattle.horn.specs.StoredTerms.{Term}
+use Rattle.horn.specs.StoredTerms.{Store}
 use Rattle.horn.specs.Checker as checker
 use Rattle.horn.specs.Checker.{Goal}
 use Rattle.horn.specs.Certificate as definition
@@ -43,7 +43,7 @@ use Rattle.certificates_laws.proofs.Recording.{step-form-law}
 -- From a reader before some forms, with so many turns.
 abbrev pub Reads : List ℕ → List ℕ → Entries → ℕ → Theory → List ℕ → List ℕ → List Goal → ℕ → Type 0
 Reads rules heap es bound th goalsText certificate goals fuel =
-    (is : Items) (tally : Tally) (r : Reader) (areas : AllAreas) (now : Progress) (ts : List Term) → suc (itemCount is) ≤ fuel
+    (is : Items) (tally : Tally) (r : Reader) (areas : AllAreas) (now : Progress) (ts : Store) → suc (itemCount is) ≤ fuel
     → Standing rules heap es bound th goalsText certificate goals is (tally, r) areas (now, ts)
     → Simulates (Finished rules heap es bound th goalsText certificate goals)
     (walk.formsFrom fuel certificate goalsText rules tally r (areas .0 .0 .0) (areas .0 .0 .1) (areas .0 .1) (areas .1))
@@ -51,7 +51,7 @@ Reads rules heap es bound th goalsText certificate goals fuel =
 
 module _ {rules heap : List ℕ} {es : Entries} {bound : ℕ} {th : Theory} (h : Holds rules heap es bound th) (high : bound ≤ places.theoryEnd)
     (w : WellFormed th) (goalsText certificate : List ℕ) (short : length certificate ≤ 32768) {goals : List Goal} where
-  module _ (inner rest : Items) {tally : Tally} {r : Reader} {areas : AllAreas} {now : Progress} {ts : List Term}
+  module _ (inner rest : Items) {tally : Tally} {r : Reader} {areas : AllAreas} {now : Progress} {ts : Store}
       (s : Standing rules heap es bound th goalsText certificate goals (group inner then rest) (tally, r) areas (now, ts)) where
     -- The form by its head.
     by-head : {k : walk-keyword.Keyword} {k′ : definition.FormWord} (is : Items) (q : Reader) → Headed k k′
@@ -85,7 +85,7 @@ module _ {rules heap : List ℕ} {es : Entries} {bound : ℕ} {th : Theory} (h :
 
   -- One turn, by what comes at top level.
   one-turn : (fuel : ℕ) → Reads rules heap es bound th goalsText certificate goals fuel
-      → {is : Items} {o : Outcome Top} (tally : Tally) (r : Reader) (areas : AllAreas) (now : Progress) (ts : List Term) → itemCount is ≤ fuel
+      → {is : Items} {o : Outcome Top} (tally : Tally) (r : Reader) (areas : AllAreas) (now : Progress) (ts : Store) → itemCount is ≤ fuel
       → Standing rules heap es bound th goalsText certificate goals is (tally, r) areas (now, ts)
       → FormMet certificate Any 0 is o
       → Simulates (Finished rules heap es bound th goalsText certificate goals)

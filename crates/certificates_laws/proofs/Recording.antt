@@ -6,7 +6,7 @@ use Rattle.horn.specs.Refusals.{ok}
 use Rattle.horn.specs.Setting.{document01}
 use Rattle.horn.specs.NestedLists.{Item, Items, _then_}
 use Rattle.horn.specs.Rulebook.{Theory}
-use Rattle.horn.specs.StoredTerms.{Term}
+use Rattle.horn.specs.StoredTerms.{Store}
 use Rattle.horn.specs.Checker.{Goal}
 use Rattle.horn.specs.Matching.{step, judgmentOf, ruleOf}
 use Rattle.horn.specs.Certificate as definition
@@ -26,7 +26,7 @@ use Rattle.terms_laws.proofs.Following.{giving-before}
 use Rattle.certificates_laws.proofs.Standing.{SoFar, Standing, StepRecorded, between-longer}
 
 module _ {rules heap : List ℕ} {es : Entries} {bound : ℕ} {th : Theory} (goalsText certificate : List ℕ) {goals : List Goal} {tally : Tally} (now : Progress)
-    {ts : List Term} {table : List ℕ} (store stack live : List ℕ) where
+    {ts : Store} {table : List ℕ} (store stack live : List ℕ) where
   -- From what was read of it.
   pub step-form-law : (item : Item) (rest is : Items) (r : Reader)
       → SoFar rules heap es bound th goalsText certificate goals ts table tally now (item then rest)

@@ -13,7 +13,7 @@ use Rattle.horn.specs.Names.{Name, first}
 use Rattle.horn.specs.Tokens.{Stream, Token}
 use Rattle.horn.specs.NestedLists.{Item, Items, _then_}
 use Rattle.horn.specs.Rulebook.{Theory}
-use Rattle.horn.specs.StoredTerms.{Term}
+use Rattle.horn.specs.StoredTerms.{Term, Store}
 use Rattle.horn.specs.Checker as checker
 use Rattle.horn.specs.Checker.{Def, Goal, isGoal, goalJudgment}
 use Rattle.horn.specs.Matching.{Step, judgmentOf}
@@ -49,8 +49,8 @@ closed now name = record { defs = now .defs; openGoals = without name (now .open
 
 -- What was read of a result, and what was written.
 data ResultRead (certificate table : List ℕ) (Means : ℕ → Term → Type 0) (tally : Tally) (goals : List Goal) (now : Progress) (K : Stream Token → Type 0)
-    (ts : List Term) :
-    Tally × Reader → List ℕ → Progress × List Term → Type 0 where
+    (ts : Store) :
+    Tally × Reader → List ℕ → Progress × Store → Type 0 where
   result-read : {e w : ℕ} {r : Reader} {key : Name} {g : Goal}
       → OpenAt table (goalBuckets + defBuckets) Means goals key e w g
       → At certificate K 0 r
@@ -86,7 +86,7 @@ module _ {goalsText certificate table : List ℕ} {Means : ℕ → Term → Type
 
 module _ {rules heap : List ℕ} {es : Entries} {bound : ℕ} {th : Theory} (h : Holds rules heap es bound th)
     (goalsText certificate : List ℕ) {goals : List Goal} {tally : Tally} (now : Progress)
-    {ts : List Term} {store live table : List ℕ} (stack : List ℕ) (stored : Stored es th document01 indexPlaces store ts) (long : length stack ≡ 16384)
+    {ts : Store} {store live table : List ℕ} (stack : List ℕ) (stored : Stored es th document01 indexPlaces store ts) (long : length stack ≡ 16384)
     (keep : Keeps places.bindings heap live) where
   result-reads : (K : Stream Token → Type 0) (is : Items) (r : Reader)
       → Tables goalsText certificate table defBuckets (Means es th ts) (StepRecorded rules heap es bound th ts) tally goals (now .openGoals)
@@ -112,7 +112,7 @@ module _ {rules heap : List ℕ} {es : Entries} {bound : ℕ} {th : Theory} (h :
       (beside ((store, stack), live) (walk.resultForm certificate goalsText tally r table)) (definition.resultForm document01 th now is ts)
   result-law item rest is r so-far same at-items =
       aside ((store, stack), live) (knowing (result-reads (RestComes rest Any) is r (so-far .tables) at-items)) (λ x left y p. by (p .0) (p .1)) where
-        by : {x : Tally × Reader} {left : List ℕ} {y : Progress × List Term}
+        by : {x : Tally × Reader} {left : List ℕ} {y : Progress × Store}
             → ResultRead certificate table (Means es th ts) tally goals now (RestComes rest Any) ts x left y
             → definition.resultForm document01 th now is ts ≡ ok y
             → Standing rules heap es bound th goalsText certificate goals rest x (((store, stack), live), left) y

@@ -7,7 +7,7 @@ use lib.ListN.{length}
 use Rattle.horn.specs.Setting.{document01}
 use Rattle.horn.specs.NestedLists.{Items}
 use Rattle.horn.specs.Rulebook.{Theory}
-use Rattle.horn.specs.StoredTerms.{Term}
+use Rattle.horn.specs.StoredTerms.{Store}
 use Rattle.horn.specs.Checker.{Goal}
 use Rattle.horn.specs.Matching.{Step, judgmentOf, ruleOf}
 use Rattle.horn.specs.Certificate.{Progress}
@@ -28,21 +28,21 @@ use Rattle.nodes.specs.Limits.{indexPlaces, defBuckets}
 use Rattle.certificates.specs.Certificates.{AllAreas}
 
 -- The store's count is the number of its trees.
-pub terms-counted : {es : Entries} {th : Theory} {store : List ℕ} {ts : List Term} → Stored es th document01 indexPlaces store ts → count store ≡ length ts
-terms-counted {es} {th} {store} {ts} st = trees-counted (symbolAt es th) (Used es) (document01 .nodes) (document01 .nodeWords) indexPlaces store ts (st .trees)
+pub terms-counted : {es : Entries} {th : Theory} {store : List ℕ} {ts : Store} → Stored es th document01 indexPlaces store ts → count store ≡ length (ts .terms)
+terms-counted {es} {th} {store} {ts} st = trees-counted (symbolAt es th) (Used es) (document01 .nodes) (document01 .nodeWords) indexPlaces store (ts .terms) (st .keeps .trees)
 
 module _ (rules heap : List ℕ) (es : Entries) (bound : ℕ) (th : Theory) where
   -- What the three words of a step say of it.
-  pub record StepRecorded (ts : List Term) (j r p : ℕ) (s : Step) : Type 0 where
+  pub record StepRecorded (ts : Store) (j r p : ℕ) (s : Step) : Type 0 where
     pub means : Means es th ts j (judgmentOf s)
     pub by-rule : RuleAt rules heap es bound r (ruleOf s)
 
   module _ (goalsText certificate : List ℕ) (goals : List Goal) where
     -- The table holds what the definition has so far, and what is left of the certificate finds room in it.
-    abbrev pub SoFar : List Term → List ℕ → Tally → Progress → Items → Type 0
+    abbrev pub SoFar : Store → List ℕ → Tally → Progress → Items → Type 0
     SoFar ts table tally now left = Between goalsText certificate 8192 32768 defBuckets (Means es th ts) (StepRecorded ts) table tally goals now left
 
-    pub record Standing (left : Items) (x : Tally × Reader) (areas : AllAreas) (y : Progress × List Term) : Type 0 where
+    pub record Standing (left : Items) (x : Tally × Reader) (areas : AllAreas) (y : Progress × Store) : Type 0 where
       pub reader : At certificate (RestComes left Any) 0 (x .1)
       pub between : SoFar (y .1) (areas .1) (x .0) (y .0) left
       pub stored : Stored es th document01 indexPlaces (areas .0 .0 .0) (y .1)
@@ -50,13 +50,13 @@ module _ (rules heap : List ℕ) (es : Entries) (bound : ℕ) (th : Theory) wher
       pub keeps : Keeps places.bindings heap (areas .0 .1)
 
     -- After the last form.
-    pub record Finished (tally : Tally) (areas : AllAreas) (y : Progress × List Term) : Type 0 where
+    pub record Finished (tally : Tally) (areas : AllAreas) (y : Progress × Store) : Type 0 where
       pub tables : Tables goalsText certificate (areas .1) defBuckets (Means es th (y .1)) (StepRecorded (y .1)) tally goals (y .0 .openGoals) (y .0 .defs)
           (y .0 .steps)
       pub stored : Stored es th document01 indexPlaces (areas .0 .0 .0) (y .1)
 
 -- The store grew.
-pub between-longer : {rules heap : List ℕ} {es : Entries} {bound : ℕ} {th : Theory} {goalsText certificate : List ℕ} {goals : List Goal} {ts us : List Term}
+pub between-longer : {rules heap : List ℕ} {es : Entries} {bound : ℕ} {th : Theory} {goalsText certificate : List ℕ} {goals : List Goal} {ts us : Store}
     {table : List ℕ} {tally : Tally} {now : Progress} {left : Items} → Longer ts us
     → SoFar rules heap es bound th goalsText certificate goals ts table tally now left
     → SoFar rules heap es bound th goalsText certificate goals us table tally now left

@@ -10,7 +10,7 @@ use Rattle.horn.specs.Setting.{document01}
 use Rattle.horn.specs.Tokens.{tokens}
 use Rattle.horn.specs.NestedLists.{Items, items}
 use Rattle.horn.specs.Rulebook.{Theory}
-use Rattle.horn.specs.StoredTerms.{Term}
+use Rattle.horn.specs.StoredTerms.{Store}
 use Rattle.horn.specs.Checker as checker
 use Rattle.horn.specs.Checker.{Goal}
 use Rattle.horn.specs.Matching.{Step}
@@ -37,7 +37,7 @@ use Rattle.certificates_laws.proofs.Standing.{StepRecorded}
 use Rattle.certificates_laws.proofs.Forms.{forms-law}
 
 -- The certificate was read: how many steps and goals there are, and the terms that the store holds.
-pub record CertificateRead (es : Entries) (th : Theory) (goals : List Goal) (tally : Tally) (areas : AllAreas) (y : List Step × List Term) : Type 0 where
+pub record CertificateRead (es : Entries) (th : Theory) (goals : List Goal) (tally : Tally) (areas : AllAreas) (y : List Step × Store) : Type 0 where
   pub steps-are : tally .steps ≡ length (y .0)
   pub goals-are : tally .goals ≡ length goals
   pub stored : Stored es th document01 indexPlaces (areas .0 .0 .0) (y .1)
@@ -45,7 +45,7 @@ pub record CertificateRead (es : Entries) (th : Theory) (goals : List Goal) (tal
 -- From where the goals were read.
 pub certificate-law : {rules heap : List ℕ} {es : Entries} {bound : ℕ} {th : Theory} → Holds rules heap es bound th → bound ≤ places.theoryEnd → WellFormed th
     → (goalsText certificate : List ℕ) → length certificate ≤ 32768
-    → {table : List ℕ} {tally : Tally} {goals : List Goal} {left : Items} {ts : List Term}
+    → {table : List ℕ} {tally : Tally} {goals : List Goal} {left : Items} {ts : Store}
     → Gathering goalsText certificate 8192 32768 defBuckets (Means es th ts) (StepRecorded rules heap es bound th ts) table tally goals left
     → {store live : List ℕ} (stack : List ℕ) → Stored es th document01 indexPlaces store ts → length stack ≡ 16384 → Keeps places.bindings heap live
     → Simulates (CertificateRead es th goals) (walk.certificate certificate goalsText rules tally store stack live table)

@@ -2,7 +2,8 @@
 use Prim.Native.Nat.{ℕ, _+_}
 use mathlib.Core.List.{List}
 use Rattle.words.specs.Parts.{cleared}
-use Rattle.arena.specs.Store.{count, emptied}
+use Rattle.arena.specs.Store.{count}
+use Rattle.requests.specs.Requests.{emptied, requestedOf}
 use Rattle.outcomes.specs.Outcomes.{Outcome, ok, refused}
 use Rattle.outcomes.specs.Leaving.{Did, _leaving_, _>>=_}
 use Rattle.theory.specs.Walks as walks
@@ -14,7 +15,7 @@ use Rattle.certificates.specs.Certificates.{AllAreas, around, certificate}
 use Rattle.checker.specs.declared.Counts.{Counts}
 use Rattle.checker.specs.declared.Checked.{Checked}
 use Rattle.checker.specs.declared.Checked.the-variants as checks
-use Rattle.nodes.specs.Limits.{nodeLimit, indexPlaces, defBuckets}
+use Rattle.nodes.specs.Limits.{nodeLimit, wordLimit, indexPlaces, defBuckets}
 
 -- What each case of an answer says: the counts of an accepted release, or a refusal by its number.
 abbrev pub checked : Checked → Outcome Counts
@@ -25,15 +26,21 @@ checked (checks.Refused n) = refused n
 abbrev pub besideStore : {A : Type 0} → List ℕ → Did walks.AllAreas A → Did AllAreas A
 besideStore store (o leaving (table, stack, heap)) = o leaving (((store, stack), heap), table)
 
--- "Terms" is what the store holds at the end.
+-- "Terms" is what the store holds at the end; L1: "nodes requested" is what was asked of it.
 abbrev pub countsOf : Tally → List ℕ → Counts
-countsOf tally store = record { steps = tally .steps; goals = tally .goals; terms = count store }
+countsOf tally store =
+    record {
+      steps = tally .steps;
+      goals = tally .goals;
+      terms = count store;
+      requested = requestedOf store nodeLimit wordLimit indexPlaces;
+    }
 
 -- "The rulebook whole, the goals whole, the certificate." The store and the table begin empty; the table's area was the rulebook's.
 unfoldable pub check : List ℕ → List ℕ → List ℕ → List ℕ → List ℕ → List ℕ → List ℕ → Did AllAreas Counts
 check rulebook text certificateText store table stack heap = do
   (_, (((store, stack), heap), table)) ← besideStore store (theory rulebook table stack heap)
   (tally, (((store, stack), heap), table)) ← around heap
-      (goals.goals text rulebook heap (noneYet defBuckets) (emptied store nodeLimit indexPlaces) stack (cleared (goalBuckets + defBuckets) table))
+      (goals.goals text rulebook heap (noneYet defBuckets) (emptied store nodeLimit wordLimit indexPlaces) stack (cleared (goalBuckets + defBuckets) table))
   (tally, (((store, stack), heap), table)) ← certificate certificateText text rulebook tally store stack heap table
   ok (countsOf tally store) leaving (((store, stack), heap), table)

@@ -4,18 +4,32 @@ ghost use Rattle.outcomes.specs.Leaving.{_leaving_};
 ghost use Rattle.checker.specs.Checker as models;
 use goals::Forms;
 use nodes::limits;
+use tables::Tally;
 use theory::Judged;
 
-// How many steps and goals an accepted release has, and how many terms the store holds at its end.
+// How many steps and goals an accepted release has, how many terms the store holds at its end, and how many requests to it were met.
 pub struct Counts {
     pub steps: u32,
     pub goals: u32,
     pub terms: u32,
+    pub requested: u32,
 }
 
 pub enum Checked {
     Accepted(Counts),
     Refused(u32),
+}
+
+// The counts once all forms are read.
+fn counts_of(last: Tally, store: &[u32]) -> Counts
+    ensures { λ r. ⌜ r ≡ models.countsOf last (now (store .entry)) ⌝ }
+{
+    Counts {
+        steps: last.steps,
+        goals: last.goals,
+        terms: arena::node_count(store),
+        requested: requests::requested(store, limits::NODES, limits::WORDS, limits::PLACES),
+    }
 }
 
 // The rulebook, the goals, the certificate. The first refusal met is given.
@@ -36,7 +50,7 @@ pub fn check(
     if let Judged::Refused(n) = judged {
         return Checked::Refused(n);
     }
-    arena::empty(store, limits::NODES, limits::PLACES);
+    requests::empty(store, limits::NODES, limits::WORDS, limits::PLACES);
     let none = tables::begin(table, limits::DEF_BUCKETS);
     let gathered = goals::goals(text, rulebook, heap, table, store, stack, none);
     let Forms::All(tally) = gathered else {
@@ -55,9 +69,5 @@ pub fn check(
     let Forms::All(last) = all else {
         return Checked::Refused(goals::forms_refusal(all));
     };
-    Checked::Accepted(Counts {
-        steps: last.steps,
-        goals: last.goals,
-        terms: arena::node_count(store),
-    })
+    Checked::Accepted(counts_of(last, store))
 }

@@ -1,21 +1,25 @@
 -- Rulebook, goals and certificate, one after the other, are the definition's, whatever the areas held. Assumes nothing.
 use Prim.Native.Nat.{ℕ, _+_, _≤_}
 use mathlib.Core.Path.{_≡_, refl, ap, sym, subst, _∙_}
-use mathlib.Core.List.{List, []}
+use mathlib.Core.List.{List}
 use native.Mathlib.Omega.{arith}
 use lib.ListN.{length}
 use Rattle.horn.specs.Refusals.{Result, ok, _>>=_}
 use Rattle.horn.specs.Setting.{document01}
 use Rattle.horn.specs.Rulebook as definition
 use Rattle.horn.specs.Rulebook.{Theory}
-use Rattle.horn.specs.StoredTerms.{Term, Store}
+use Rattle.horn.specs.StoredTerms.{Store, emptyStore}
 use Rattle.horn.specs.Checker.{Goal, goalsOf}
 use Rattle.horn.specs.Matching.{Step}
 use Rattle.horn.specs.Certificate.{certificateOf}
 use Rattle.horn.specs.Calls.{Report, report}
 use Rattle.horn.proofs.SoundnessRulebook.{theory-formed}
+use Rattle.horn.proofs.Arising.{last-store}
+use Rattle.horn.proofs.Requests.{arising-made}
+use Rattle.horn.proofs.RequestsBound.{few-requests}
 use Rattle.words.specs.Parts.{cleared}
-use Rattle.arena.specs.Store.{areaWords, emptied}
+use Rattle.requests.specs.Requests.{emptied, requestedOf}
+use Rattle.requests.proofs.Counting.{requested-count}
 use Rattle.arena.proofs.Settings.{limits-01}
 use Rattle.outcomes.specs.Outcomes as outcomes
 use Rattle.outcomes.specs.Leaving as leaving
@@ -24,16 +28,17 @@ use Rattle.items.specs.Places as places
 use Rattle.theory.specs.Walks as walks
 use Rattle.theory.specs.declared.Counts as declared
 use Rattle.outcomes.specs.Simulation.{Simulates, refuse, leave, bind, knowing}
+use Rattle.theory_laws.specs.Representation.{Entries}
 use Rattle.theory_laws.proofs.Frames.{Keeps, keeps-all}
 use Rattle.theory_laws.proofs.Whole.{Judged, theory-law}
-use Rattle.theory_reading.proofs.Stored.{Longer, Stored, nothing-stored, means-longer}
+use Rattle.theory_reading.proofs.Stored.{Stored, nothing-stored, means-longer}
 use Rattle.tables.specs.Words.{goalBuckets, noneYet}
-use Rattle.nodes.specs.Limits.{nodeLimit, indexPlaces, defBuckets}
+use Rattle.nodes.specs.Limits.{nodeLimit, wordLimit, indexPlaces, defBuckets}
 use Rattle.goals.specs.Goals as goals
-use Rattle.goals_laws.proofs.Goals.{GoalsRead, goals-whole}
+use Rattle.goals_laws.proofs.Goals.{goals-whole}
 use Rattle.certificates.specs.Certificates.{AllAreas, around, certificate}
 use Rattle.certificates_laws.proofs.Standing.{StepRecorded, terms-counted}
-use Rattle.certificates_laws.proofs.Whole.{CertificateRead, certificate-law}
+use Rattle.certificates_laws.proofs.Whole.{certificate-law}
 use Rattle.checker.specs.Checker as walk
 use Rattle.checker.specs.Checker.{besideStore}
 use Rattle.checker.specs.declared.Counts.{Counts}
@@ -42,13 +47,13 @@ use Rattle.checker.specs.declared.Counts.{Counts}
 unfoldable pub judged : List ℕ → List ℕ → List ℕ → Result Report
 judged rulebook text certificateText =
     definition.theory rulebook >>= λ th.
-    goalsOf document01 th text [] >>= λ p.
+    goalsOf document01 th text emptyStore >>= λ p.
     certificateOf document01 th (p .0) certificateText (p .1) >>= λ q.
-    ok (report 0 (length (q .0)) (length (p .0)) (length (q .1)) (length certificateText))
+    ok (report 0 (length (q .0)) (length (p .0)) (length (q .1 .terms)) (length certificateText) (length (q .1 .requests)))
 
 -- The counts of an accepted release are those of its report.
 abbrev pub Released : ℕ → Counts → AllAreas → Report → Type 0
-Released bytes c areas q = q ≡ report 0 (c .steps) (c .goals) (c .terms) bytes
+Released bytes c areas q = q ≡ report 0 (c .steps) (c .goals) (c .terms) bytes (c .requested)
 
 -- What the rulebook's walks leave, beside the store that they are not lent.
 beside-store : {Q : declared.Counts → walks.AllAreas → Theory → Type 0} {m : Did walks.AllAreas declared.Counts} {m′ : Result Theory} (store : List ℕ)
@@ -66,30 +71,45 @@ around-heap heap (leave q) = leave (refl, q)
 
 module _ (rulebook text certificateText : List ℕ) (short-rulebook : length rulebook ≤ 8192) (short-text : length text ≤ 8192)
     (short : length certificateText ≤ 32768) where
+  -- The requests that the store's area counts are the definition's: they fit 32 bits.
+  requests-counted : {th : Theory} {goals : List Goal} {steps : List Step} {s u : Store} → definition.theory rulebook ≡ ok th
+      → goalsOf document01 th text emptyStore ≡ ok (goals, s)
+      → certificateOf document01 th goals certificateText s ≡ ok (steps, u)
+      → {es : Entries} {store : List ℕ} → Stored es th document01 indexPlaces store u
+      → requestedOf store nodeLimit wordLimit indexPlaces ≡ length (u .requests)
+  unfolding document01
+  requests-counted e read taken st =
+      let made = arising-made (last-store document01 rulebook text certificateText e read taken) in
+      let all = requested-count limits-01 (st .keeps) made in
+      let few = few-requests document01 rulebook text certificateText short-rulebook short-text short e read taken in
+      all ∙ omega arith
+
   -- The goals and the certificate, under a theory that its area holds.
   after-rulebook : (th : Theory) → definition.theory rulebook ≡ ok th → (c : declared.Counts) (store table stack heap : List ℕ) → length store ≡ 16384
       → Judged rulebook c (table, stack, heap) th
       → Simulates (Released (length certificateText))
       (leaving._>>=_ (around heap
-      (goals.goals text rulebook heap (noneYet defBuckets) (emptied store nodeLimit indexPlaces) stack (cleared (goalBuckets + defBuckets) table))) (λ p.
+      (goals.goals text rulebook heap (noneYet defBuckets) (emptied store nodeLimit wordLimit indexPlaces) stack (cleared (goalBuckets + defBuckets) table))) (λ p.
       leaving._>>=_ (certificate certificateText text rulebook (p .0) (p .1 .0 .0 .0) (p .1 .0 .0 .1) (p .1 .0 .1) (p .1 .1)) (λ q.
       outcomes.ok (walk.countsOf (q .0) (q .1 .0 .0 .0)) leaving q .1)))
-      (goalsOf document01 th text [] >>= λ p.
+      (goalsOf document01 th text emptyStore >>= λ p.
       certificateOf document01 th (p .0) certificateText (p .1) >>= λ q.
-      ok (report 0 (length (q .0)) (length (p .0)) (length (q .1)) (length certificateText)))
+      ok (report 0 (length (q .0)) (length (p .0)) (length (q .1 .terms)) (length certificateText) (length (q .1 .requests))))
   unfolding document01
   after-rulebook th e c store table stack heap long j =
       bind _ _
-      (around-heap heap
+      (knowing (around-heap heap
       (goals-whole (j .holds) text certificateText (StepRecorded rulebook heap (j .entries) (j .top) th)
       (λ ts us k r p s g m. record { means = means-longer g (m .means); by-rule = m .by-rule })
-      short-text (emptied store nodeLimit indexPlaces) stack table (j .vars-long)
-      (nothing-stored (j .entries) th document01 indexPlaces limits-01 store (omega arith)) (j .counts-long)))
-      (λ tally s y g.
+      short-text (emptied store nodeLimit wordLimit indexPlaces) stack table (j .vars-long)
+      (nothing-stored (j .entries) th document01 indexPlaces limits-01 store (omega arith)) (j .counts-long))))
+      (λ tally s y (g, read).
       bind _ _
+      (knowing
       (certificate-law (j .holds) (j .high) (theory-formed rulebook e) text certificateText short (g .1 .gathering) (s .0 .0 .1) (g .1 .stored) (g .1 .long)
-      (subst (Keeps places.bindings heap) (sym (g .0)) keeps-all))
-      (λ last areas q k. leave (rw (k .steps-are, k .goals-are, terms-counted (k .stored)))))
+      (subst (Keeps places.bindings heap) (sym (g .0)) keeps-all)))
+      (λ last areas q (k, taken).
+      leave (rw (k .steps-are, k .goals-are, terms-counted (k .stored), requests-counted e read taken (k .stored)))))
 
   pub check-law : (store table stack heap : List ℕ) → length store ≡ 16384 → length table ≡ 16384 → length stack ≡ 16384 → length heap ≡ 16384
       → Simulates (Released (length certificateText)) (walk.check rulebook text certificateText store table stack heap) (judged rulebook text certificateText)

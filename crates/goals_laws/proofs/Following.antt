@@ -8,7 +8,7 @@ use Rattle.horn.specs.Refusals.{Result}
 use Rattle.horn.specs.Names.{Name}
 use Rattle.horn.specs.Tokens.{Stream, Token}
 use Rattle.horn.specs.NestedLists.{Items}
-use Rattle.horn.specs.StoredTerms.{Term}
+use Rattle.horn.specs.StoredTerms.{Store}
 use Rattle.horn.specs.Checker as definition
 use Rattle.words.specs.Parts.{part}
 use Rattle.lex.specs.declared.Reader.{Reader}
@@ -22,15 +22,15 @@ use Rattle.asking_laws.proofs.Places.{RestComes, At}
 use Rattle.terms_laws.proofs.Following.{first-of}
 use Rattle.asking_laws.proofs.Asking.{WordMet, word-met, word-law}
 
-module _ {S C D E : Type 0} {R : E → S → D → Type 0} (s : S) (ts : List Term) (f : C × S → Did S E) where
+module _ {S C D E : Type 0} {R : E → S → D → Type 0} (s : S) (ts : Store) (f : C × S → Did S E) where
   -- What comes first of something that leaves the areas as they are, where that is an atom, by its bounds.
   pub word-first : (text : List ℕ) (K : Stream Token → Type 0) (n : ℕ) (is : Items) (left depth : ℕ) {r : Reader} (k : ℕ × ℕ × Reader → Outcome C)
-      (g : (Name × Items) × List Term → Result D)
+      (g : (Name × Items) × Store → Result D)
       → depth + left ≡ 257 → At text (RestComes is K) n r
       → ((a b : ℕ) (q : Reader) (rest : Items) → a < b → b ≤ length text → At text (RestComes rest K) (n + 2) q
       → Simulates R (leaving._>>=_ (k (a, b, q) leaving s) f) (g ((part a b text, rest), ts)))
       → Simulates R (leaving._>>=_ (outcomes._>>=_ (atomDue text left r) k leaving s) f)
-      (refusals._>>=_ {A = (Name × Items) × List Term} (refusals._>>=_ (definition.askWord depth is) (λ b. refusals.ok (b, ts))) g)
+      (refusals._>>=_ {A = (Name × Items) × Store} (refusals._>>=_ (definition.askWord depth is) (λ b. refusals.ok (b, ts))) g)
   word-first text K n is left depth k g e there j = first-of s ts f k g (word-law text K n is left depth e there) (λ x y m. by m) where
     by : {x : ℕ × ℕ × Reader} {y : Name × Items} → WordMet text K n x y → Simulates R (leaving._>>=_ (k x leaving s) f) (g (y, ts))
     by (word-met {s = a} {t = b} {r = q} {rest} z l u m) = rw (← z) (j a b q rest l u m)

@@ -12,7 +12,7 @@ use Rattle.horn.specs.Names.{codes, someOf}
 use Rattle.horn.specs.Tokens.{Stream, Token}
 use Rattle.horn.specs.NestedLists.{Items, group, _then_}
 use Rattle.horn.specs.Rulebook.{Theory}
-use Rattle.horn.specs.StoredTerms.{Term}
+use Rattle.horn.specs.StoredTerms.{Term, Store}
 use Rattle.horn.specs.Checker as definition
 use Rattle.horn.specs.Checker.{Goal, isGoal}
 use Rattle.horn.specs.Matching.{Step}
@@ -41,8 +41,8 @@ use Rattle.terms_laws.proofs.Following.{tested, bind-before, first-of}
 use Rattle.goals_laws.proofs.Following.{word-first}
 
 -- A goal was read: the reader stands behind it, the store and the table hold what the definition has, the stack is as long as before.
-pub record GoalRead (es : Entries) (th : Theory) (goalsText certificate : List ℕ) (Recorded : List Term → ℕ → ℕ → ℕ → Step → Type 0)
-    (K : Stream Token → Type 0) (rest : Items) (ts : List Term) (x : Tally × Reader) (left : Gathered) (y : List Goal × List Term) : Type 0 where
+pub record GoalRead (es : Entries) (th : Theory) (goalsText certificate : List ℕ) (Recorded : Store → ℕ → ℕ → ℕ → Step → Type 0)
+    (K : Stream Token → Type 0) (rest : Items) (ts : Store) (x : Tally × Reader) (left : Gathered) (y : List Goal × Store) : Type 0 where
   pub reader : At goalsText K 0 (x .1)
   pub stored : Stored es th document01 indexPlaces (left .0 .0) (y .1)
   pub grown : Longer ts (y .1)
@@ -50,9 +50,9 @@ pub record GoalRead (es : Entries) (th : Theory) (goalsText certificate : List �
   pub gathering : Gathering goalsText certificate 8192 32768 defBuckets (Means es th (y .1)) (Recorded (y .1)) (left .1) (x .0) (y .0) rest
 
 -- The same before it is known that the definition accepts the form: what was added, by its name's bounds and its judgment's number.
-record GoalMet (es : Entries) (th : Theory) (goalsText : List ℕ) (K : Stream Token → Type 0) (ts : List Term) (goals : List Goal) (tally : Tally)
+record GoalMet (es : Entries) (th : Theory) (goalsText : List ℕ) (K : Stream Token → Type 0) (ts : Store) (goals : List Goal) (tally : Tally)
     (table : List ℕ)
-    (x : Tally × Reader) (left : Gathered) (y : List Goal × List Term) : Type 0 where
+    (x : Tally × Reader) (left : Gathered) (y : List Goal × Store) : Type 0 where
   pub reader : At goalsText K 0 (x .1)
   pub stored : Stored es th document01 indexPlaces (left .0 .0) (y .1)
   pub grown : Longer ts (y .1)
@@ -70,10 +70,10 @@ record GoalMet (es : Entries) (th : Theory) (goalsText : List ℕ) (K : Stream T
   pub one-more : y .0 ≡ goals ++ (definition.goal (part s t goalsText) j ∷ [])
 
 module _ {rules heap : List ℕ} {es : Entries} {bound : ℕ} {th : Theory} (h : Holds rules heap es bound th) (goalsText certificate : List ℕ)
-    (Recorded : List Term → ℕ → ℕ → ℕ → Step → Type 0)
-    (survives : (ts us : List Term) (j r p : ℕ) (s : Step) → Longer ts us → Recorded ts j r p s → Recorded us j r p s)
+    (Recorded : Store → ℕ → ℕ → ℕ → Step → Type 0)
+    (survives : (ts us : Store) (j r p : ℕ) (s : Step) → Longer ts us → Recorded ts j r p s → Recorded us j r p s)
     (short : length goalsText ≤ 8192)
-    {ts : List Term} {goals : List Goal} {tally : Tally} {table : List ℕ} (store stack : List ℕ) {inner rest : Items}
+    {ts : Store} {goals : List Goal} {tally : Tally} {table : List ℕ} (store stack : List ℕ) {inner rest : Items}
     (g : Gathering goalsText certificate 8192 32768 defBuckets (Means es th ts) (Recorded ts) table tally goals (group inner then rest))
     (stored : Stored es th document01 indexPlaces store ts) (long : length stack ≡ 16384) (K : Stream Token → Type 0) {r : Reader}
     (there : At goalsText (RestComes inner K) 0 r) where

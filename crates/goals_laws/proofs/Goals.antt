@@ -13,7 +13,7 @@ use Rattle.horn.specs.Names.{Name}
 use Rattle.horn.specs.Tokens.{tokens}
 use Rattle.horn.specs.NestedLists.{Items, word, items}
 use Rattle.horn.specs.Rulebook.{Theory}
-use Rattle.horn.specs.StoredTerms.{Term}
+use Rattle.horn.specs.StoredTerms.{Store, emptyStore}
 use Rattle.horn.specs.Checker as definition
 use Rattle.horn.specs.Checker.{Goal}
 use Rattle.horn.specs.Matching.{Step}
@@ -44,34 +44,34 @@ use Rattle.terms_laws.proofs.Following.{tested}
 use Rattle.goals_laws.proofs.Goal.{goal-law}
 
 -- The goals were read: the store and the table hold what the definition has, the stack is as long as before.
-pub record GoalsRead (es : Entries) (th : Theory) (goalsText certificate : List ℕ) (Recorded : List Term → ℕ → ℕ → ℕ → Step → Type 0)
-    (tally : Tally) (left : Gathered) (y : List Goal × List Term) : Type 0 where
+pub record GoalsRead (es : Entries) (th : Theory) (goalsText certificate : List ℕ) (Recorded : Store → ℕ → ℕ → ℕ → Step → Type 0)
+    (tally : Tally) (left : Gathered) (y : List Goal × Store) : Type 0 where
   pub behind : Items
   pub gathering : Gathering goalsText certificate 8192 32768 defBuckets (Means es th (y .1)) (Recorded (y .1)) (left .1) tally (y .0) behind
   pub stored : Stored es th document01 indexPlaces (left .0 .0) (y .1)
   pub long : length (left .0 .1) ≡ 16384
   pub counted : tally .goals ≡ length (y .0)
 
-atom-form : (th : Theory) (goals : List Goal) (name : Name) (ts : List Term)
+atom-form : (th : Theory) (goals : List Goal) (name : Name) (ts : Store)
     → definition.goalForm document01 th goals (word name) ts ≡ refusals.refused atomOrList
 unfolding definition.goalForm definition._>>=_ definition.lift definition.groupDue refusals._>>=_
 atom-form th goals name ts = refl
 
 module _ {rules heap : List ℕ} {es : Entries} {bound : ℕ} {th : Theory} (h : Holds rules heap es bound th) (goalsText certificate : List ℕ)
-    (Recorded : List Term → ℕ → ℕ → ℕ → Step → Type 0)
-    (survives : (ts us : List Term) (j r p : ℕ) (s : Step) → Longer ts us → Recorded ts j r p s → Recorded us j r p s)
+    (Recorded : Store → ℕ → ℕ → ℕ → Step → Type 0)
+    (survives : (ts us : Store) (j r p : ℕ) (s : Step) → Longer ts us → Recorded ts j r p s → Recorded us j r p s)
     (short : length goalsText ≤ 8192) where
   -- What so much fuel reads, from any goals on.
   abbrev Reads : ℕ → Type 0
   Reads fuel =
-      (is : Items) (goals : List Goal) (ts : List Term) (tally : Tally) (r : Reader) (store stack table : List ℕ) → suc (itemCount is) ≤ fuel
+      (is : Items) (goals : List Goal) (ts : Store) (tally : Tally) (r : Reader) (store stack table : List ℕ) → suc (itemCount is) ≤ fuel
       → Gathering goalsText certificate 8192 32768 defBuckets (Means es th ts) (Recorded ts) table tally goals is
       → Stored es th document01 indexPlaces store ts → length stack ≡ 16384 → At goalsText (RestComes is Any) 0 r
       → Simulates (GoalsRead es th goalsText certificate Recorded) (walk.goalsFrom fuel goalsText rules heap tally r store stack table)
       (definition.goalForms document01 th goals is ts)
 
   -- One goal more, and those behind it.
-  goals-on : (fuel : ℕ) → Reads fuel → (goals : List Goal) (ts : List Term) (tally : Tally) (store stack table : List ℕ) {is : Items} {o : Outcome Top}
+  goals-on : (fuel : ℕ) → Reads fuel → (goals : List Goal) (ts : Store) (tally : Tally) (store stack table : List ℕ) {is : Items} {o : Outcome Top}
       → FormMet goalsText Any 0 is o → suc (itemCount is) ≤ suc fuel
       → Gathering goalsText certificate 8192 32768 defBuckets (Means es th ts) (Recorded ts) table tally goals is
       → Stored es th document01 indexPlaces store ts → length stack ≡ 16384
@@ -96,17 +96,17 @@ module _ {rules heap : List ℕ} {es : Entries} {bound : ℕ} {th : Theory} (h :
       goals-on fuel (goals-law fuel) goals ts tally store stack table (form-law goalsText Any 0 is there) f g st long
 
   -- The whole text, from an empty store and a table that holds nothing.
-  pub goals-whole : (store stack table : List ℕ) → length table ≡ 16384 → Stored es th document01 indexPlaces store [] → length stack ≡ 16384
+  pub goals-whole : (store stack table : List ℕ) → length table ≡ 16384 → Stored es th document01 indexPlaces store emptyStore → length stack ≡ 16384
       → Simulates (GoalsRead es th goalsText certificate Recorded)
       (walk.goals goalsText rules heap (noneYet defBuckets) store stack (cleared (goalBuckets + defBuckets) table))
-      (definition.goalsOf document01 th goalsText [])
+      (definition.goalsOf document01 th goalsText emptyStore)
   unfolding walk.goals definition.goalsOf definition._>>=_ definition.lift definition.give number document01
   goals-whole store stack table words st long =
       let n = few-items goalsText in
       bind _ _
-      (goals-law (length goalsText + 1) (items (tokens goalsText)) [] [] (noneYet defBuckets) start store stack
+      (goals-law (length goalsText + 1) (items (tokens goalsText)) [] emptyStore (noneYet defBuckets) start store stack
       (cleared (goalBuckets + defBuckets) table) (omega arith)
-      (first-goal goalsText certificate 8192 32768 defBuckets (Means es th []) (Recorded []) document01 th table (omega arith) (omega arith) (omega arith) short
+      (first-goal goalsText certificate 8192 32768 defBuckets (Means es th emptyStore) (Recorded emptyStore) document01 th table (omega arith) (omega arith) (omega arith) short
       (rw words roomy-01))
       st long (at-start goalsText))
       (λ tally left y m.

@@ -2,14 +2,14 @@
 -- on areas of whatever lengths, is enough for it. A release with number 0 has met a theory, goals and steps on its way.
 use Prim.Native.Nat.{ℕ, _≤_, _<_}
 use mathlib.Core.Path.{_≡_, refl, ap, _∙_}
-use mathlib.Core.List.{List, []}
+use mathlib.Core.List.{List}
 use native.Mathlib.Omega.{arith}
 use lib.ListN.{length}
 use borrow.Author.Tests.{le-leb, leb-true}
 use Rattle.horn.specs.Refusals.{Refusal, number, Result, ok, refused}
 use Rattle.horn.specs.Setting.{Setting}
 use Rattle.horn.specs.Rulebook.{Theory, theory}
-use Rattle.horn.specs.StoredTerms.{Store}
+use Rattle.horn.specs.StoredTerms.{Store, emptyStore}
 use Rattle.horn.specs.Checker.{Goal, goalsOf}
 use Rattle.horn.specs.Matching.{Step}
 use Rattle.horn.specs.Certificate.{certificateOf}
@@ -109,9 +109,9 @@ pub record AcceptedRun (limits : Setting) (rulebook text certificate : List ℕ)
   pub short-text : length text ≤ limits .goalsBytes
   pub short-certificate : length certificate ≤ limits .certificateBytes
   pub gives : theory rulebook ≡ ok th
-  pub read : goalsOf limits th text [] ≡ ok (goals, store)
+  pub read : goalsOf limits th text emptyStore ≡ ok (goals, store)
   pub taken : certificateOf limits th goals certificate store ≡ ok (steps, final)
-  pub answers : report 0 (length steps) (length goals) (length final) (length certificate) ≡ answer
+  pub answers : report 0 (length steps) (length goals) (length (final .terms)) (length certificate) (length (final .requests)) ≡ answer
 
 pub judged-run : (limits : Setting) (a b c d : ℕ) (rulebook text certificate : List ℕ) {answer : Report}
     → releaseJudged limits a b c d rulebook text certificate ≡ ok answer

@@ -13,7 +13,7 @@ use Rattle.horn.specs.Setting.{Setting, document01}
 use Rattle.horn.specs.NestedLists.{Sexp, Sexps, Items, closed, ended, badLine, _then_, items, sexps}
 use Rattle.horn.specs.Tokens.{tokens}
 use Rattle.horn.specs.Rulebook.{symbol, Theory, count, emptyTheory, theory}
-use Rattle.horn.specs.StoredTerms.{Term, Store, withinLimits, intern, holds}
+use Rattle.horn.specs.StoredTerms.{Term, Store, emptyStore, withinLimits, intern, request, holds}
 use Rattle.horn.specs.Checker.{Reading, stored, Goal, goalsOf}
 use Rattle.horn.specs.Matching.{Step, step}
 use Rattle.horn.specs.Certificate.{Progress, begun, certificateOf}
@@ -83,11 +83,11 @@ module _ (limits : Setting) where
   unfolding Passes stored
   passes-last (made-give a) e = given-is e λ _ q. q
   passes-last (made-lift r) e = lifted r e λ _ q. q
-  passes-last (made-stored t) {s} e = afterᵣ _ e λ v e₁ e₂. inr (subst (λ x. intern limits t s ≡ ok x) (ap (λ q. q .1) (ok-equal e₂)) e₁)
+  passes-last (made-stored t) {s} e = afterᵣ _ e λ v e₁ e₂. inr (subst (λ x. request limits t s ≡ ok x) (ap (λ q. q .1) (ok-equal e₂)) e₁)
   passes-last (made-after {m = m} p k) e = after m e λ a t e₁ e₂. inr ((a, t), e₁, passes-last (k a) e₂)
 
   -- A property that storing keeps holds of every store that is passed.
-  pub passes-keep : (I : Store → Type 0) → ((t : Term) (s u : Store) → I s → intern limits t s ≡ ok u → I u)
+  pub passes-keep : (I : Store → Type 0) → ((t : Term) (s u : Store) → I s → request limits t s ≡ ok u → I u)
       → {A : Type 0} {m : Reading A} (p : Made limits A m) {s u : Store} → I s → Passes limits p s u → I u
   unfolding Passes
   passes-keep I keep (made-give a) i e = subst I e i
@@ -97,27 +97,31 @@ module _ (limits : Setting) where
   passes-keep I keep (made-after p k) i (inl h) = passes-keep I keep p i h
   passes-keep I keep (made-after p k) i (inr (q, e, h)) = passes-keep I keep (k (q .0)) (passes-keep I keep p i (passes-last p e)) h
 
-  abbrev Small : Store → Type 0
-  Small store = length store ≤ limits .nodes
+  abbrev Small : List Term → Type 0
+  Small terms = length terms ≤ limits .nodes
 
-  small-intern : (t : Term) (s u : Store) → Small s → intern limits t s ≡ ok u → Small u
+  small-intern : (t : Term) (s u : List Term) → Small s → intern limits t s ≡ ok u → Small u
   unfolding intern withinLimits
   small-intern t s u i e =
       case (holds s t)
       (λ p. subst Small (ok-equal (rw (p, intern) at e)) i)
       (λ p. after-needᵣ _ _ _ (rw (p, intern) at e) λ w e₁. subst Small (ok-equal e₁) (leb-true _ _ (and-eq-true-iff _ _ .0 w .0)))
 
+  small-request : (t : Term) (s u : Store) → Small (s .terms) → request limits t s ≡ ok u → Small (u .terms)
+  unfolding request
+  small-request t s u i e = afterᵣ _ e λ terms e₁ e₂. subst (λ (x : Store). Small (x .terms)) (ok-equal e₂) (small-intern t (s .terms) terms i e₁)
+
   -- A store that arises has at most as many nodes as the limits let a store have.
   pub few-nodes : {rulebook text certificate : List ℕ} {u : Store} → StoreArises limits rulebook text certificate u
-      → length u ≤ limits .nodes
-  few-nodes (in-goals e p h) = passes-keep Small small-intern p (omega arith) h
+      → length (u .terms) ≤ limits .nodes
+  few-nodes (in-goals e p h) = passes-keep (λ s. Small (s .terms)) small-request p (omega arith) h
   few-nodes {text} (in-certificate {th} {goals} {s} e e₁ p h) =
       let q = reads-made limits (reads-goalsOf limits th text) in
-      passes-keep Small small-intern p (passes-keep Small small-intern q (omega arith) (passes-last q e₁)) h
+      passes-keep (λ s. Small (s .terms)) small-request p (passes-keep (λ s. Small (s .terms)) small-request q (omega arith) (passes-last q e₁)) h
 
   -- The store in which the reading of the certificate ends arises.
   pub last-store : (rulebook text certificate : List ℕ) {th : Theory} {goals : List Goal} {steps : List Step} {s u : Store} → theory rulebook ≡ ok th
-      → goalsOf limits th text [] ≡ ok (goals, s)
+      → goalsOf limits th text emptyStore ≡ ok (goals, s)
       → certificateOf limits th goals certificate s ≡ ok (steps, u)
       → StoreArises limits rulebook text certificate u
   last-store rulebook text certificate {th} {goals} e e₁ e₂ =
@@ -165,7 +169,7 @@ module _ (limits : Setting) where
   pub last-steps : (rulebook text certificate : List ℕ) {th : Theory} {goals : List Goal} {steps : List Step} {s u : Store}
       → length certificate ≤ limits .certificateBytes
       → theory rulebook ≡ ok th
-      → goalsOf limits th text [] ≡ ok (goals, s)
+      → goalsOf limits th text emptyStore ≡ ok (goals, s)
       → certificateOf limits th goals certificate s ≡ ok (steps, u)
       → (now : Progress) × (now .steps ≡ steps) × ProgressArises limits rulebook text certificate now
   unfolding certificateOf
@@ -190,7 +194,7 @@ unfolding document01
 sixteen-bits-symbols a = let h = few-symbols a in omega arith
 
 pub sixteen-bits-terms : {rulebook text certificate : List ℕ} {store : Store} → StoreArises document01 rulebook text certificate store
-    → length store < 2 ^ 16
+    → length (store .terms) < 2 ^ 16
 unfolding document01
 sixteen-bits-terms a = let h = few-nodes document01 a in omega arith
 

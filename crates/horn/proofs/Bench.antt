@@ -6,7 +6,7 @@ use Rattle.horn.specs.Refusals.{ok}
 use Rattle.horn.specs.Setting.{Setting, document01}
 use Rattle.horn.specs.Names.{codes}
 use Rattle.horn.specs.Rulebook.{Symbol, symbol, sort, judgment, variable, var, app, []ₚ, _∷ₚ_, Rule, rule, Theory, theory}
-use Rattle.horn.specs.StoredTerms.{Term, node, []ₜ, _∷ₜ_, Store}
+use Rattle.horn.specs.StoredTerms.{Term, node, []ₜ, _∷ₜ_, wasFound, wasMade, Store, emptyStore}
 use Rattle.horn.specs.Checker.{Goal, goal, goalsOf}
 use Rattle.horn.proofs.Run.{openAll}
 
@@ -68,15 +68,19 @@ unfolding openAll R G
 bench-gives = refl
 
 abbrev pub benchStore : Store
-benchStore = zeroTerm ∷ oneTerm ∷ benchJudgment ∷ []
+benchStore = record { terms = zeroTerm ∷ oneTerm ∷ benchJudgment ∷ []; requests = wasMade ∷ wasMade ∷ wasMade ∷ [] }
 
-pub bench-read : goalsOf document01 benchTheory G [] ≡ ok (benchGoals, benchStore)
+pub bench-read : goalsOf document01 benchTheory G emptyStore ≡ ok (benchGoals, benchStore)
 unfolding openAll R G
 bench-read = refl
 
 -- The store after C.
 abbrev pub benchFinal : Store
-benchFinal = zeroTerm ∷ oneTerm ∷ benchJudgment ∷ node hold (zeroTerm ∷ₜ []ₜ) ∷ []
+benchFinal =
+    record {
+      terms = zeroTerm ∷ oneTerm ∷ benchJudgment ∷ node hold (zeroTerm ∷ₜ []ₜ) ∷ [];
+      requests = wasFound ∷ wasFound ∷ wasMade ∷ wasFound ∷ wasMade ∷ wasMade ∷ wasMade ∷ [];
+    }
 
 -- Limits that R, G and a certificate of some bytes meet exactly, if the store is to hold the four terms of `benchFinal`.
 abbrev pub tightFor : ℕ → Setting

@@ -12,7 +12,7 @@ use Rattle.horn.specs.Setting.{Setting, document01}
 use Rattle.horn.specs.Names.{isZero}
 use Rattle.horn.specs.NestedLists.{Sexp, asItem, topItems}
 use Rattle.horn.specs.Rulebook.{Theory, theory}
-use Rattle.horn.specs.StoredTerms.{Term, Store, withinLimits}
+use Rattle.horn.specs.StoredTerms.{Term, Store, emptyStore, withinLimits}
 use Rattle.horn.specs.Checker.{Goal, goalJudgment, goalsOf, give}
 use Rattle.horn.specs.Matching.{Step, step, judgmentOf}
 use Rattle.horn.specs.Certificate.{certificateForm, certificateForms, certificateOf}
@@ -20,7 +20,7 @@ use Rattle.horn.specs.Calls.{report, releaseJudged, releaseAnswer, relea
 use Rattle.horn.specs.Forced.{Instance, premises, conclusion, Each, judgments}
 use Rattle.horn.specs.Layout
 use Rattle.horn.specs.Layout.{stepSexps, layoutForms, laidOut, height, depth}
-use Rattle.horn.specs.Layout.{subterms, allSubterms, distinct, distinctTerms, WithinLimits, Supported, no-instance, instance-then, Proves}
+use Rattle.horn.specs.Layout.{subterms, allSubterms, distinct, distinctTerms, requestedNodes, WithinLimits, Supported, no-instance, instance-then, Proves}
 use Rattle.horn.specs.Demand3.{Complete}
 use Rattle.horn.proofs.Inversion.{onᵣ, on, need-on}
 use Rattle.horn.proofs.Accepting.{areasLong-ok, accepted-gives}
@@ -32,7 +32,7 @@ use Rattle.horn.proofs.SoundnessReading.{GoalsApart, text-apart}
 use Rattle.horn.proofs.CompleteItems.{items-printed}
 use Rattle.horn.proofs.CompleteTheory.{Lookups, theory-looks}
 use Rattle.horn.proofs.CompleteCount.{_⊆_, to-distinct}
-use Rattle.horn.proofs.CompleteStore.{withinLimits-holds, withTerm, withAll, withAll-append, DrawnFrom, drawn-none, drawn-term, drawn-all, stored-count}
+use Rattle.horn.proofs.CompleteStore.{withinLimits-holds, withTerm, withAll, withAll-append, DrawnFrom, drawn-none, drawn-term, drawn-all, stored-count, requests-all}
 use Rattle.horn.proofs.CompleteTerms.{on-lift}
 use Rattle.horn.proofs.CompleteGoals.{Known, read-known}
 use Rattle.horn.proofs.CompleteSteps.{progress, result-back, step-back}
@@ -147,12 +147,12 @@ module _ (limits : Setting) (a b c d : ℕ) (rulebook text : List ℕ) {th : The
     (short : length rulebook ≤ limits .rulebookBytes) (e : theory rulebook ≡ ok th) where
   -- The report, for goals that reading gives with the store that it leaves.
   complete-read : limits .certificateBytes ≤ 2 ^ 64 → length text ≤ limits .goalsBytes
-      → goalsOf limits th text [] ≡ ok (goals, store)
+      → goalsOf limits th text emptyStore ≡ ok (goals, store)
       → Proves th goals is
       → WithinLimits limits a b c d goals is
       → releaseCall limits a b c d rulebook text (laidOut goals is)
-      ≡ report 0 (length is) (length goals) (length (distinctTerms goals is)) (length (laidOut goals is))
-  unfolding releaseCall releaseJudged releaseAnswer distinctTerms
+      ≡ report 0 (length is) (length goals) (length (distinctTerms goals is)) (length (laidOut goals is)) (requestedNodes goals is)
+  unfolding releaseCall releaseJudged releaseAnswer distinctTerms requestedNodes
   complete-read bound short-text read p w =
       let js = judgments goals ++ map conclusion is in
       let us = distinct (allSubterms js) in
@@ -160,13 +160,13 @@ module _ (limits : Setting) (a b c d : ℕ) (rulebook text : List ℕ) {th : The
       let in-us : allSubterms js ⊆ us = to-distinct (allSubterms js) in
       let f : DrawnFrom us store =
       subst (DrawnFrom us) (sym (k .has))
-      (drawn-all us (judgments goals) [] (drawn-none us) (λ u m. in-us u (first-part (judgments goals) (map conclusion is) u m))) in
+      (drawn-all us (judgments goals) emptyStore (drawn-none us) (λ u m. in-us u (first-part (judgments goals) (map conclusion is) u m))) in
       let n : length is ≤ 2 ^ 64 = omega (arith, layout-long goals is, w .short) in
       let certificate =
       certificate-back limits th (theory-looks rulebook e) (theory-formed rulebook e) us
       (withinLimits-holds limits us (w .few) (w .small)) goals is store p k (text-apart limits th text read) n (w .shallow)
       (λ u m. in-us u (second-part (judgments goals) (map conclusion is) u m)) f in
-      let final = ap (withAll (map conclusion is)) (k .has) ∙ sym (withAll-append (judgments goals) (map conclusion is) []) in
+      let final = ap (withAll (map conclusion is)) (k .has) ∙ sym (withAll-append (judgments goals) (map conclusion is) emptyStore) in
       let count : length (stepsMade [] is) ≡ length is = let h = stepsMade-length [] is in omega arith in
       ap releaseAnswer
       (onᵣ _ (areasLong-ok (w .areas))
@@ -176,8 +176,17 @@ module _ (limits : Setting) (a b c d : ℕ) (rulebook text : List ℕ) {th : The
       ∙ onᵣ _ e
       ∙ onᵣ _ read
       ∙ onᵣ _ certificate)
-      ∙ ap (λ x. report 0 x (length goals) (length (withAll (map conclusion is) store)) (length (laidOut goals is))) count
-      ∙ ap (λ x. report 0 (length is) (length goals) x (length (laidOut goals is))) (ap length final ∙ stored-count js)
+      ∙ ap
+      (λ x. report 0 x (length goals) (length ((withAll (map conclusion is) store) .terms)) (length (laidOut goals is))
+      (length ((withAll (map conclusion is) store) .requests)))
+      count
+      ∙ ap
+      (λ (x : Store). report 0 (length is) (length goals) (length (x .terms)) (length (laidOut goals is)) (length (x .requests)))
+      final
+      ∙ ap
+      (λ x. report 0 (length is) (length goals) x (length (laidOut goals is)) (length ((withAll js emptyStore) .requests)))
+      (stored-count js)
+      ∙ ap (report 0 (length is) (length goals) (length us) (length (laidOut goals is))) (let h = requests-all js emptyStore in omega arith)
 
 -- The second half of demand 3, with the counts of the report. A number of a certificate is below 2 to the 64, so a setting may let
 -- a certificate have no more bytes than that.
@@ -191,7 +200,7 @@ complete limits bound a b c d rulebook text certificate =
           let fixed = goals-fixed rulebook text e (read-has limits th text read) has in
           rw same
           (complete-read limits a b c d rulebook text is (g .short) e bound (r .short)
-          (subst (λ gs. goalsOf limits th text [] ≡ ok (gs, q .1)) fixed read) p w);
+          (subst (λ gs. goalsOf limits th text emptyStore ≡ ok (gs, q .1)) fixed read) p w);
     }
 
 -- Under 01's own limits.

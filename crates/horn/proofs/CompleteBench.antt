@@ -70,6 +70,7 @@ unfoldable laid : List ℕ
 unfolding openAll Layout.next Layout.countedTo Layout.plain Layout.plainAll Written.symbolName Layout.ruleName Written.constantOr
     Written.termSexp Written.judgmentSexp Layout.lowest Layout.stepSexp Layout.stepSexps Layout.resultSexp Layout.layoutForms Layout.printed
     Layout.printedLines Layout.laidOut Layout.height Layout.depth Layout.subterms Layout.allSubterms Layout.distinct Layout.distinctTerms
+    Layout.treeSize Layout.allTreeSizes Layout.requestedNodes
     premises conclusion premisesOf conclusionOf substitute judgments goalJudgment
 laid = laidOut benchGoals benchInstances
 
@@ -83,7 +84,7 @@ pub bench-layout : laidOut benchGoals benchInstances ≡ codes "(step 0 base () 
 unfolding laid
 bench-layout = refl
 
-pub bench-complete : releaseCall tight 16_384 16_384 16_384 16_384 R G (laidOut benchGoals benchInstances) ≡ report 0 2 1 4 70
+pub bench-complete : releaseCall tight 16_384 16_384 16_384 16_384 R G (laidOut benchGoals benchInstances) ≡ report 0 2 1 4 70 8
 unfolding laid
 bench-complete =
     (complete tight (omega arith) 16_384 16_384 16_384 16_384 R G (laidOut benchGoals benchInstances)) .accepts-layout benchTheory benchGoals benchInstances
@@ -94,7 +95,7 @@ bench-complete =
     refl
 
 -- The same under 01's limits.
-pub bench-complete-01 : releaseCall document01 16_384 16_384 16_384 16_384 R G (laidOut benchGoals benchInstances) ≡ report 0 2 1 4 70
+pub bench-complete-01 : releaseCall document01 16_384 16_384 16_384 16_384 R G (laidOut benchGoals benchInstances) ≡ report 0 2 1 4 70 8
 unfolding laid
 bench-complete-01 =
     (complete-01 16_384 16_384 16_384 16_384 R G (laidOut benchGoals benchInstances)) .accepts-layout benchTheory benchGoals benchInstances

@@ -8,7 +8,7 @@ use Rattle.horn.specs.Setting.{Setting}
 use Rattle.horn.specs.Names.{Name, first}
 use Rattle.horn.specs.NestedLists.{Item, word, group, Items, _then_}
 use Rattle.horn.specs.Rulebook.{Theory}
-use Rattle.horn.specs.StoredTerms.{Term, node, Terms, []ₜ, Store}
+use Rattle.horn.specs.StoredTerms.{Term, node, Terms, []ₜ, Store, emptyStore}
 use Rattle.horn.specs.Checker.{Goal, goal, goalJudgment, goalsOf}
 use Rattle.horn.specs.Forced.{judgments}
 use Rattle.horn.proofs.Inversion.{none-some}
@@ -17,7 +17,7 @@ use Rattle.horn.proofs.WasRead.{read-judgment, read-goal, ReadGoals, no
 use Rattle.horn.proofs.CompleteUtf8.{All, all-append}
 use Rattle.horn.proofs.CompleteTokens.{Word}
 use Rattle.horn.proofs.CompleteItems.{WordItem, a-word, a-group, WordItems, _then-words_, items-words}
-use Rattle.horn.proofs.CompleteStore.{kept, withTerm, withTerms, withAll, withAll-append, intern-kept}
+use Rattle.horn.proofs.CompleteStore.{kept, withTerm, withTerms, withAll, withAll-append, request-kept}
 
 -- Without abbreviations every term is stored after its arguments.
 module _ {limits : Setting} {th : Theory} where
@@ -26,8 +26,8 @@ module _ {limits : Setting} {th : Theory} where
 
     term-with : {item : Item} {s s′ : Store} {t : Term} → ReadTerm limits th [] item s t s′ → s′ ≡ withTerm t s
     term-with (read-abbreviation f same) = none-some f
-    term-with (read-constant {c = c} {s = s} e a i) = intern-kept limits (node c []ₜ) s i
-    term-with (read-compound {c = c} {ts = ts} {s₁ = s₁} e rs z a i) = intern-kept limits (node c ts) s₁ i ∙ ap (kept (node c ts)) (terms-with rs)
+    term-with (read-constant {c = c} {s = s} e a i) = request-kept limits (node c []ₜ) s i
+    term-with (read-compound {c = c} {ts = ts} {s₁ = s₁} e rs z a i) = request-kept limits (node c ts) s₁ i ∙ ap (kept (node c ts)) (terms-with rs)
 
     terms-with : {is : Items} {s s′ : Store} {ts : Terms} → ReadTerms limits th [] is s ts s′ → s′ ≡ withTerms ts s
     terms-with read-none = refl
@@ -35,7 +35,7 @@ module _ {limits : Setting} {th : Theory} where
 
   judgment-with : {name : Name} {is : Items} {s s′ : Store} {j : Term} → ReadJudgment limits th [] name is s j s′ → s′ ≡ withTerm j s
   unfolding withTerm
-  judgment-with (read-judgment {c = c} {ts = ts} {s₁ = s₁} e rs a i) = intern-kept limits (node c ts) s₁ i ∙ ap (kept (node c ts)) (terms-with rs)
+  judgment-with (read-judgment {c = c} {ts = ts} {s₁ = s₁} e rs a i) = request-kept limits (node c ts) s₁ i ∙ ap (kept (node c ts)) (terms-with rs)
 
 -- The name of a goal is a word.
 abbrev pub GoalWord : Goal → Type 0
@@ -43,7 +43,7 @@ GoalWord (goal n j) = Word n
 
 -- What is known of goals that were read, and of the store.
 pub record Known (goals : List Goal) (store : Store) : Type 0 where
-  pub has : store ≡ withAll (judgments goals) []
+  pub has : store ≡ withAll (judgments goals) emptyStore
   pub words : All GoalWord goals
 
 known-more : (goals : List Goal) (s : Store) (n : Name) (j : Term) → Known goals s → Word n → Known (goals ++ (goal n j ∷ [])) (withTerm j s)
@@ -52,8 +52,8 @@ known-more goals s n j k w =
     record {
       has =
           ap (withTerm j) (k .has)
-          ∙ sym (withAll-append (map goalJudgment goals) (j ∷ []) [])
-          ∙ ap (λ js. withAll js []) (sym (map-append goalJudgment goals (goal n j ∷ [])));
+          ∙ sym (withAll-append (map goalJudgment goals) (j ∷ []) emptyStore)
+          ∙ ap (λ js. withAll js emptyStore) (sym (map-append goalJudgment goals (goal n j ∷ [])));
       words = all-append GoalWord goals (goal n j ∷ []) (k .words) (w, tt);
     }
 
@@ -69,7 +69,7 @@ goals-known no-goal-read ws k = k
 goals-known {goals} {s} (next-goal-read (read-goal {name = n} {j = j} new r) rs) (w then-words ws) k =
     goals-known rs ws (subst (Known (goals ++ (goal n j ∷ []))) (sym (judgment-with r)) (known-more goals s n j k (goal-name w)))
 
-pub read-known : (limits : Setting) (th : Theory) (text : List ℕ) {store : Store} {goals : List Goal} → goalsOf limits th text [] ≡ ok (goals, store)
+pub read-known : (limits : Setting) (th : Theory) (text : List ℕ) {store : Store} {goals : List Goal} → goalsOf limits th text emptyStore ≡ ok (goals, store)
     → Known goals store
 unfolding judgments withAll
 read-known limits th text e = goals-known ((text-read limits th text e) .1) (items-words text) record { has = refl; words = tt }

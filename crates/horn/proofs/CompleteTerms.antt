@@ -20,7 +20,7 @@ use Rattle.horn.proofs.Equality.{named-decides, sameOutput-decides}
 use Rattle.horn.proofs.Inversion.{onᵣ, on, lift-on, need-on, found-on}
 use Rattle.horn.proofs.CompleteTheory.{Lookups}
 use Rattle.horn.proofs.CompleteCount.{_⊆_}
-use Rattle.horn.proofs.CompleteStore.{kept, withTerm, withTerms, DrawnFrom, drawn-term, drawn-terms, intern-drawn}
+use Rattle.horn.proofs.CompleteStore.{kept, withTerm, withTerms, DrawnFrom, drawn-term, drawn-terms, request-drawn}
 
 pub on-lift : {A B : Type 0} (r : Result A) (f : A → Reading B) (s : Store) {a : A} → r ≡ ok a → (lift r >>= f) s ≡ f a s
 on-lift r f s e = on (lift r) f s (lift-on s e)
@@ -59,7 +59,7 @@ module _ (limits : Setting) (th : Theory) (l : Lookups th) (us : List Term) (wit
   make-stored : (c : Symbol) (ts : Terms) (store : Store) → accepts (inputs c) ts ≡ true → DrawnFrom us store → List·Memᴰ (node c ts) us
       → make limits c ts store ≡ ok (node c ts, kept (node c ts) store)
   unfolding make stored
-  make-stored c ts store a f m = on-lift _ _ _ (need-on _ a) ∙ onᵣ _ (intern-drawn limits us (node c ts) store within f m)
+  make-stored c ts store a f m = on-lift _ _ _ (need-on _ a) ∙ onᵣ _ (request-drawn limits us (node c ts) store within f m)
 
   atom-constant : (name : Name) (store : Store) → questioned name ≡ false
       → atomTerm limits th [] name store ≡ (lift (constructor th name) >>= λ c. make limits c []ₜ) store

@@ -9,7 +9,7 @@ use Rattle.horn.specs.Names.{Name, first}
 use Rattle.horn.specs.NestedLists.{Item, word, group, Items, closed, ended, badLine, _then_, asItem, asItems, topItems}
 use Rattle.horn.specs.NestedLists.{Sexp, leaf, list, Sexps, []ₛ, _∷ₛ_}
 use Rattle.horn.specs.Rulebook.{symbol, sort, judgment, Theory, theory, isConstructor, isPredicate}
-use Rattle.horn.specs.StoredTerms.{Term, node, Terms, _∷ₜ_, Store}
+use Rattle.horn.specs.StoredTerms.{Term, node, Terms, _∷ₜ_, Store, emptyStore}
 use Rattle.horn.specs.Checker.{Goal, goal, goalJudgment, goalsOf}
 use Rattle.horn.specs.Written.{symbolName, constantOr, termSexp, termSexps, judgmentSexp, goalSexp}
 use Rattle.horn.specs.Forced.{Ground, ground, Grounds, no-ground, ground-then, WellSorted, well-sorted, Each, judgments, HasGoals}
@@ -125,7 +125,7 @@ goals-fixed rulebook text {goals} {others} e g h =
 
 -- A goals text that is read without refusal has exactly the goals that reading gives.
 pub read-exactly : (limits : Setting) (rulebook text : List ℕ) {th : Theory} {goals others : List Goal} {store : Store} → theory rulebook ≡ ok th
-    → goalsOf limits th text [] ≡ ok (goals, store)
+    → goalsOf limits th text emptyStore ≡ ok (goals, store)
     → HasGoals th text goals × (HasGoals th text others → others ≡ goals)
 read-exactly limits rulebook text {th} e r =
     let has = read-has limits th text r in

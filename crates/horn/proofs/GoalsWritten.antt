@@ -10,7 +10,7 @@ use Rattle.horn.specs.Setting.{Setting}
 use Rattle.horn.specs.Names.{Name, codes, first, isZero}
 use Rattle.horn.specs.NestedLists.{Item, word, group, Items, closed, _then_, asItem, asItems, topItems}
 use Rattle.horn.specs.Rulebook.{Symbol, symbol, sort, judgment, Theory, isConstructor, isPredicate}
-use Rattle.horn.specs.StoredTerms.{Term, Terms, []ₜ, _∷ₜ_, Store, width}
+use Rattle.horn.specs.StoredTerms.{Term, Terms, []ₜ, _∷ₜ_, Store, emptyStore, width}
 use Rattle.horn.specs.Checker.{Goal, goalJudgment, goalsOf}
 use Rattle.horn.specs.Written.{symbolName, constantOr, termSexp, termSexps, judgmentSexp, goalSexp}
 use Rattle.horn.specs.Forced.{WellSorted, Each, judgments, HasGoals, ReadWithoutRefusal}
@@ -86,7 +86,7 @@ module _ {limits : Setting} {th : Theory} where
 
 module _ (limits : Setting) (th : Theory) where
   -- The goals that reading gives are goals that the text has.
-  pub read-has : (text : List ℕ) {store : Store} {goals : List Goal} → goalsOf limits th text [] ≡ ok (goals, store) → HasGoals th text goals
+  pub read-has : (text : List ℕ) {store : Store} {goals : List Goal} → goalsOf limits th text emptyStore ≡ ok (goals, store) → HasGoals th text goals
   unfolding judgments
   read-has text e =
       let ws = goals-written ((text-read limits th text e) .1) in
@@ -94,13 +94,13 @@ module _ (limits : Setting) (th : Theory) where
 
   -- A goals text is read without refusal exactly if it is short enough and reading gives goals and a store.
   pub reading-gives : (text : List ℕ) → ReadWithoutRefusal limits th text
-      → (q : List Goal × Store) × (goalsOf limits th text [] ≡ ok q)
-  reading-gives text r = by (goalsOf limits th text []) refl
+      → (q : List Goal × Store) × (goalsOf limits th text emptyStore ≡ ok q)
+  reading-gives text r = by (goalsOf limits th text emptyStore) refl
     where
-      by : (m : Result (List Goal × Store)) → goalsOf limits th text [] ≡ m → (q : List Goal × Store) × (goalsOf limits th text [] ≡ ok q)
+      by : (m : Result (List Goal × Store)) → goalsOf limits th text emptyStore ≡ m → (q : List Goal × Store) × (goalsOf limits th text emptyStore ≡ ok q)
       by (ok q) e = (q, e)
       by (refused x) e = absurd (r .none-met x e)
 
-  pub given-reading : (text : List ℕ) {q : List Goal × Store} → length text ≤ limits .goalsBytes → goalsOf limits th text [] ≡ ok q
+  pub given-reading : (text : List ℕ) {q : List Goal × Store} → length text ≤ limits .goalsBytes → goalsOf limits th text emptyStore ≡ ok q
       → ReadWithoutRefusal limits th text
   given-reading text short e = record { short = short; none-met = λ r f. not-ok (sym f ∙ e) }

@@ -11,7 +11,7 @@ use Rattle.horn.specs.NestedLists.{Item, word, group, Items, closed, end
 use Rattle.horn.specs.NestedLists.{sexp, members, sexps}
 use Rattle.horn.specs.Names.{Name}
 use Rattle.horn.specs.Rulebook.{Pattern, Theory, constructor, predicate, ruleNamed, emptyTheory, theory}
-use Rattle.horn.specs.StoredTerms.{Term, Store, holds, intern}
+use Rattle.horn.specs.StoredTerms.{Term, Store, holds, intern, request}
 use Rattle.horn.specs.Checker
 use Rattle.horn.specs.Matching
 use Rattle.horn.specs.Matching.{Step, Bind, match, judgmentOf}
@@ -135,6 +135,10 @@ later-premises steps (p ∷ ps) (n ∷ ns) binds =
     later-premises steps ps ns more
 
 -- Storing a term.
-pub later-intern : (limits : Setting) (t : Term) (store : Store) → Later (intern limits t store)
+later-intern : (limits : Setting) (t : Term) (terms : List Term) → Later (intern limits t terms)
 unfolding intern number
-later-intern limits t store = either Later (holds store t) refuses-none (refuses-bind _ (refuses-need _ Refusal.storeFull (omega arith)) λ _. refuses-none)
+later-intern limits t terms = either Later (holds terms t) refuses-none (refuses-bind _ (refuses-need _ Refusal.storeFull (omega arith)) λ _. refuses-none)
+
+pub later-request : (limits : Setting) (t : Term) (store : Store) → Later (request limits t store)
+unfolding request
+later-request limits t store = refuses-bind _ (later-intern limits t (store .terms)) λ _. refuses-none

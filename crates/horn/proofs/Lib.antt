@@ -10,6 +10,10 @@ pub mod Refusing
 pub mod Later
 pub mod Readings
 pub mod Arising
+pub mod Requests
+pub mod RequestsBoundAtoms
+pub mod RequestsBound
+pub mod RequestsBench
 pub mod Limits
 pub mod Equality
 pub mod Inversion

@@ -23,7 +23,7 @@ use Rattle.horn.proofs.Post.{either}
 use Rattle.horn.proofs.Refusing.{refuses-none, refuses, refuses-bind, refuses-need, refuses-found}
 use Rattle.horn.proofs.Later.{Later, later-absent, later-asked, later-word, later-group, later-ask, later-askWord, later-askGroup}
 use Rattle.horn.proofs.Later.{later-askNumber, later-closing, later-constructor, later-predicate, later-rule, later-references}
-use Rattle.horn.proofs.Later.{later-premises, later-intern}
+use Rattle.horn.proofs.Later.{later-premises, later-request}
 
 module _ (limits : Setting) where
   -- How a reading is put together, as `Made` says it, where each result that does not touch the store gives no refusal below 3.
@@ -46,7 +46,7 @@ module _ (limits : Setting) where
   unfolding give lift stored _>>=_
   reads-later (reads-give a) store = refuses-none
   reads-later (reads-lift h) store = refuses-bind _ h λ a. refuses-none
-  reads-later (reads-stored t) store = refuses-bind _ (later-intern limits t store) λ _. refuses-none
+  reads-later (reads-stored t) store = refuses-bind _ (later-request limits t store) λ _. refuses-none
   reads-later (reads-after p k) store = refuses-bind _ (reads-later p store) λ q. reads-later (k (q .0)) (q .1)
 
   reads-bind : {A B : Type 0} {m : Reading A} (f : A → Reading B) → Reads m → ((a : A) → Reads (f a)) → Reads (m >>= f)

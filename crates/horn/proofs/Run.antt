@@ -53,6 +53,7 @@ openRulebook = tt
 
 unfoldable pub openStoredTerms : Unit {0}
 unfolding StoredTerms.width StoredTerms.nodeSize StoredTerms.size StoredTerms.holds StoredTerms.withinLimits StoredTerms.intern StoredTerms.sameTerm
+    StoredTerms.metBy StoredTerms.request
 openStoredTerms = tt
 
 unfoldable pub openChecker : Unit {0}

@@ -8,7 +8,7 @@ use Rattle.horn.specs.Names.{codes}
 use Rattle.horn.specs.Tokens.{tokens}
 use Rattle.horn.specs.NestedLists.{word, group, closed, ended, _then_, items, asItem, topItems}
 use Rattle.horn.specs.Rulebook.{Theory, premisesOf, conclusionOf}
-use Rattle.horn.specs.StoredTerms.{Term, node, []ₜ, _∷ₜ_, Store}
+use Rattle.horn.specs.StoredTerms.{Term, node, []ₜ, _∷ₜ_, Store, emptyStore}
 use Rattle.horn.specs.Checker.{Goal, goal, goalJudgment, goalsOf}
 use Rattle.horn.specs.Matching.{Step, step, judgmentOf, ruleOf}
 use Rattle.horn.specs.Certificate.{certificateOf}
@@ -66,19 +66,19 @@ pub bench-among-sorted {ℓ} : ForcedAmongSorted {ℓ} benchTheory benchJudgment
 bench-among-sorted = said ForcedAmongSorted (soundness-among-sorted document01 16_384 16_384 16_384 16_384 R G C bench-zero)
 
 -- The second step: an instance of `more` concludes it, from derivable premises.
-bench-taken :
+pub bench-taken :
     certificateOf document01 benchTheory benchGoals C benchStore
     ≡ ok (step (node hold (zeroTerm ∷ₜ []ₜ)) base ∷ step benchJudgment more ∷ [], benchFinal)
 unfolding openAll R G C
 bench-taken = refl
 
-of-run : (th : Theory) → benchTheory ≡ th → (goals : List Goal) (store : Store) → goalsOf document01 th G [] ≡ ok (goals, store)
+of-run : (th : Theory) → benchTheory ≡ th → (goals : List Goal) (store : Store) → goalsOf document01 th G emptyStore ≡ ok (goals, store)
     → (steps : List Step) (final : Store) → certificateOf document01 th goals C store ≡ ok (steps, final)
     → ((t : Step) → List·Memᴰ t steps → Concluded th (judgmentOf t) (ruleOf t))
     → Concluded benchTheory benchJudgment more
 unfolding judgmentOf ruleOf
 of-run th e goals store r steps final c each =
-    let r′ = subst (λ x. goalsOf document01 x G [] ≡ ok (goals, store)) (sym e) r in
+    let r′ = subst (λ x. goalsOf document01 x G emptyStore ≡ ok (goals, store)) (sym e) r in
     let c′ = subst (λ x. certificateOf document01 x goals C store ≡ ok (steps, final)) (sym e) c in
     let read = ok-equal (sym bench-read ∙ r′) in
     let c″ = subst (λ q. certificateOf document01 benchTheory (q .0) C (q .1) ≡ ok (steps, final)) (sym read) c′ in

@@ -9,7 +9,7 @@ use Rattle.horn.specs.Setting.{Setting}
 use Rattle.horn.specs.Names.{Name}
 use Rattle.horn.specs.NestedLists.{Item, Items}
 use Rattle.horn.specs.Rulebook.{Symbol, symbol, sort, judgment, inputs, output, Theory, isConstructor, isPredicate}
-use Rattle.horn.specs.StoredTerms.{Term, node, Terms, []ₜ, _∷ₜ_, Store}
+use Rattle.horn.specs.StoredTerms.{Term, node, Terms, []ₜ, _∷ₜ_, Store, emptyStore}
 use Rattle.horn.specs.Checker.{Def, isDef, meaning, Goal, goal, isGoal, goalsOf, hasSort, accepts}
 use Rattle.horn.specs.Forced.{Ground, ground, Grounds, no-ground, ground-then, WellSorted, well-sorted}
 use Rattle.horn.proofs.Equality.{both, named-decides, sameOutput-decides, first-some, some-of-false, in-or-last}
@@ -109,7 +109,7 @@ goals-apart-read {goals} (next-goal-read (read-goal {name = n} {j = j} new r) rs
     goals-apart-read rs (goals-apart-more goals n j (some-of-false (isGoal n) goals new) a)
 
 -- No goal of a text that was read has the name of a later one.
-pub text-apart : (limits : Setting) (th : Theory) (text : List ℕ) {store : Store} {goals : List Goal} → goalsOf limits th text [] ≡ ok (goals, store)
+pub text-apart : (limits : Setting) (th : Theory) (text : List ℕ) {store : Store} {goals : List Goal} → goalsOf limits th text emptyStore ≡ ok (goals, store)
     → GoalsApart goals
 text-apart limits th text e = goals-apart-read ((text-read limits th text e) .1) tt
 

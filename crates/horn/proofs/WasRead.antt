@@ -12,7 +12,7 @@ use Rattle.horn.specs.Tokens.{tokens}
 use Rattle.horn.specs.Names.{Name, codes, questioned, first, isZero, someOf}
 use Rattle.horn.specs.NestedLists.{Item, word, group, Items, closed, ended, badLine, _then_, items}
 use Rattle.horn.specs.Rulebook.{Symbol, inputs, Theory, constructor, predicate}
-use Rattle.horn.specs.StoredTerms.{Term, node, Terms, []ₜ, _∷ₜ_, Store, width, intern}
+use Rattle.horn.specs.StoredTerms.{Term, node, Terms, []ₜ, _∷ₜ_, Store, emptyStore, width, request}
 use Rattle.horn.specs.Checker
 use Rattle.horn.specs.Checker.{Def, isDef, meaning, Goal, goal, isGoal, accepts, make, stored, wordDue, groupDue, ask, askWord, askGroup, closingDue}
 use Rattle.horn.proofs.Equality.{case, not-true, named-decides}
@@ -59,14 +59,14 @@ is-at-closing (item then rest) e = not-ok e
 
 -- A term that was stored, and one that was made.
 pub after-stored {ℓ} : {C : Type ℓ} (limits : Setting) (t : Term) (s : Store) {s′ : Store} {u : Term} → stored limits t s ≡ ok (u, s′)
-    → (intern limits t s ≡ ok s′ → t ≡ u → C)
+    → (request limits t s ≡ ok s′ → t ≡ u → C)
     → C
 unfolding stored
 after-stored limits t s e k =
     afterᵣ _ e λ after e₁ e₂. let p = ok-equal e₂ in k (e₁ ∙ ap ok (ap (λ q. q .1) p)) (ap (λ q. q .0) p)
 
 after-make {ℓ} : {C : Type ℓ} (limits : Setting) (c : Symbol) (ts : Terms) (s : Store) {s′ : Store} {t : Term} → make limits c ts s ≡ ok (t, s′)
-    → (accepts (inputs c) ts ≡ true → intern limits (node c ts) s ≡ ok s′ → node c ts ≡ t → C)
+    → (accepts (inputs c) ts ≡ true → request limits (node c ts) s ≡ ok s′ → node c ts ≡ t → C)
     → C
 unfolding make
 after-make limits c ts s e k = after-need _ _ _ _ e λ a e₁. after-stored limits (node c ts) s e₁ λ i same. k a i same
@@ -77,13 +77,13 @@ module _ (limits : Setting) (th : Theory) (defs : List Def) where
       read-abbreviation : {name : Name} {d : Def} {s : Store} {t : Term} → first (isDef name) defs ≡ some d → meaning d ≡ t
           → ReadTerm (word name) s t s
       read-constant : {name : Name} {c : Symbol} {s s′ : Store} → constructor th name ≡ ok c → accepts (inputs c) []ₜ ≡ true
-          → intern limits (node c []ₜ) s ≡ ok s′
+          → request limits (node c []ₜ) s ≡ ok s′
           → ReadTerm (word name) s (node c []ₜ) s′
       read-compound : {name : Name} {c : Symbol} {rest : Items} {ts : Terms} {s s₁ s′ : Store} → constructor th name ≡ ok c
           → ReadTerms rest s ts s₁
           → isZero (width ts) ≡ false
           → accepts (inputs c) ts ≡ true
-          → intern limits (node c ts) s₁ ≡ ok s′
+          → request limits (node c ts) s₁ ≡ ok s′
           → ReadTerm (group (word name then rest)) s (node c ts) s′
 
     pub data ReadTerms : Items → Store → Terms → Store → Type 0 where
@@ -95,7 +95,7 @@ module _ (limits : Setting) (th : Theory) (defs : List Def) where
   pub data ReadJudgment (name : Name) (rest : Items) (s : Store) : Term → Store → Type 0 where
     read-judgment : {c : Symbol} {ts : Terms} {s₁ s′ : Store} → predicate th name ≡ ok c → ReadTerms rest s ts s₁
         → accepts (inputs c) ts ≡ true
-        → intern limits (node c ts) s₁ ≡ ok s′
+        → request limits (node c ts) s₁ ≡ ok s′
         → ReadJudgment name rest s (node c ts) s′
 
   atom-read : (name : Name) (s : Store) {s′ : Store} {t : Term} → Checker.atomTerm limits th defs name s ≡ ok (t, s′) → ReadTerm (word name) s t s′
@@ -232,12 +232,12 @@ module _ (limits : Setting) (th : Theory) where
       next-goal-read r (subst (λ gs. ReadGoals gs rest s₁ more s′) (sym added) (goals-read rest next s₁ e₂))
 
   -- The goals of a whole text. There is at least one.
-  pub text-read : (text : List ℕ) {s : Store} {goals : List Goal} → Checker.goalsOf limits th text [] ≡ ok (goals, s)
-      → (isZero (length goals) ≡ false) × ReadGoals [] (items (tokens text)) [] goals s
+  pub text-read : (text : List ℕ) {s : Store} {goals : List Goal} → Checker.goalsOf limits th text emptyStore ≡ ok (goals, s)
+      → (isZero (length goals) ≡ false) × ReadGoals [] (items (tokens text)) emptyStore goals s
   unfolding Checker.goalsOf
   text-read text {s} e =
       after _ e λ gs s₁ e₁ e₂.
       after-need _ _ _ _ e₂ λ p e₃.
       given-is e₃ λ same q.
-      subst (λ z. (isZero (length z) ≡ false) × ReadGoals [] (items (tokens text)) [] z s) same
-      (not-true _ p, subst (ReadGoals [] (items (tokens text)) [] gs) q (goals-read (items (tokens text)) [] [] e₁))
+      subst (λ z. (isZero (length z) ≡ false) × ReadGoals [] (items (tokens text)) emptyStore z s) same
+      (not-true _ p, subst (ReadGoals [] (items (tokens text)) emptyStore gs) q (goals-read (items (tokens text)) [] emptyStore e₁))

@@ -3,14 +3,14 @@
 use Prim.Native.Nat.{ℕ, _≤_}
 use mathlib.Core.Path.{_≡_}
 use mathlib.Core.Logic.{_⊎_}
-use mathlib.Core.List.{List, []}
+use mathlib.Core.List.{List}
 use lib.ListN.{length}
 use Rattle.horn.specs.Refusals.{Result, ok}
 use Rattle.horn.specs.Setting.{Setting}
 use Rattle.horn.specs.Tokens.{tokens}
 use Rattle.horn.specs.NestedLists.{Item, Items, _then_, items, Sexp, Sexps, _∷ₛ_, sexps}
 use Rattle.horn.specs.Rulebook.{Theory, declaration, emptyTheory, theory}
-use Rattle.horn.specs.StoredTerms.{Term, Store, intern}
+use Rattle.horn.specs.StoredTerms.{Term, Store, emptyStore, request}
 use Rattle.horn.specs.Checker.{Reading, _>>=_, give, lift, stored, Goal, goalsOf}
 use Rattle.horn.specs.Matching.{Step}
 use Rattle.horn.specs.Certificate.{Progress, begun, certificateForm, certificateOf}
@@ -43,7 +43,7 @@ module _ (limits : Setting) where
   unfoldable pub Passes : {A : Type 0} {m : Reading A} → Made A m → Store → Store → Type 0
   Passes (made-give a) s u = s ≡ u
   Passes (made-lift r) s u = s ≡ u
-  Passes (made-stored t) s u = (s ≡ u) ⊎ (intern limits t s ≡ ok u)
+  Passes (made-stored t) s u = (s ≡ u) ⊎ (request limits t s ≡ ok u)
   Passes (made-after {A} {m} p k) s u = Passes p s u ⊎ ((q : A × Store) × (m s ≡ ok q) × Passes (k (q .0)) (q .1) u)
 
   -- What a certificate's forms have come to, and the store then: before the first form, and after each form that is not refused.
@@ -56,9 +56,9 @@ module _ (limits : Setting) where
   -- A store that arises in reading the goals text, or after it in reading the certificate, however those readings are put
   -- together. The store begins empty.
   pub data StoreArises (rulebook text certificate : List ℕ) : Store → Type 1 where
-    in-goals : {th : Theory} {u : Store} → theory rulebook ≡ ok th → (p : Made (List Goal) (goalsOf limits th text)) → Passes p [] u
+    in-goals : {th : Theory} {u : Store} → theory rulebook ≡ ok th → (p : Made (List Goal) (goalsOf limits th text)) → Passes p emptyStore u
         → StoreArises rulebook text certificate u
-    in-certificate : {th : Theory} {goals : List Goal} {s u : Store} → theory rulebook ≡ ok th → goalsOf limits th text [] ≡ ok (goals, s)
+    in-certificate : {th : Theory} {goals : List Goal} {s u : Store} → theory rulebook ≡ ok th → goalsOf limits th text emptyStore ≡ ok (goals, s)
         → (p : Made (List Step) (certificateOf limits th goals certificate)) → Passes p s u
         → StoreArises rulebook text certificate u
 
@@ -69,6 +69,6 @@ module _ (limits : Setting) where
     pub gives : theory rulebook ≡ ok th
     pub goals : List Goal
     pub store : Store
-    pub read : goalsOf limits th text [] ≡ ok (goals, store)
+    pub read : goalsOf limits th text emptyStore ≡ ok (goals, store)
     pub thenStore : Store
     pub proceeds : Proceeds th (begun goals) (items (tokens certificate)) store now thenStore

@@ -7,6 +7,7 @@ use lib.ListN.{length, drop, replicate}
 use Rattle.horn.specs.Refusals.{number, Result, ok, refused, _>>=_, need, areaShort, textLong}
 use Rattle.horn.specs.Setting.{Setting}
 use Rattle.horn.specs.Rulebook.{Symbol, symbol, sort, judgment, Theory, theory}
+use Rattle.horn.specs.StoredTerms.{emptyStore}
 use Rattle.horn.specs.Checker.{goalsOf}
 use Rattle.horn.specs.Certificate.{certificateOf}
 
@@ -22,17 +23,18 @@ pub record RulebookReport : Type 0 where
 abbrev pub rulebookReport : ℕ → ℕ → ℕ → ℕ → ℕ → RulebookReport
 rulebookReport n s c p r = record { number = n; sorts = s; constructors = c; predicates = p; rules = r }
 
--- "The other takes three texts and answers a number, steps, goals, terms, bytes."
+-- "The other takes three texts and answers a number, steps, goals, terms, bytes." L1: "The report gains a fifth count, nodes requested".
 pub record Report : Type 0 where
   pub number : ℕ
   pub steps : ℕ
   pub goals : ℕ
   pub terms : ℕ
   pub bytes : ℕ
+  pub requested : ℕ
 
 -- A report by its values.
-abbrev pub report : ℕ → ℕ → ℕ → ℕ → ℕ → Report
-report n s g t b = record { number = n; steps = s; goals = g; terms = t; bytes = b }
+abbrev pub report : ℕ → ℕ → ℕ → ℕ → ℕ → ℕ → Report
+report n s g t b r = record { number = n; steps = s; goals = g; terms = t; bytes = b; requested = r }
 
 -- How many symbols are constructors, for "the counts of sorts, constructors, predicates and rules".
 unfoldable pub constructorCount : List Symbol → ℕ
@@ -63,7 +65,7 @@ module _ (limits : Setting) where
     theory rulebook
 
   -- "The rulebook whole, the goals whole, the certificate. The first refusal met is given." The store begins empty.
-  -- "Bytes is the certificate's length."
+  -- "Bytes is the certificate's length." L1: "nodes requested, which is every request to the store that was met, found or made".
   unfoldable pub releaseJudged : ℕ → ℕ → ℕ → ℕ → List ℕ → List ℕ → List ℕ → Result Report
   releaseJudged a b c d rulebook goals certificate = do
     _ ← areasLong a b c d
@@ -71,9 +73,9 @@ module _ (limits : Setting) where
     _ ← need (leb (length goals) (limits .goalsBytes)) textLong
     _ ← need (leb (length certificate) (limits .certificateBytes)) textLong
     th ← theory rulebook
-    (gs, store) ← goalsOf limits th goals []
+    (gs, store) ← goalsOf limits th goals emptyStore
     (steps, final) ← certificateOf limits th gs certificate store
-    ok (report 0 (length steps) (length gs) (length final) (length certificate))
+    ok (report 0 (length steps) (length gs) (length (final .terms)) (length certificate) (length (final .requests)))
 
 -- "Number 0 is accepted; a refusal has zero counts."
 unfoldable pub rulebookAnswer : Result Theory → RulebookReport
@@ -83,7 +85,7 @@ rulebookAnswer (ok th) =
 
 -- "Number 0 is accepted; a refusal has zero counts": the same for the call with three texts.
 unfoldable pub releaseAnswer : Result Report → Report
-releaseAnswer (refused r) = report (number r) 0 0 0 0
+releaseAnswer (refused r) = report (number r) 0 0 0 0 0
 releaseAnswer (ok accepted) = accepted
 
 -- The call with the rulebook alone: from the lengths of the four areas and the bytes of the text to the report.

@@ -14,7 +14,7 @@ use Rattle.horn.specs.Tokens.{tokens}
 use Rattle.horn.specs.NestedLists.{Item, word, group, Items, closed, ended, badLine, _then_, items, askedAt, absent}
 use Rattle.horn.specs.Names.{Name, named, codes, questioned, first, isZero, someOf}
 use Rattle.horn.specs.Rulebook.{Symbol, inputs, output, sameOutput, sort, Theory, constructor, predicate}
-use Rattle.horn.specs.StoredTerms.{Term, node, Terms, []ₜ, _∷ₜ_, Store, width, intern}
+use Rattle.horn.specs.StoredTerms.{Term, node, Terms, []ₜ, _∷ₜ_, Store, width, request}
 
 -- Reading with the store at hand: a value and the store afterwards, or the first refusal.
 abbrev pub Reading : Type 0 → Type 0
@@ -124,9 +124,9 @@ accepts [] (t ∷ₜ ts) = false
 accepts (s ∷ ss) []ₜ = false
 accepts (s ∷ ss) (t ∷ₜ ts) = hasSort s t && accepts ss ts
 
--- A term that is put into the store, if it is not there yet.
+-- A term that is put into the store, if it is not there yet. Nothing else is a request to the store.
 unfoldable pub stored : Setting → Term → Reading Term
-stored limits t store = intern limits t store >>=ᵣ λ after. ok (t, after)
+stored limits t store = request limits t store >>=ᵣ λ after. ok (t, after)
 
 -- "Then 15 for arity and sorts, then the store."
 unfoldable pub make : Setting → Symbol → Terms → Reading Term

@@ -11,7 +11,7 @@ use Rattle.horn.specs.StoredTerms.{Term}
 use Rattle.horn.specs.Checker.{Goal, goalJudgment}
 use Rattle.horn.specs.Calls.{Report, report}
 use Rattle.horn.specs.Forced.{Instance, Derivable, Accepted, ReadWithoutRefusal, HasGoals}
-use Rattle.horn.specs.Layout.{laidOut, distinctTerms, Proves, WithinLimits}
+use Rattle.horn.specs.Layout.{laidOut, distinctTerms, requestedNodes, Proves, WithinLimits}
 
 -- What is said of a rulebook and a goals text: the rulebook is accepted and gives a theory; the goals text is read without refusal under it
 -- and has goals, at least one; and `Said` holds of each goal's judgment.
@@ -33,7 +33,8 @@ pub record Sound (limits : Setting) (rulebook text : List ℕ) (answer : Report)
 
 -- The second half, complete, "from bytes to report" too: the laid-out certificate of any list of instances that proves the goals, if it is
 -- within the limits, is accepted. Its report has as many steps as there are instances, as many goals as the goals text has, as many terms as
--- there are distinct judgments of goals and conclusions, with all their subterms, and as its bytes the certificate's length.
+-- there are distinct judgments of goals and conclusions, with all their subterms, as its bytes the certificate's length, and as the nodes
+-- requested the sizes, as trees, of all judgments of goals and all conclusions.
 pub record Complete (limits : Setting) (a b c d : ℕ) (rulebook text certificate : List ℕ) (answer : Report) : Type 0 where
   pub accepts-layout : (th : Theory) (goals : List Goal) (is : List Instance)
       → Accepted limits rulebook
@@ -43,4 +44,5 @@ pub record Complete (limits : Setting) (a b c d : ℕ) (rulebook text certificat
       → Proves th goals is
       → WithinLimits limits a b c d goals is
       → certificate ≡ laidOut goals is
-      → answer ≡ report 0 (length is) (length goals) (length (distinctTerms goals is)) (length certificate)
+      → answer
+      ≡ report 0 (length is) (length goals) (length (distinctTerms goals is)) (length certificate) (requestedNodes goals is)

@@ -12,7 +12,7 @@ use Rattle.horn.specs.Tokens.{tokens}
 use Rattle.horn.specs.NestedLists.{items, topItems}
 use Rattle.horn.specs.Rulebook.{symbol, sort, judgment, variable, Pattern, var, app, Patterns, []ₚ, _∷ₚ_}
 use Rattle.horn.specs.Rulebook.{Rule, Theory, variablesOf, premisesOf, conclusionOf}
-use Rattle.horn.specs.StoredTerms.{Term, node, Terms, []ₜ, _∷ₜ_}
+use Rattle.horn.specs.StoredTerms.{Term, node, Terms, []ₜ, _∷ₜ_, emptyStore}
 use Rattle.horn.specs.Checker.{Goal, goalJudgment, goalsOf}
 use Rattle.horn.specs.Calls.{rulebookCall}
 use Rattle.horn.specs.Written.{goalSexp}
@@ -132,4 +132,4 @@ pub record Accepted (limits : Setting) (rulebook : List ℕ) : Type 0 where
 -- "A goals text is read without refusal if by the same rules none is met in it under that rulebook, 2 and 17 included."
 pub record ReadWithoutRefusal (limits : Setting) (th : Theory) (text : List ℕ) : Type 0 where
   pub short : length text ≤ limits .goalsBytes
-  pub none-met : (r : Refusal) → goalsOf limits th text [] ≢ refused r
+  pub none-met : (r : Refusal) → goalsOf limits th text emptyStore ≢ refused r

@@ -132,6 +132,25 @@ distinct (t ∷ ts) = elim (someOf (sameTerm t) ts) [ true ↦ distinct ts | fal
 unfoldable pub distinctTerms : List Goal → List Instance → List Term
 distinctTerms goals is = distinct (allSubterms (judgments goals ++ map conclusion is))
 
+-- How many nodes a term has as a tree.
+unfoldable mutual
+  pub treeSize : Term → ℕ
+  treeSize (node c ts) = suc (treeSizeOf ts)
+
+  -- The same of arguments, added up.
+  pub treeSizeOf : Terms → ℕ
+  treeSizeOf []ₜ = zero
+  treeSizeOf (t ∷ₜ ts) = treeSize t + treeSizeOf ts
+
+-- The same of the terms of a list, added up.
+unfoldable pub allTreeSizes : List Term → ℕ
+allTreeSizes [] = zero
+allTreeSizes (t ∷ ts) = treeSize t + allTreeSizes ts
+
+-- L1: "nodes requested", for the laid-out certificate: the judgments of goals and the conclusions, as trees.
+unfoldable pub requestedNodes : List Goal → List Instance → ℕ
+requestedNodes goals is = allTreeSizes (judgments goals ++ map conclusion is)
+
 -- "Within the limits means: areas long enough, the certificate's length, no item deeper than 256, and the distinct
 -- judgments of goals and conclusions, with all their subterms, within the store's two limits."
 pub record WithinLimits (limits : Setting) (a b c d : ℕ) (goals : List Goal) (is : List Instance) : Type 0 where

@@ -23,7 +23,7 @@ pub fn rulebook(
     rulebook_call::rulebook(rulebook, a, b, c, d)
 }
 
-// "The other takes three texts and answers a number, steps, goals, terms, bytes."
+// "The other takes three texts and answers a number, steps, goals, terms, bytes." L1: "a fifth count, nodes requested".
 pub fn release(
     rulebook: &[u8],
     goals: &[u8],

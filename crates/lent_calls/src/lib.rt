@@ -3,7 +3,7 @@ use answers::Answer;
 use areas::Before;
 use areas::Lengths;
 
-// A report of the rulebook alone as an answer.
+// A report of the rulebook alone as an answer. It has no fifth count.
 fn rulebook_answer(r: rulebook_call::RulebookReport) -> Answer {
     Answer {
         number: r.number,
@@ -11,6 +11,7 @@ fn rulebook_answer(r: rulebook_call::RulebookReport) -> Answer {
         second: r.constructors,
         third: r.predicates,
         fourth: r.rules,
+        fifth: 0,
     }
 }
 
@@ -22,6 +23,7 @@ fn release_answer(r: reports::Report) -> Answer {
         second: r.goals,
         third: r.terms,
         fourth: r.bytes,
+        fifth: r.requested,
     }
 }
 
@@ -42,7 +44,23 @@ fn call(
     release_answer(kernel::release(rulebook, goals, certificate, a, b, c, d))
 }
 
-// Either call over areas that held other words, with its areas tested.
+// Either call, with its areas tested.
+fn tested(
+    p: Before,
+    alone: bool,
+    rulebook: &[u8],
+    goals: &[u8],
+    certificate: &[u8],
+    a: &mut [u32],
+    b: &mut [u32],
+    c: &mut [u32],
+    d: &mut [u32],
+) -> Answer {
+    let x = call(alone, rulebook, goals, certificate, a, b, c, d);
+    areas::with_areas(p, x, a, b, c, d)
+}
+
+// The same over areas that held other words.
 fn called(
     p: Before,
     alone: bool,
@@ -55,8 +73,7 @@ fn called(
     d: &mut [u32],
 ) -> Answer {
     areas::fill_all(p.first, p.step, a, b, c, d);
-    let x = call(alone, rulebook, goals, certificate, a, b, c, d);
-    areas::with_areas(p, x, a, b, c, d)
+    tested(p, alone, rulebook, goals, certificate, a, b, c, d)
 }
 
 // As many words of each area as the case lends; 98 where it lends more than there are.
@@ -82,6 +99,7 @@ fn lend(
         second: 0,
         third: 0,
         fourth: 0,
+        fifth: 0,
     };
     if a.len() < i {
         return too_long;

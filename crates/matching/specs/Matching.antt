@@ -6,7 +6,8 @@ use mathlib.Core.Option.{Option, none, some}
 use lib.Dec.{eqb, leb}
 use lib.ListN.{getD, set}
 use Rattle.words.specs.Parts.{part}
-use Rattle.arena.specs.Store.{headOf, argumentOf, internAnswer, internArea}
+use Rattle.arena.specs.Store.{headOf, argumentOf, internAnswer}
+use Rattle.requests.specs.Requests.{requestedArea}
 use Rattle.outcomes.specs.Outcomes.{Outcome, ok, refused, pick}
 use Rattle.outcomes.specs.Leaving as leaving
 use Rattle.outcomes.specs.Leaving.{Did, _leaving_}
@@ -85,7 +86,7 @@ module _ (nodes limit places : ℕ) where
   -- "Each node stored after its arguments": its words stand on the stack; its number, with where its pattern ended.
   unfoldable pub nodeMade : ℕ → ℕ → ℕ → List ℕ → List ℕ → Did (List ℕ) (ℕ × ℕ)
   nodeMade from to o stack store =
-      numbered o (internAnswer store nodes limit places (part from to stack)) leaving internArea store nodes limit places (part from to stack)
+      numbered o (internAnswer store nodes limit places (part from to stack)) leaving requestedArea store nodes limit places (part from to stack)
 
   -- n arguments from the patterns that stand from o on, to the stack from p on; then the node, whose words stand there from `from` on.
   unfoldable pub argumentsBuilt : (ℕ → ℕ → List ℕ → List ℕ → Did Areas (ℕ × ℕ)) → ℕ → ℕ → ℕ → ℕ → List ℕ → List ℕ → Did Areas (ℕ × ℕ)

@@ -128,7 +128,7 @@ pub fn make_node(
     ensures { λ r. ⌜ (models.built r leaving now (store .exit)) ≡ models.nodeMade nodes limit places from to o (now (stack .entry)) (now (store .entry)) ⌝ }
 {
     let key = words::words_part(stack, from as usize, to as usize);
-    let a = arena::intern(store, nodes, limit, places, key);
+    let a = requests::intern(store, nodes, limit, places, key);
     match a {
         Answer::Found(k) => Built::Term(k, o),
         Answer::Made(k) => Built::Term(k, o),

@@ -8,7 +8,7 @@ use lib.ListN.{length, getD, set, length-set}
 use lib.Seq.{getD-set-same, getD-set-other}
 use Rattle.horn.specs.Names.{Name, named}
 use Rattle.horn.specs.Rulebook.{Variable, Theory}
-use Rattle.horn.specs.StoredTerms.{Term}
+use Rattle.horn.specs.StoredTerms.{Term, Store}
 use Rattle.horn.specs.Matching.{Bind, bind, lookup}
 use Rattle.horn.proofs.Equality.{case, chose-true, chose-false, named-decides, decides-false}
 use Rattle.names.proofs.Holds.{by-number}
@@ -35,15 +35,15 @@ lookup-other (bind m v ∷ binds) n u name d =
 
 module _ {es : Entries} {th : Theory} where
   -- A longer store.
-  pub bound-longer : {ts us : List Term} {word : ℕ} {o : Option Term} → Longer ts us → Bound es th ts word o → Bound es th us word o
+  pub bound-longer : {ts us : Store} {word : ℕ} {o : Option Term} → Longer ts us → Bound es th ts word o → Bound es th us word o
   bound-longer g (not-bound e) = not-bound e
   bound-longer g (bound-to k e m) = bound-to k e (means-longer g m)
 
-  pub binds-longer : {ts us : List Term} {vs : List Variable} {now : List ℕ} {binds : List Bind} → Longer ts us → Binds es th ts vs now binds
+  pub binds-longer : {ts us : Store} {vs : List Variable} {now : List ℕ} {binds : List Bind} → Longer ts us → Binds es th ts vs now binds
       → Binds es th us vs now binds
   binds-longer g b = record { each = λ v name n. bound-longer g (b .each v name n) }
 
-  module _ {ts : List Term} {vs : List Variable} (d : Apart vs) {now : List ℕ} {binds : List Bind} (b : Binds es th ts vs now binds) where
+  module _ {ts : Store} {vs : List Variable} (d : Apart vs) {now : List ℕ} {binds : List Bind} (b : Binds es th ts vs now binds) where
     -- Variable v, not bound before, bound to term k.
     pub binds-more : (v k : ℕ) (name : Name) (t : Term) → Nth vs v name → lookup name binds ≡ none → layout.bindings + length vs ≤ length now
         → Means es th ts k t
@@ -92,7 +92,7 @@ unbound-zero (suc n) now v l =
     (λ q. rw q (zero-kept n (set now (bindingAt n) 0) (bindingAt n) (zero-set now (bindingAt n))))
     (λ q. unbound-zero n (set now (bindingAt n) 0) v (omega arith))
 
-pub binds-none : {es : Entries} {th : Theory} {ts : List Term} {vs : List Variable} (now : List ℕ) → Binds es th ts vs (unbound (length vs) now) []
+pub binds-none : {es : Entries} {th : Theory} {ts : Store} {vs : List Variable} (now : List ℕ) → Binds es th ts vs (unbound (length vs) now) []
 unfolding bindingOf lookup
 binds-none {vs} now = record { each = λ v name n. not-bound (unbound-zero (length vs) now v (nth-below vs n)) }
 

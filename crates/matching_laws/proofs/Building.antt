@@ -43,7 +43,7 @@ use Rattle.matching_laws.proofs.Relations.{widthOf, Full, full-variable
 use Rattle.matching_laws.proofs.Bindings.{binds-longer}
 
 -- The number, the tree and the areas that building leaves: the store has grown, and the stack is kept below its top.
-pub record BuiltTo (es : Entries) (th : Theory) (limits : Setting) (places : ℕ) (ts : List Term) (stack : List ℕ) (p end : ℕ) (r : ℕ × ℕ) (areas : Areas)
+pub record BuiltTo (es : Entries) (th : Theory) (limits : Setting) (places : ℕ) (ts : Store) (stack : List ℕ) (p end : ℕ) (r : ℕ × ℕ) (areas : Areas)
     (q : Term × Store) : Type 0 where
   pub ends : r .1 ≡ end
   pub holds : Stored es th limits places (areas .0) (q .1)
@@ -94,14 +94,14 @@ builds-next limits binds p ps f ts = joined (build limits binds p ts) (builds li
 
 -- What follows the arguments: their numbers stand on the stack from q on, and the node is made of them.
 abbrev pub After : (es : Entries) (th : Theory) (limits : Setting) (places : ℕ) (Q : ℕ × ℕ → Areas → Term × Store → Type 0) (count from end q : ℕ)
-    (stack : List ℕ) (ts : List Term) (f : Terms → Reading Term) → Type 0
+    (stack : List ℕ) (ts : Store) (f : Terms → Reading Term) → Type 0
 After es th limits places Q count from end q stack ts f =
-    (ms stack′ store′ : List ℕ) (ts′ : List Term) → Longer ts ts′ → Stored es th limits places store′ ts′ → Below (length ts′) ms → length ms ≡ count
+    (ms stack′ store′ : List ℕ) (ts′ : Store) → Longer ts ts′ → Stored es th limits places store′ ts′ → Below (length (ts′ .terms)) ms → length ms ≡ count
     → q + length ms ≤ length stack
     → wordsAt stack′ q (length ms) ≡ ms
     → Keeps q stack stack′
     → Simulates Q (before stack′ (nodeMade (limits .nodes) (limits .nodeWords) places from (q + length ms) end stack′ store′))
-    (f (lookups (symbolAt es th) ts′ ms) ts′)
+    (f (lookups (symbolAt es th) (ts′ .terms) ms) ts′)
 
 flat-below : {heap : List ℕ} {es : Entries} {bound low high : ℕ} {vs : List Variable} {o o′ : ℕ} {p : Pattern} → Flat heap es bound low high vs o p o′
     → o < high
@@ -110,7 +110,7 @@ flat-below (flat-symbol l u a r) = u
 
 module _ {es : Entries} {th : Theory} {limits : Setting} {places : ℕ} where
   -- "Unbound variable 26".
-  variable-built : (now : List ℕ) (v o q : ℕ) {stack store : List ℕ} {ts : List Term} → o + 1 < 4294967296 → Stored es th limits places store ts
+  variable-built : (now : List ℕ) (v o q : ℕ) {stack store : List ℕ} {ts : Store} → o + 1 < 4294967296 → Stored es th limits places store ts
       → {x : Option Term} → Bound es th ts (bindingOf now v) x
       → Simulates (BuiltTo es th limits places ts stack q (o + 1)) (boundTerm now v o leaving (store, stack))
       (results._>>=_ (found x unbound) λ a. ok (paired a ts))
@@ -125,7 +125,7 @@ module _ {es : Entries} {th : Theory} {limits : Setting} {places : ℕ} where
 module _ {text heap : List ℕ} {es : Entries} {top : ℕ} {th : Theory} (h : Holds text heap es top th) (small : top ≤ layout.bindings)
     (limits : Setting) {places : ℕ} (l : Limits (limits .nodes) (limits .nodeWords) places) where
   -- The node, where its words stand on the stack.
-  pub node-made : {c : Symbol} {count word from end : ℕ} {stack₀ : List ℕ} {ts : List Term} → SymbolAt heap es top word c → count ≡ length (inputs c)
+  pub node-made : {c : Symbol} {count word from end : ℕ} {stack₀ : List ℕ} {ts : Store} → SymbolAt heap es top word c → count ≡ length (inputs c)
       → from < length stack₀
       → After es th limits places (BuiltTo es th limits places ts stack₀ from end) count from end (from + 1) (set stack₀ from word) ts
       (λ us. checker.stored limits (node c us))
@@ -138,9 +138,9 @@ module _ {text heap : List ℕ} {es : Entries} {top : ℕ} {th : Theory} (h : Ho
       let key : part from (from + 1 + length ms) stack ≡ word ∷ ms =
       wordsAt-part stack from (from + 1 + length ms) (suc (length ms)) n (omega arith) ∙ ap₂ _∷_ here words in
       let s : symbolAt es th word ≡ c = symbol-is h a in
-      let w : width (lookups (symbolAt es th) ts′ ms) ≡ length (inputs c) = lookups-width (symbolAt es th) ts′ ms ∙ e ∙ wide in
-      let b : trees.build (symbolAt es th) ts′ (word ∷ ms) ≡ node c (lookups (symbolAt es th) ts′ ms) =
-      ap (λ (x : Symbol). node x (lookups (symbolAt es th) ts′ ms)) s in
+      let w : width (lookups (symbolAt es th) (ts′ .terms) ms) ≡ length (inputs c) = lookups-width (symbolAt es th) (ts′ .terms) ms ∙ e ∙ wide in
+      let b : trees.build (symbolAt es th) (ts′ .terms) (word ∷ ms) ≡ node c (lookups (symbolAt es th) (ts′ .terms) ms) =
+      ap (λ (x : Symbol). node x (lookups (symbolAt es th) (ts′ .terms) ms)) s in
       rw key
       (behind stack (stored-law st h l end (word ∷ ms) (formed (used-at h a) below) b (sized w))
       (λ r area t y.
@@ -159,7 +159,7 @@ module _ {text heap : List ℕ} {es : Entries} {top : ℕ} {th : Theory} (h : Ho
 
       -- The stack has room for as many words as the pattern has.
       pub pattern-built : {o o′ : ℕ} {p : Pattern} → Flat heap es top low high vs o p o′ → Full p → (left q : ℕ) → high ≤ o + left
-          → {stack store : List ℕ} {ts : List Term} → q + high ≤ length stack + o → length stack < 4294967296
+          → {stack store : List ℕ} {ts : Store} → q + high ≤ length stack + o → length stack < 4294967296
           → Stored es th limits places store ts
           → Binds es th ts vs now binds
           → Simulates (BuiltTo es th limits places ts stack q o′) (termBuilt (limits .nodes) (limits .nodeWords) places now left o q stack store)
@@ -183,10 +183,10 @@ module _ {text heap : List ℕ} {es : Entries} {top : ℕ} {th : Theory} (h : Ho
           (node-made {count = widthOf ps} a wide (omega arith)))
 
       pub patterns-built : {o o′ : ℕ} {ps : Patterns} → Flats heap es top low high vs o ps o′ → Fulls ps → (left from q : ℕ) → high ≤ o + left
-          → {stack store : List ℕ} {ts : List Term} → q + high ≤ length stack + o → q ≤ length stack → length stack < 4294967296
+          → {stack store : List ℕ} {ts : Store} → q + high ≤ length stack + o → q ≤ length stack → length stack < 4294967296
           → Stored es th limits places store ts
           → Binds es th ts vs now binds
-          → {ts₀ : List Term} {stack₀ : List ℕ} {q₀ : ℕ} (f : Terms → Reading Term)
+          → {ts₀ : Store} {stack₀ : List ℕ} {q₀ : ℕ} (f : Terms → Reading Term)
           → After es th limits places (BuiltTo es th limits places ts₀ stack₀ q₀ o′) (widthOf ps) from o′ q stack ts f
           → Simulates (BuiltTo es th limits places ts₀ stack₀ q₀ o′)
           (argumentsBuilt (limits .nodes) (limits .nodeWords) places (termBuilt (limits .nodes) (limits .nodeWords) places now left)
@@ -211,7 +211,7 @@ module _ {text heap : List ℕ} {es : Entries} {top : ℕ} {th : Theory} (h : Ho
           (patterns-built more xs left from (q + 1) (omega arith) (omega arith) (omega arith) (omega arith) (y .holds) bound (λ us. f (b .0 ∷ₜ us))
           (λ ms stack′ store′ ts′ longer st′ below e room words kept.
           let n : q + 1 + length ms ≡ q + suc (length ms) = omega arith in
-          let t : treeOf (symbolAt es th) ts′ (a .0) ≡ b .0 = longer-tree (symbolAt es th) (a .0) longer (y .means .below) ∙ y .means .tree in
+          let t : treeOf (symbolAt es th) (ts′ .terms) (a .0) ≡ b .0 = longer-tree (symbolAt es th) (a .0) longer (y .means .below) ∙ y .means .tree in
           let here : getD stack′ q 0 ≡ a .0 = kept .words q (omega arith) ∙ getD-set-same (s .1) q (a .0) 0 (omega arith) in
           let up = longer-length longer in
           let i = y .means .below in

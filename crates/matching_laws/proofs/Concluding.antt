@@ -36,7 +36,7 @@ use Rattle.matching_laws.proofs.Building.{behind, pattern-built}
 use Rattle.matching_laws.proofs.Formed.{RuleReady}
 
 -- The number of the judgment, and the areas that are left.
-pub record ConcludedTo (es : Entries) (th : Theory) (heap : List ℕ) (limits : Setting) (places : ℕ) (ts : List Term) (k : ℕ) (areas : Areas × List ℕ)
+pub record ConcludedTo (es : Entries) (th : Theory) (heap : List ℕ) (limits : Setting) (places : ℕ) (ts : Store) (k : ℕ) (areas : Areas × List ℕ)
     (q : Term × Store) : Type 0 where
   pub holds : Stored es th limits places (areas .0 .0) (q .1)
   pub means : Means es th (q .1) k (q .0)
@@ -73,7 +73,7 @@ stated-defined limits th steps name vs ps c refs binds j ts =
 
 module _ {text heap : List ℕ} {es : Entries} {top : ℕ} {th : Theory} (h : Holds text heap es top th) (small : top ≤ layout.bindings)
     (limits : Setting) (narrow : limits .nodes < 4294967295) {places : ℕ} (l : Limits (limits .nodes) (limits .nodeWords) places)
-    {store : List ℕ} {ts : List Term} (st : Stored es th limits places store ts)
+    {store : List ℕ} {ts : Store} (st : Stored es th limits places store ts)
     {table stack : List ℕ} (long : length stack ≡ 16384) {steps : List Step} (sa : StepsAt es th ts table steps)
     {refs : List ℕ} (at-refs : ReferencesAt stack 0 refs)
     {now : List ℕ} (keep : Keeps layout.bindings heap now) {binds : List Bind} where
@@ -117,7 +117,7 @@ module _ {text heap : List ℕ} {es : Entries} {top : ℕ} {th : Theory} (h : Ho
       (found-match 23 badConclusion _ _ refl
       (pattern-matches h small narrow st (ready .distinct) (omega arith) small (w .at-conclusion) (ready .conclusion) 16384 k (omega arith) (b .below) keep bs)
       (λ now′ more k′ b′.
-      rw (lift-then (matchPremises steps ps refs more) (λ _. give (treeOf (symbolAt es th) ts k)) ts)
+      rw (lift-then (matchPremises steps ps refs more) (λ _. give (treeOf (symbolAt es th) (ts .terms) k)) ts)
       (bind _ _ (premises-match h small narrow st (ready .distinct) (omega arith) small sa (w .at-premises) (ready .premises) count at-refs k′ b′)
       (λ o now″ most y. leave record { holds = st; means = record { below = b .below; tree = refl }; grown = longer-none; keeps = y .keeps; long = long }))))
       (λ a s q x. x))

@@ -11,7 +11,7 @@ use lib.ListN.{length, getD}
 use Rattle.horn.specs.Names.{Name}
 use Rattle.horn.specs.Setting.{Setting}
 use Rattle.horn.specs.Rulebook.{Symbol, inputs, sameSymbol, Variable, Pattern, var, app, Patterns, []ₚ, _∷ₚ_, Theory}
-use Rattle.horn.specs.StoredTerms.{Term, node, Terms, []ₜ, _∷ₜ_, sameTerm}
+use Rattle.horn.specs.StoredTerms.{Term, node, Terms, []ₜ, _∷ₜ_, sameTerm, Store}
 use Rattle.horn.specs.Matching.{Bind, lookup, matchVar, match, matches}
 use Rattle.horn.proofs.Equality.{case, chose-true, chose-false, sameTerm-decides, sameSymbol-decides, decides-false}
 use Rattle.names.proofs.Holds.{by-number}
@@ -37,13 +37,13 @@ use Rattle.matching_laws.proofs.Bindings.{binds-more}
 
 -- Both differ; or both match, the pattern ends where it does, and the bindings are alike. Below the bindings no word has changed since the
 -- rulebook was read.
-pub data Matching (es : Entries) (th : Theory) (heap : List ℕ) (ts : List Term) (vs : List Variable) (end : ℕ) : Tried ℕ → Option (List Bind) → Type 0 where
+pub data Matching (es : Entries) (th : Theory) (heap : List ℕ) (ts : Store) (vs : List Variable) (end : ℕ) : Tried ℕ → Option (List Bind) → Type 0 where
   both-differ : {now : List ℕ} → Keeps layout.bindings heap now → Matching es th heap ts vs end (none keeping now) none
   both-match : {now : List ℕ} {binds : List Bind} → Keeps layout.bindings heap now → Binds es th ts vs now binds
       → Matching es th heap ts vs end (some end keeping now) (some binds)
 
 -- One after the other.
-pub match-next : {es : Entries} {th : Theory} {heap : List ℕ} {ts : List Term} {vs : List Variable} {middle end : ℕ} {x : Tried ℕ} {y : Option (List Bind)}
+pub match-next : {es : Entries} {th : Theory} {heap : List ℕ} {ts : Store} {vs : List Variable} {middle end : ℕ} {x : Tried ℕ} {y : Option (List Bind)}
     (f : ℕ × List ℕ → Tried ℕ) (g : List Bind → Option (List Bind))
     → Matching es th heap ts vs middle x y
     → ((now : List ℕ) (more : List Bind) → Keeps layout.bindings heap now → Binds es th ts vs now more
@@ -75,13 +75,13 @@ unfolding match
 matches-next p ps t us binds = refl
 
 module _ {text heap : List ℕ} {es : Entries} {top : ℕ} {th : Theory} (h : Holds text heap es top th) (small : top ≤ layout.bindings)
-    {limits : Setting} (narrow : limits .nodes < 4294967295) {places : ℕ} {store : List ℕ} {ts : List Term} (st : Stored es th limits places store ts)
+    {limits : Setting} (narrow : limits .nodes < 4294967295) {places : ℕ} {store : List ℕ} {ts : Store} (st : Stored es th limits places store ts)
     {vs : List Variable} (d : Apart vs) (room : layout.bindings + length vs ≤ 16384) where
   module _ {now : List ℕ} {binds : List Bind} (k : Keeps layout.bindings heap now) (b : Binds es th ts vs now binds) where
     -- "A variable binds first and must be equal later."
-    variable-matches : (v t o : ℕ) (name : Name) → Nth vs v name → t < length ts → o + 1 < 4294967296
+    variable-matches : (v t o : ℕ) (name : Name) → Nth vs v name → t < length (ts .terms) → o + 1 < 4294967296
         → {x : Option Term} → x ≡ lookup name binds → Bound es th ts (bindingOf now v) x
-        → Matching es th heap ts vs (o + 1) (variableMatched now v t o) (matchVar name (treeOf (symbolAt es th) ts t) binds x)
+        → Matching es th heap ts vs (o + 1) (variableMatched now v t o) (matchVar name (treeOf (symbolAt es th) (ts .terms) t) binds x)
     unfolding variableMatched agrees withBinding matchVar
     variable-matches v t o name n l u q (not-bound e) =
         let few = few-terms st in
@@ -91,7 +91,7 @@ module _ {text heap : List ℕ} {es : Entries} {top : ℕ} {th : Theory} (h : Ho
         rw (eq-eqb _ _ e, s, p)
         (both-match
         (keeps-then (omega arith) k (keeps-set layout.bindings now (bindingAt v) (t + 1) (omega arith)))
-        (binds-more d b v t name (treeOf (symbolAt es th) ts t) n (sym q) (omega arith) (record { below = l; tree = refl })))
+        (binds-more d b v t name (treeOf (symbolAt es th) (ts .terms) t) n (sym q) (omega arith) (record { below = l; tree = refl })))
     variable-matches v t o name n l u q (bound-to {t = y} m e a) =
         let few = few-terms st in
         let s : sum32 t 1 ≡ t + 1 = sum-small t 1 (omega arith) in
@@ -100,11 +100,11 @@ module _ {text heap : List ℕ} {es : Entries} {top : ℕ} {th : Theory} (h : Ho
         by-number t m
         (λ c.
         let i : eqb (bindingOf now v) (t + 1) ≡ true = eq-eqb (bindingOf now v) (t + 1) (omega arith) in
-        let j : sameTerm (treeOf (symbolAt es th) ts t) y ≡ true = rw (← a .tree, c) (sameTerm-decides .same _) in
+        let j : sameTerm (treeOf (symbolAt es th) (ts .terms) t) y ≡ true = rw (← a .tree, c) (sameTerm-decides .same _) in
         rw (z, s, i, j, p, matchVar) (both-match k b))
         (λ c.
         let i : eqb (bindingOf now v) (t + 1) ≡ false = ne-eqb (bindingOf now v) (t + 1) (λ g. c (omega arith)) in
-        let j : sameTerm (treeOf (symbolAt es th) ts t) y ≡ false =
+        let j : sameTerm (treeOf (symbolAt es th) (ts .terms) t) y ≡ false =
         decides-false sameTerm-decides _ _ (λ g. c (one-number st t m l (a .below) (g ∙ sym (a .tree)))) in
         rw (z, s, i, j, matchVar) (both-differ k))
 
@@ -113,14 +113,14 @@ module _ {text heap : List ℕ} {es : Entries} {top : ℕ} {th : Theory} (h : Ho
     mutual
       unfolding matched argumentsMatched lookups widthOf arityOf
 
-      pub pattern-matches : {o o′ : ℕ} {p : Pattern} → Flat heap es top low high vs o p o′ → Full p → (left t : ℕ) → high ≤ o + left → t < length ts
+      pub pattern-matches : {o o′ : ℕ} {p : Pattern} → Flat heap es top low high vs o p o′ → Full p → (left t : ℕ) → high ≤ o + left → t < length (ts .terms)
           → {now : List ℕ} {binds : List Bind} → Keeps layout.bindings heap now → Binds es th ts vs now binds
-          → Matching es th heap ts vs o′ (matched (limits .nodes) places store left o t now) (match p (treeOf (symbolAt es th) ts t) binds)
+          → Matching es th heap ts vs o′ (matched (limits .nodes) places store left o t now) (match p (treeOf (symbolAt es th) (ts .terms) t) binds)
       pattern-matches (flat-variable l u e n q) full-variable zero t le b k bs = absurd (omega arith)
       pattern-matches {o} (flat-variable {v} {name} l u e n q) full-variable (suc left) t le b {now} {binds} k bs =
           let w : getD now o 0 ≡ layout.variable + v = k .words o (omega arith) ∙ e in
           let m : layout.variable + v - layout.variable ≡ v = omega arith in
-          rw (q, w, le-leb layout.variable (layout.variable + v) (omega arith), m, match-variable name (treeOf (symbolAt es th) ts t) binds)
+          rw (q, w, le-leb layout.variable (layout.variable + v) (omega arith), m, match-variable name (treeOf (symbolAt es th) (ts .terms) t) binds)
           (variable-matches k bs v t o name n b (omega arith) refl (bs .each v name n))
       pattern-matches (flat-symbol l u a r) (full-symbol w f) zero t le b k bs = absurd (omega arith)
       pattern-matches {o} (flat-symbol {c} {ps} l u a r) (full-symbol wide f) (suc left) t le b {now} {binds} k bs =
@@ -135,17 +135,17 @@ module _ {text heap : List ℕ} {es : Entries} {top : ℕ} {th : Theory} (h : Ho
           (λ e.
           let s : c ≡ symbolAt es th (n .head) = sameSymbol-decides .equal c (symbolAt es th (n .head)) e in
           let count : length (n .arguments) ≡ widthOf ps = n .count ∙ ap (λ (x : Symbol). length (inputs x)) (sym s) ∙ sym wide in
-          rw (same ∙ e, y, z, match-same c (symbolAt es th (n .head)) ps (lookups (symbolAt es th) ts (n .arguments)) binds e)
+          rw (same ∙ e, y, z, match-same c (symbolAt es th (n .head)) ps (lookups (symbolAt es th) (ts .terms) (n .arguments)) binds e)
           (patterns-match r f left t 0 (n .arguments) count (omega arith) (λ i x. let q : 0 + i ≡ i = omega arith in rw q (n .read i x)) (n .below) k bs))
-          (λ e. rw (same ∙ e, match-other c (symbolAt es th (n .head)) ps (lookups (symbolAt es th) ts (n .arguments)) binds e) (both-differ k)))
+          (λ e. rw (same ∙ e, match-other c (symbolAt es th (n .head)) ps (lookups (symbolAt es th) (ts .terms) (n .arguments)) binds e) (both-differ k)))
 
       pub patterns-match : {o o′ : ℕ} {ps : Patterns} → Flats heap es top low high vs o ps o′ → Fulls ps → (left t j : ℕ) (ms : List ℕ) → length ms ≡ widthOf ps
           → high ≤ o + left
           → ((i : ℕ) → i < length ms → argumentOf store (limits .nodes) places t (j + i) ≡ getD ms i 0)
-          → Below (length ts) ms
+          → Below (length (ts .terms)) ms
           → {now : List ℕ} {binds : List Bind} → Keeps layout.bindings heap now → Binds es th ts vs now binds
           → Matching es th heap ts vs o′ (argumentsMatched (limits .nodes) places store (matched (limits .nodes) places store left) (widthOf ps) t j o now)
-          (matches ps (lookups (symbolAt es th) ts ms) binds)
+          (matches ps (lookups (symbolAt es th) (ts .terms) ms) binds)
       patterns-match no-flats full-none left t j [] e le read below {binds = binds} k bs = rw (matches-none binds) (both-match k bs)
       patterns-match no-flats full-none left t j (m ∷ ms) e le read below k bs = absurd (omega arith)
       patterns-match (one-flat p ps) (full-next x xs) left t j [] e le read below k bs = absurd (omega arith)
@@ -153,7 +153,7 @@ module _ {text heap : List ℕ} {es : Entries} {top : ℕ} {th : Theory} (h : Ho
           let j0 : j + 0 ≡ j = omega arith in
           let first : argumentOf store (limits .nodes) places t j ≡ m = rw j0 at (read 0 (omega arith)) in
           let up = flat-rises p in
-          rw (first, matches-next q qs (treeOf (symbolAt es th) ts m) (lookups (symbolAt es th) ts ms) binds)
+          rw (first, matches-next q qs (treeOf (symbolAt es th) (ts .terms) m) (lookups (symbolAt es th) (ts .terms) ms) binds)
           (match-next _ _ (pattern-matches p x left m le l k bs)
           (λ now more k′ bs′.
           patterns-match ps xs left t (j + 1) ms (omega arith) (omega arith)

@@ -11,7 +11,7 @@ use lib.ListN.{length, getD, getElem?}
 use Rattle.horn.specs.Refusals.{Refusal, number, Result, found, _>>=_, noSuchStep, badPremise}
 use Rattle.horn.specs.Setting.{Setting}
 use Rattle.horn.specs.Rulebook.{Variable, Pattern, Theory}
-use Rattle.horn.specs.StoredTerms.{Term}
+use Rattle.horn.specs.StoredTerms.{Store}
 use Rattle.horn.specs.Matching.{Bind, Step, matchPremises}
 use Rattle.outcomes.specs.Outcomes as outcomes
 use Rattle.outcomes.specs.Leaving as leaving
@@ -29,14 +29,14 @@ use Rattle.matching_laws.proofs.Relations.{Full, Binds, StepsAt, Satura
 use Rattle.matching_laws.proofs.Matching.{Matching, both-differ, both-match, pattern-matches}
 
 -- Where the patterns end, with the bindings that are left.
-pub record MatchedTo (es : Entries) (th : Theory) (heap : List ℕ) (ts : List Term) (vs : List Variable) (end o : ℕ) (now : List ℕ)
+pub record MatchedTo (es : Entries) (th : Theory) (heap : List ℕ) (ts : Store) (vs : List Variable) (end o : ℕ) (now : List ℕ)
     (binds : List Bind) : Type 0 where
   pub ends : o ≡ end
   pub keeps : Keeps layout.bindings heap now
   pub bound : Binds es th ts vs now binds
 
 -- A mismatch refused by its caller's number, and what follows a match.
-pub found-match : {A B : Type 0} {Q : A → List ℕ → B → Type 0} {es : Entries} {th : Theory} {heap : List ℕ} {ts : List Term} {vs : List Variable} {middle : ℕ}
+pub found-match : {A B : Type 0} {Q : A → List ℕ → B → Type 0} {es : Entries} {th : Theory} {heap : List ℕ} {ts : Store} {vs : List Variable} {middle : ℕ}
     {x : Tried ℕ} {y : Option (List Bind)}
     (n : ℕ) (r : Refusal) (f : ℕ × List ℕ → Did (List ℕ) A) (f′ : List Bind → Result B)
     → n ≡ number r
@@ -81,7 +81,7 @@ saturated-above (as-it-is e l) i j = omega arith
 saturated-above (at-most e l) i j = omega arith
 
 module _ {text heap : List ℕ} {es : Entries} {top : ℕ} {th : Theory} (h : Holds text heap es top th) (small : top ≤ layout.bindings)
-    {limits : Setting} (narrow : limits .nodes < 4294967295) {places : ℕ} {store : List ℕ} {ts : List Term} (st : Stored es th limits places store ts)
+    {limits : Setting} (narrow : limits .nodes < 4294967295) {places : ℕ} {store : List ℕ} {ts : Store} (st : Stored es th limits places store ts)
     {vs : List Variable} (d : Apart vs) (room : layout.bindings + length vs ≤ 16384)
     {low high : ℕ} (under : high ≤ layout.bindings)
     {table stack : List ℕ} {steps : List Step} (sa : StepsAt es th ts table steps) where

@@ -6,7 +6,7 @@ use Prim.Native.Nat.{ℕ, zero, suc, _+_, _≤_, _<_}
 use lib.ListN.{length, getD, getElem?}
 use Rattle.horn.specs.Names.{Name}
 use Rattle.horn.specs.Rulebook.{Symbol, inputs, Variable, Pattern, var, app, Patterns, []ₚ, _∷ₚ_, Theory}
-use Rattle.horn.specs.StoredTerms.{Term}
+use Rattle.horn.specs.StoredTerms.{Term, Store}
 use Rattle.horn.specs.Matching.{Bind, lookup, Step, judgmentOf}
 use Rattle.theory_laws.specs.Representation.{Entries, Nth}
 use Rattle.theory_reading.proofs.Stored.{Means}
@@ -29,17 +29,17 @@ mutual
 
 module _ (es : Entries) (th : Theory) where
   -- A word holds a term that may be missing: 0, or its number plus 1.
-  pub data Bound (ts : List Term) (word : ℕ) : Option Term → Type 0 where
+  pub data Bound (ts : Store) (word : ℕ) : Option Term → Type 0 where
     not-bound : word ≡ 0 → Bound ts word none
     bound-to : {t : Term} (k : ℕ) → word ≡ k + 1 → Means es th ts k t → Bound ts word (some t)
 
   -- The bindings of a step, by number in the words `now`, by name in the definition: each variable of the rule is bound alike. Nothing is
   -- said of their order, nor of names that the rule does not have.
-  pub record Binds (ts : List Term) (vs : List Variable) (now : List ℕ) (binds : List Bind) : Type 0 where
+  pub record Binds (ts : Store) (vs : List Variable) (now : List ℕ) (binds : List Bind) : Type 0 where
     pub each : (v : ℕ) (name : Name) → Nth vs v name → Bound ts (bindingOf now v) (lookup name binds)
 
   -- The judgments of the steps.
-  pub record StepsAt (ts : List Term) (table : List ℕ) (steps : List Step) : Type 0 where
+  pub record StepsAt (ts : Store) (table : List ℕ) (steps : List Step) : Type 0 where
     pub few : length steps < 4294967295
     pub each : (i : ℕ) (s : Step) → getElem? steps i ≡ some s
         → Means es th ts (stepJudgment table i) (judgmentOf s)

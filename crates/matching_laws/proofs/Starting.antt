@@ -12,7 +12,7 @@ use Rattle.horn.specs.Rulebook.{Rule, Theory, isRule, ruleNamed}
 use Rattle.horn.proofs.Equality.{first-some}
 use Rattle.horn.proofs.Inversion.{was-found}
 use Rattle.horn.proofs.SoundnessWords.{WellFormed}
-use Rattle.horn.specs.StoredTerms.{Term}
+use Rattle.horn.specs.StoredTerms.{Store}
 use Rattle.horn.specs.Matching.{Step, judgmentOf}
 use Rattle.theory_laws.specs.Representation.{Entries}
 use Rattle.theory_reading.proofs.Stored.{Means}
@@ -31,7 +31,7 @@ unfolding ruleNamed
 named-ready {th} w key {r} e = was-found _ _ e λ p. rule-ready (w .formed r (first-some (isRule key) (th .rules) p .0))
 
 -- The steps of the table, whatever else is recorded of them.
-pub steps-at : {es : Entries} {th : Theory} {ts : List Term} {table : List ℕ} {steps : List Step} {Recorded : ℕ → ℕ → ℕ → Step → Type 0}
+pub steps-at : {es : Entries} {th : Theory} {ts : Store} {table : List ℕ} {steps : List Step} {Recorded : ℕ → ℕ → ℕ → Step → Type 0}
     → ((j r p : ℕ) (s : Step) → Recorded j r p s → Means es th ts j (judgmentOf s))
     → length table < 4294967296
     → Steps table Recorded steps

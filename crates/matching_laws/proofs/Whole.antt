@@ -7,7 +7,7 @@ use native.Mathlib.Omega.{arith}
 use lib.ListN.{length}
 use Rattle.horn.specs.Setting.{document01}
 use Rattle.horn.specs.Rulebook.{Rule, Theory, premisesOf, variablesOf}
-use Rattle.horn.specs.StoredTerms.{Term}
+use Rattle.horn.specs.StoredTerms.{Term, Store}
 use Rattle.horn.specs.Checker.{Def, Goal}
 use Rattle.horn.specs.Matching.{Bind, Step, judgmentOf}
 use Rattle.horn.specs.Certificate.{given, conclude}
@@ -29,7 +29,7 @@ use Rattle.matching_laws.proofs.Concluding.{ConcludedTo, step-concluded
 -- `heap` is the theory's area as the rulebook left it, `now` the same with the bindings of the step.
 pub step-judged : {rules heap : List ℕ} {es : Entries} {top : ℕ} {th : Theory} → Holds rules heap es top th → top ≤ layout.theoryEnd
     → {goalsText certificate table : List ℕ} {Recorded : ℕ → ℕ → ℕ → Step → Type 0} {tally : Tally} {goals openGoals : List Goal} {defs : List Def}
-    {steps : List Step} {ts : List Term}
+    {steps : List Step} {ts : Store}
     → Tables goalsText certificate table defBuckets (Means es th ts) Recorded tally goals openGoals defs steps
     → ((j r p : ℕ) (s : Step) → Recorded j r p s → Means es th ts j (judgmentOf s))
     → {store stack : List ℕ} → Stored es th document01 indexPlaces store ts → length stack ≡ 16384

@@ -5,7 +5,8 @@ use lib.ListN.{getD, set}
 use Rattle.words.specs.Parts.{part}
 use Rattle.words.specs.Sums.{sum32}
 use Rattle.lex.specs.declared.Reader.{Reader}
-use Rattle.arena.specs.Store.{headOf, internAnswer, internArea}
+use Rattle.arena.specs.Store.{headOf, internAnswer}
+use Rattle.requests.specs.Requests.{requestedArea}
 use Rattle.tables.specs.Words.{defMeaning}
 use Rattle.outcomes.specs.Outcomes.{Outcome, ok, refused, need, orElse, pick}
 use Rattle.outcomes.specs.Outcomes as outcomes
@@ -39,11 +40,11 @@ sortOf heap store k = outputOf heap (headOf store nodeLimit indexPlaces k)
 abbrev pub headOn : List ℕ → List ℕ → ℕ → ℕ → ℕ
 headOn store stack from i = headOf store nodeLimit indexPlaces (getD stack (from + i) 0)
 
--- A node with these words.
+-- A request for a node with these words.
 unfoldable pub interned : List ℕ → Reader → List ℕ → List ℕ → Did Areas (ℕ × Reader)
 interned key r store stack =
     storing.numbered r (internAnswer store nodeLimit wordLimit indexPlaces key)
-    leaving (internArea store nodeLimit wordLimit indexPlaces key, stack)
+    leaving (requestedArea store nodeLimit wordLimit indexPlaces key, stack)
 
 -- "Then 15 for arity and sorts, then the store."
 unfoldable pub make : List ℕ → ℕ → ℕ → ℕ → Reader → List ℕ → List ℕ → Did Areas (ℕ × Reader)

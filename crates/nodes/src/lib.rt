@@ -75,7 +75,7 @@ pub fn node(heap: &[u32], store: &mut [u32], stack: &mut [u32], c: u32, top: u32
     }
     words::put(stack, top as usize, c);
     let key = words::words_part(stack, top as usize, top as usize + 1 + n as usize);
-    let answer = arena::intern(store, limits::NODES, limits::WORDS, limits::PLACES, key);
+    let answer = requests::intern(store, limits::NODES, limits::WORDS, limits::PLACES, key);
     match answer {
         Answer::Found(k) => Number::Is(k),
         Answer::Made(k) => Number::Is(k),

@@ -1,6 +1,6 @@
 -- The call with three texts, case by case as the code goes, and demand 3 of it. Assumes nothing.
 use Prim.Native.Nat.{ℕ, _≤_, _<_}
-use mathlib.Core.Path.{_≡_, refl, sym, ap, _∙_}
+use mathlib.Core.Path.{_≡_, sym, ap, _∙_}
 use mathlib.Core.Bool.{true, false}
 use mathlib.Core.List.{List, _++_}
 use native.Mathlib.Omega.{arith}
@@ -45,13 +45,13 @@ module _ (rulebook goals certificate a b c d : List ℕ) where
   )
 
   abbrev Refused : ℕ → Report → Type 0
-  Refused n r = r ≡ record { number = n; steps = 0; goals = 0; terms = 0; bytes = 0 }
+  Refused n r = r ≡ record { number = n; steps = 0; goals = 0; terms = 0; bytes = 0; requested = 0 }
 
   -- 1, by the areas.
   pub area-short : (r : Report) → longEnough (length a) (length b) (length c) (length d) ≡ false → Refused 1 r
       → Ensured (told r) rulebook goals certificate a b c d a b c d
   unfolding releaseCall releaseJudged need _>>=_ releaseAnswer number
-  area-short r e is = rw is (is-called (report 1 0 0 0 0) a b c d (rw (areas-long (length a) (length b) (length c) (length d), e)) (untouched-short _ a b c d))
+  area-short r e is = rw is (is-called (report 1 0 0 0 0 0) a b c d (rw (areas-long (length a) (length b) (length c) (length d), e)) (untouched-short _ a b c d))
 
   module _ (long : longEnough (length a) (length b) (length c) (length d) ≡ true) where
     -- 2, by the first text that is too long.
@@ -59,7 +59,7 @@ module _ (rulebook goals certificate a b c d : List ℕ) where
     unfolding releaseCall releaseJudged document01 need _>>=_ releaseAnswer number
     rulebook-long r h is =
         rw is
-        (is-called (report 2 0 0 0 0) a b c d (rw (areas-long (length a) (length b) (length c) (length d), long, lt-leb (length rulebook) 8192 h))
+        (is-called (report 2 0 0 0 0 0) a b c d (rw (areas-long (length a) (length b) (length c) (length d), long, lt-leb (length rulebook) 8192 h))
         (untouched-long _ a b c d))
 
     module _ (short-rulebook : length rulebook ≤ 8192) where
@@ -67,7 +67,7 @@ module _ (rulebook goals certificate a b c d : List ℕ) where
       unfolding releaseCall releaseJudged document01 need _>>=_ releaseAnswer number
       goals-long r h is =
           rw is
-          (is-called (report 2 0 0 0 0) a b c d
+          (is-called (report 2 0 0 0 0 0) a b c d
           (rw (areas-long (length a) (length b) (length c) (length d), long, le-leb (length rulebook) 8192 short-rulebook, lt-leb (length goals) 8192 h))
           (untouched-long _ a b c d))
 
@@ -76,7 +76,7 @@ module _ (rulebook goals certificate a b c d : List ℕ) where
         unfolding releaseCall releaseJudged document01 need _>>=_ releaseAnswer number
         certificate-long r h is =
             rw is
-            (is-called (report 2 0 0 0 0) a b c d
+            (is-called (report 2 0 0 0 0 0) a b c d
             (rw (
               areas-long (length a) (length b) (length c) (length d),
               long,

@@ -7,7 +7,7 @@ ghost use Rattle.horn.specs.Demand3.{Sound, Complete};
 ghost use Rattle.reports.specs.Release.{told};
 use reports::Report;
 
-// "The other takes three texts and answers a number, steps, goals, terms, bytes."
+// "The other takes three texts and answers a number, steps, goals, terms, bytes." L1: "a fifth count, nodes requested".
 pub fn release(
     rulebook: &[u8],
     goals: &[u8],

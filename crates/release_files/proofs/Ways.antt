@@ -23,15 +23,15 @@ unfolding releaseLeft leaving
 reported a b c d rulebook goals certificate e i j k l = ap (λ q. q .answer) e ∙ rw (← i, ← j, ← k, ← l) refl
 
 module _ (r g c : File) (x y z : List ℕ) {p : Report} where
-  pub no-rulebook : p ≡ report 30 0 0 0 0 → r ≡ NotOpened → p ≡ answered (text r x) (text g y) (text c z)
+  pub no-rulebook : p ≡ report 30 0 0 0 0 0 → r ≡ NotOpened → p ≡ answered (text r x) (text g y) (text c z)
   unfolding answered number
   no-rulebook e f = rw f e
 
-  pub no-goals : {i : ℕ} → p ≡ report 30 0 0 0 0 → r ≡ Read i → g ≡ NotOpened → p ≡ answered (text r x) (text g y) (text c z)
+  pub no-goals : {i : ℕ} → p ≡ report 30 0 0 0 0 0 → r ≡ Read i → g ≡ NotOpened → p ≡ answered (text r x) (text g y) (text c z)
   unfolding answered number
   no-goals e f h = rw (f, h) e
 
-  pub no-certificate : {i j : ℕ} → p ≡ report 30 0 0 0 0 → r ≡ Read i → g ≡ Read j → c ≡ NotOpened → p ≡ answered (text r x) (text g y) (text c z)
+  pub no-certificate : {i j : ℕ} → p ≡ report 30 0 0 0 0 0 → r ≡ Read i → g ≡ Read j → c ≡ NotOpened → p ≡ answered (text r x) (text g y) (text c z)
   unfolding answered number
   no-certificate e f h k = rw (f, h, k) e
 

@@ -22,9 +22,9 @@ text NotOpened buffer = none
 
 -- 30 with zero counts if one of the three is not opened, whatever the others hold. Else what the call with three texts answers.
 unfoldable pub answered : Option (List ℕ) → Option (List ℕ) → Option (List ℕ) → Report
-answered none g c = report (number notOpened) 0 0 0 0
-answered (some r) none c = report (number notOpened) 0 0 0 0
-answered (some r) (some g) none = report (number notOpened) 0 0 0 0
+answered none g c = report (number notOpened) 0 0 0 0 0
+answered (some r) none c = report (number notOpened) 0 0 0 0 0
+answered (some r) (some g) none = report (number notOpened) 0 0 0 0 0
 answered (some r) (some g) (some c) = releaseCall document01 16_384 16_384 16_384 16_384 r g c
 
 -- A report that is the definition's, of some texts. Which these are, no contract can say.

@@ -54,7 +54,7 @@ pub fn read(name: &[u8], buffer: &mut [u8]) -> File
 
 // "30 comes only from the program, before all else"; "a refusal has zero counts".
 fn not_opened() -> Report
-    ensures { λ r. ⌜ told r ≡ report 30 0 0 0 0 ⌝ }
+    ensures { λ r. ⌜ told r ≡ report 30 0 0 0 0 0 ⌝ }
 {
     Report {
         number: 30,
@@ -62,6 +62,7 @@ fn not_opened() -> Report
         goals: 0,
         terms: 0,
         bytes: 0,
+        requested: 0,
     }
 }
 
@@ -118,8 +119,16 @@ pub fn release(rulebook: &[u8], goals: &[u8], certificate: &[u8]) -> Report
 
 // Writes the line of a report to standard output.
 pub fn print(r: Report) {
-    let mut line = [0u8; 55];
-    let n = report_line::line(r.number, r.steps, r.goals, r.terms, r.bytes, &mut line);
+    let mut line = [0u8; 66];
+    let n = report_line::line(
+        r.number,
+        r.steps,
+        r.goals,
+        r.terms,
+        r.bytes,
+        r.requested,
+        &mut line,
+    );
     if !io::write_all(1, &line[..n]) {
         os::fail(b"standard output");
     }

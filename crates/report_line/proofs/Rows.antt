@@ -39,9 +39,9 @@ behind xs ys s e l w = w ∙ ap₂ (λ p t. written ys p t) (l ∙ from-zero (le
 long-behind : (xs ys : List ℕ) {a b : ℕ} → a ≡ length xs → b ≡ length ys → a + b ≡ length (xs ++ ys)
 long-behind xs ys e f = ap₂ (λ m n. m + n) e f ∙ sym (length-append xs ys)
 
--- The five numbers of a report, behind each other: as many bytes as their sum, and these.
-module _ (n s g t b : ℕ) {i j k l : ℕ} (long₁ : i ≡ length (field n 0x09)) (long₂ : j ≡ length (field s 0x09)) (long₃ : k ≡ length (field g 0x09))
-    (long₄ : l ≡ length (field t 0x09)) where
+-- The six numbers of a report, behind each other: as many bytes as their sum, and these.
+module _ (n s g t b r : ℕ) {i j k l m : ℕ} (long₁ : i ≡ length (field n 0x09)) (long₂ : j ≡ length (field s 0x09)) (long₃ : k ≡ length (field g 0x09))
+    (long₄ : l ≡ length (field t 0x09)) (long₅ : m ≡ length (field b 0x09)) where
   two : i + j ≡ length (field n 0x09 ++ field s 0x09)
   two = long-behind (field n 0x09) (field s 0x09) long₁ long₂
 
@@ -51,17 +51,22 @@ module _ (n s g t b : ℕ) {i j k l : ℕ} (long₁ : i ≡ length (field n 0x09
   four : i + j + k + l ≡ length (field n 0x09 ++ field s 0x09 ++ field g 0x09 ++ field t 0x09)
   four = long-behind (field n 0x09 ++ field s 0x09 ++ field g 0x09) (field t 0x09) three long₄
 
-  pub line-long : {m : ℕ} → m ≡ length (field b 0x0A) → i + j + k + l + m ≡ length (line (report n s g t b))
-  unfolding line
-  line-long e = long-behind (field n 0x09 ++ field s 0x09 ++ field g 0x09 ++ field t 0x09) (field b 0x0A) four e
+  five : i + j + k + l + m ≡ length (field n 0x09 ++ field s 0x09 ++ field g 0x09 ++ field t 0x09 ++ field b 0x09)
+  five = long-behind (field n 0x09 ++ field s 0x09 ++ field g 0x09 ++ field t 0x09) (field b 0x09) four long₅
 
-  pub line-text : (o : List ℕ) {o₁ o₂ o₃ o₄ o₅ : List ℕ} → o₁ ≡ written (field n 0x09) 0 o → o₂ ≡ written (field s 0x09) i o₁
+  pub line-long : {p : ℕ} → p ≡ length (field r 0x0A) → i + j + k + l + m + p ≡ length (line (report n s g t b r))
+  unfolding line
+  line-long e = long-behind (field n 0x09 ++ field s 0x09 ++ field g 0x09 ++ field t 0x09 ++ field b 0x09) (field r 0x0A) five e
+
+  pub line-text : (o : List ℕ) {o₁ o₂ o₃ o₄ o₅ o₆ : List ℕ} → o₁ ≡ written (field n 0x09) 0 o → o₂ ≡ written (field s 0x09) i o₁
       → o₃ ≡ written (field g 0x09) (i + j) o₂
       → o₄ ≡ written (field t 0x09) (i + j + k) o₃
-      → o₅ ≡ written (field b 0x0A) (i + j + k + l) o₄
-      → o₅ ≡ written (line (report n s g t b)) 0 o
+      → o₅ ≡ written (field b 0x09) (i + j + k + l) o₄
+      → o₆ ≡ written (field r 0x0A) (i + j + k + l + m) o₅
+      → o₆ ≡ written (line (report n s g t b r)) 0 o
   unfolding line
-  line-text o e₁ e₂ e₃ e₄ e₅ = behind _ _ o (behind _ _ o (behind _ _ o (behind _ _ o e₁ long₁ e₂) two e₃) three e₄) four e₅
+  line-text o e₁ e₂ e₃ e₄ e₅ e₆ =
+      behind _ _ o (behind _ _ o (behind _ _ o (behind _ _ o (behind _ _ o e₁ long₁ e₂) two e₃) three e₄) four e₅) five e₆
 
 -- What was put at the start is there.
 pub read-back : (bs s o : List ℕ) (r : ℕ) → r ≡ length bs → o ≡ written bs 0 s → r ≤ length s → take r o ≡ bs

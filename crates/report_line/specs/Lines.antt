@@ -9,14 +9,15 @@ use Rattle.horn.specs.Layout.{plain}
 unfoldable pub field : ℕ → ℕ → List ℕ
 field n end = plain n ++ (end ∷ [])
 
--- It "prints number, steps, goals, terms, bytes, parted by tabs, ended by 0A".
+-- It "prints number, steps, goals, terms, bytes, parted by tabs, ended by 0A". L1: it "gains" requested "as a last field".
 unfoldable pub line : Report → List ℕ
 line r =
     field (r .number) 0x09
     ++ field (r .steps) 0x09
     ++ field (r .goals) 0x09
     ++ field (r .terms) 0x09
-    ++ field (r .bytes) 0x0A
+    ++ field (r .bytes) 0x09
+    ++ field (r .requested) 0x0A
 
 -- Bytes put one behind the other from place i on, as far as there are such places.
 unfoldable pub written : List ℕ → ℕ → List ℕ → List ℕ

@@ -1,4 +1,4 @@
-// The line of the program: "number, steps, goals, terms, bytes, parted by tabs, ended by 0A".
+// The line of the program: "number, steps, goals, terms, bytes, parted by tabs, ended by 0A". L1: it "gains" requested "as a last field".
 ghost use Prim.Native.Nat.{_≤_};
 ghost use mathlib.Core.Path.{_≡_};
 ghost use lib.ListN.{length, take};
@@ -32,17 +32,26 @@ fn field(out: &mut [u8], at: u32, n: u32, end: u8) -> u32
     k as u32 + 1
 }
 
-// The five numbers of a report, one behind the other.
-fn fields(out: &mut [u8], number: u32, steps: u32, goals: u32, terms: u32, bytes: u32) -> u32
-    ensures text { λ r. ⌜ now (out .exit) ≡ written (lines.line (report number steps goals terms bytes)) 0 (now (out .entry)) ⌝ }
-    ensures long { λ r. ⌜ r ≡ length (lines.line (report number steps goals terms bytes)) ⌝ }
-    ensures few { λ r. ⌜ r ≤ 55 ⌝ }
+// The six numbers of a report, one behind the other.
+fn fields(
+    out: &mut [u8],
+    number: u32,
+    steps: u32,
+    goals: u32,
+    terms: u32,
+    bytes: u32,
+    requested: u32,
+) -> u32
+    ensures text { λ r. ⌜ now (out .exit) ≡ written (lines.line (report number steps goals terms bytes requested)) 0 (now (out .entry)) ⌝ }
+    ensures long { λ r. ⌜ r ≡ length (lines.line (report number steps goals terms bytes requested)) ⌝ }
+    ensures few { λ r. ⌜ r ≤ 66 ⌝ }
 {
     let a = field(out, 0, number, 9);
     let b = a + field(out, a, steps, 9);
     let c = b + field(out, b, goals, 9);
     let d = c + field(out, c, terms, 9);
-    d + field(out, d, bytes, 10)
+    let e = d + field(out, d, bytes, 9);
+    e + field(out, e, requested, 10)
 }
 
 // Puts the line of a report at the start of `out`, and answers how many bytes it has.
@@ -52,10 +61,11 @@ pub fn line(
     goals: u32,
     terms: u32,
     bytes: u32,
-    out: &mut [u8; 55],
+    requested: u32,
+    out: &mut [u8; 66],
 ) -> usize
     ensures within { λ r. ⌜ Counts r (now (out .exit)) ⌝ }
-    ensures text { λ r. ⌜ take r (now (out .exit)) ≡ lines.line (report number steps goals terms bytes) ⌝ }
+    ensures text { λ r. ⌜ take r (now (out .exit)) ≡ lines.line (report number steps goals terms bytes requested) ⌝ }
 {
-    fields(out, number, steps, goals, terms, bytes) as usize
+    fields(out, number, steps, goals, terms, bytes, requested) as usize
 }

@@ -1,11 +1,12 @@
 -- The report of three texts that are read and judged is the definition's, whatever the areas held. Assumes nothing.
 use Prim.Native.Nat.{ℕ, _≤_}
-use mathlib.Core.Path.{_≡_, refl, sym, ap}
-use mathlib.Core.List.{List, []}
+use mathlib.Core.Path.{_≡_, sym, ap}
+use mathlib.Core.List.{List}
 use native.Mathlib.Omega.{arith}
 use lib.ListN.{length}
 use Rattle.horn.specs.Refusals.{number, Result}
 use Rattle.horn.specs.Setting.{document01}
+use Rattle.horn.specs.StoredTerms.{emptyStore}
 use Rattle.horn.specs.Calls as calls
 use Rattle.horn.specs.Calls.{report, releaseAnswer}
 use Rattle.horn.proofs.Refusing.{refuses-none, refuses, refuses-bind}
@@ -25,7 +26,7 @@ later-judged : (rulebook goals certificate : List ℕ) → Later (judged ruleboo
 unfolding judged
 later-judged rulebook goals certificate =
     refuses-bind _ (later-theory rulebook) λ th.
-    refuses-bind _ (later-goals document01 th goals []) λ p.
+    refuses-bind _ (later-goals document01 th goals emptyStore) λ p.
     refuses-bind _ (later-certificate document01 th (p .0) certificate (p .1)) λ q.
     refuses-none
 
@@ -33,7 +34,7 @@ reports : (bytes : ℕ) {m : Did AllAreas Counts} {m′ : Result calls.Report} �
     → Reported (releasedBy bytes m .number) (releaseAnswer m′) (told (releasedBy bytes m))
 unfolding releaseAnswer
 reports bytes (refuse {n} e) (refuses r h) =
-    record { same = ap (λ (k : ℕ). report k 0 0 0 0) (sym e); not-1 = λ z. absurd (omega arith); not-2 = λ z. absurd (omega arith) }
+    record { same = ap (λ (k : ℕ). report k 0 0 0 0 0) (sym e); not-1 = λ z. absurd (omega arith); not-2 = λ z. absurd (omega arith) }
 reports bytes (leave q) refuses-none = record { same = q; not-1 = λ z. absurd (omega arith); not-2 = λ z. absurd (omega arith) }
 
 pub release-reported : (rulebook goals certificate : List ℕ) → length rulebook ≤ 8192 → length goals ≤ 8192 → length certificate ≤ 32768

@@ -9,8 +9,9 @@ use Rattle.reports.specs.declared.Report.{Report}
 
 -- What each case of the walks' answer says: a refusal's number with zero counts, or 0 with the counts and the certificate's length.
 abbrev pub released : ℕ → Outcome Counts → Report
-released bytes (refused n) = record { number = n; steps = 0; goals = 0; terms = 0; bytes = 0 }
-released bytes (ok c) = record { number = 0; steps = c .steps; goals = c .goals; terms = c .terms; bytes = bytes }
+released bytes (refused n) = record { number = n; steps = 0; goals = 0; terms = 0; bytes = 0; requested = 0 }
+released bytes (ok c) =
+    record { number = 0; steps = c .steps; goals = c .goals; terms = c .terms; bytes = bytes; requested = c .requested }
 
 -- The same, whatever the walks leave.
 abbrev pub releasedBy : ℕ → Did AllAreas Counts → Report
@@ -18,4 +19,4 @@ releasedBy bytes (o leaving areas) = released bytes o
 
 -- A report as the definition has it.
 abbrev pub told : Report → calls.Report
-told r = calls.report (r .number) (r .steps) (r .goals) (r .terms) (r .bytes)
+told r = calls.report (r .number) (r .steps) (r .goals) (r .terms) (r .bytes) (r .requested)

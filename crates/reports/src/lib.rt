@@ -12,11 +12,12 @@ pub struct Report {
     pub goals: u32,
     pub terms: u32,
     pub bytes: u32,
+    pub requested: u32,
 }
 
 // "A refusal has zero counts."
 pub fn unreleased(number: u32) -> Report
-    ensures { λ r. ⌜ r ≡ record { number = number; steps = 0; goals = 0; terms = 0; bytes = 0 } ⌝ }
+    ensures { λ r. ⌜ r ≡ record { number = number; steps = 0; goals = 0; terms = 0; bytes = 0; requested = 0 } ⌝ }
 {
     Report {
         number,
@@ -24,6 +25,7 @@ pub fn unreleased(number: u32) -> Report
         goals: 0,
         terms: 0,
         bytes: 0,
+        requested: 0,
     }
 }
 
@@ -39,6 +41,7 @@ pub fn accepted(checked: Checked, bytes: u32) -> Report
             goals: c.goals,
             terms: c.terms,
             bytes,
+            requested: c.requested,
         },
     }
 }

@@ -16,7 +16,7 @@ use Rattle.horn.specs.Tokens.{Stream, Token}
 use Rattle.horn.specs.NestedLists.{Item, Items, closed, ended, badLine, _then_, absent}
 use Rattle.horn.specs.Rulebook as rulebook
 use Rattle.horn.specs.Rulebook.{Variable, Rule, Theory, variablesOf}
-use Rattle.horn.specs.StoredTerms.{Term}
+use Rattle.horn.specs.StoredTerms.{Term, Store}
 use Rattle.horn.specs.Checker as definition
 use Rattle.horn.specs.Checker.{Def, hasSort}
 use Rattle.horn.specs.Matching.{Bind, bind, lookup}
@@ -60,8 +60,8 @@ use Rattle.step_bindings.specs.StepBindings.{Worked, binding}
 use Rattle.steps_laws.proofs.Numbers.{list-ended, list-member}
 
 -- What the items so far have given, beside the areas: `heap` is the theory's area as the rulebook left it, `held` the stack with the step's references.
-pub record Gathered (es : Entries) (th : Theory) (heap : List ℕ) (vs : List Variable) (ts₀ : List Term) (top : ℕ) (held : List ℕ)
-    (word : ℕ) (store stack live : List ℕ) (ts : List Term) (binds : List Bind) (stated : Option Term) : Type 0 where
+pub record Gathered (es : Entries) (th : Theory) (heap : List ℕ) (vs : List Variable) (ts₀ : Store) (top : ℕ) (held : List ℕ)
+    (word : ℕ) (store stack live : List ℕ) (ts : Store) (binds : List Bind) (stated : Option Term) : Type 0 where
   pub stored : Stored es th document01 indexPlaces store ts
   pub grown : Longer ts₀ ts
   pub kept : Keeps top held stack
@@ -70,26 +70,26 @@ pub record Gathered (es : Entries) (th : Theory) (heap : List ℕ) (vs : List Va
   pub conclusion : Bound es th ts word stated
 
 -- P says where the reader stands behind an item.
-pub data ItemRead (es : Entries) (th : Theory) (heap : List ℕ) (vs : List Variable) (ts₀ : List Term) (top : ℕ) (held : List ℕ) (P : Reader → Type 0)
-    : ℕ × Reader → Worked → Given × List Term → Type 0 where
-  item-read : {word : ℕ} {q : Reader} {store stack live : List ℕ} {ts : List Term} {binds : List Bind} {stated : Option Term} → P q
+pub data ItemRead (es : Entries) (th : Theory) (heap : List ℕ) (vs : List Variable) (ts₀ : Store) (top : ℕ) (held : List ℕ) (P : Reader → Type 0)
+    : ℕ × Reader → Worked → Given × Store → Type 0 where
+  item-read : {word : ℕ} {q : Reader} {store stack live : List ℕ} {ts : Store} {binds : List Bind} {stated : Option Term} → P q
       → Gathered es th heap vs ts₀ top held word store stack live ts binds stated
       → ItemRead es th heap vs ts₀ top held P (word, q) ((store, stack), live) (given binds stated, ts)
 
-pub read-less : {es : Entries} {th : Theory} {heap : List ℕ} {vs : List Variable} {ts₀ : List Term} {top : ℕ} {held : List ℕ} {P Q : Reader → Type 0}
-    {x : ℕ × Reader} {areas : Worked} {y : Given × List Term} → ((q : Reader) → P q → Q q) → ItemRead es th heap vs ts₀ top held P x areas y
+pub read-less : {es : Entries} {th : Theory} {heap : List ℕ} {vs : List Variable} {ts₀ : Store} {top : ℕ} {held : List ℕ} {P Q : Reader → Type 0}
+    {x : ℕ × Reader} {areas : Worked} {y : Given × Store} → ((q : Reader) → P q → Q q) → ItemRead es th heap vs ts₀ top held P x areas y
     → ItemRead es th heap vs ts₀ top held Q x areas y
 read-less f (item-read p g) = item-read (f _ p) g
 
 -- What the definition does without its store, then with it.
-through : {S A B C : Type 0} {R : A → S → C → Type 0} {m : Did S A} (m′ : Result B) (ts : List Term) (g : B × List Term → Result C)
-    → Simulates R m (refusals._>>=_ m′ (λ b. g (b, ts))) → Simulates R m (refusals._>>=_ {A = B × List Term} (refusals._>>=_ m′ (λ b. refusals.ok (b, ts))) g)
+through : {S A B C : Type 0} {R : A → S → C → Type 0} {m : Did S A} (m′ : Result B) (ts : Store) (g : B × Store → Result C)
+    → Simulates R m (refusals._>>=_ m′ (λ b. g (b, ts))) → Simulates R m (refusals._>>=_ {A = B × Store} (refusals._>>=_ m′ (λ b. refusals.ok (b, ts))) g)
 unfolding refusals._>>=_
 through (refusals.ok b) ts g s = s
 through (refusals.refused x) ts g s = s
 
 -- Whether a word holds a term.
-word-test : {es : Entries} {th : Theory} {ts : List Term} {w : ℕ} {o : Option Term} → Bound es th ts w o → eqb w 0 ≡ not (isStated o)
+word-test : {es : Entries} {th : Theory} {ts : Store} {w : ℕ} {o : Option Term} → Bound es th ts w o → eqb w 0 ≡ not (isStated o)
 unfolding isStated
 word-test {w} (not-bound e) = eq-eqb w 0 e
 word-test {w} (bound-to k e m) = ne-eqb w 0 (λ z. omega arith)
@@ -113,17 +113,17 @@ unfolding rulebook.sortOf
 variable-sort (variable-is e n l a) = (n, a)
 
 module _ {rules heap : List ℕ} {es : Entries} {bound : ℕ} {th : Theory} (h : Holds rules heap es bound th) (high : bound ≤ places.theoryEnd)
-    (text : List ℕ) (short : length text ≤ 32768) (table : List ℕ) (defs : List Def) (ts₀ : List Term) {base : ℕ}
+    (text : List ℕ) (short : length text ≤ 32768) (table : List ℕ) (defs : List Def) (ts₀ : Store) {base : ℕ}
     (abbreviations : Defs text table defBuckets base (Means es th ts₀) defs)
     {e : ℕ} {rule : Rule} (by-rule : RuleAt rules heap es bound e rule) (distinct : Apart (variablesOf rule)) (top : ℕ) (held : List ℕ)
     (long : length held ≡ 16384) where
-  abbrev So : ℕ → List ℕ → List ℕ → List ℕ → List Term → List Bind → Option Term → Type 0
+  abbrev So : ℕ → List ℕ → List ℕ → List ℕ → Store → List Bind → Option Term → Type 0
   So word store stack live ts binds stated = Gathered es th heap (variablesOf rule) ts₀ top held word store stack live ts binds stated
 
-  abbrev ReadItem : (Reader → Type 0) → ℕ × Reader → Worked → Given × List Term → Type 0
+  abbrev ReadItem : (Reader → Type 0) → ℕ × Reader → Worked → Given × Store → Type 0
   ReadItem P x areas y = ItemRead es th heap (variablesOf rule) ts₀ top held P x areas y
 
-  module _ (word : ℕ) (store stack live : List ℕ) (ts : List Term) (binds : List Bind) (stated : Option Term)
+  module _ (word : ℕ) (store stack live : List ℕ) (ts : Store) (binds : List Bind) (stated : Option Term)
       (g : So word store stack live ts binds stated) where
     ready : {K : Stream Token → Type 0} (place spent : ℕ) (r : Reader) → 2 * place ≤ spent → At text K spent r
         → Ready es th text ts₀ K place spent ts r store stack
@@ -134,7 +134,7 @@ module _ {rules heap : List ℕ} {es : Entries} {bound : ℕ} {th : Theory} (h :
     rule-now = rule-kept grown-none (λ i p q. g .keep .words i (omega arith)) (omega arith) by-rule
 
     -- A variable that was not bound is bound to a term that was read.
-    bound-now : (v k : ℕ) (name : Name) (t : Term) (after : Areas) (us : List Term) → Nth (variablesOf rule) v name → lookup name binds ≡ none
+    bound-now : (v k : ℕ) (name : Name) (t : Term) (after : Areas) (us : Store) → Nth (variablesOf rule) v name → lookup name binds ≡ none
         → Stored es th document01 indexPlaces (after .0) us → Means es th us k t → Longer ts us → Keeps top stack (after .1)
         → So word (after .0) (after .1) (set live (bindingAt v) (sum32 k 1)) us (binds ++ (bind name t ∷ [])) stated
     unfolding document01
@@ -155,14 +155,14 @@ module _ {rules heap : List ℕ} {es : Entries} {bound : ℕ} {th : Theory} (h :
         }
 
     -- "Bound already or wrong sort 21": two tests with one refusal here, one there.
-    both-tests : (v k : ℕ) (name s : Name) (t : Term) (after : Areas) (us : List Term) → Nth (variablesOf rule) v name → SortAt es (sortOfVariable live e v) s
+    both-tests : (v k : ℕ) (name s : Name) (t : Term) (after : Areas) (us : Store) → Nth (variablesOf rule) v name → SortAt es (sortOfVariable live e v) s
         → Stored es th document01 indexPlaces (after .0) us → Means es th us k t
         → (eqb (bindingOf live v) 0 && eqb (sortOf live (after .0) k) (sortOfVariable live e v)) ≡ (not (isBound name binds) && hasSort s t)
     unfolding sortOf document01
     both-tests v k name s t after us n so st m =
         ap₂ _&&_
         (word-test (g .bindings .each v name n) ∙ ap not (sym (bound-is name binds)))
-        (number-sort (holds-now h high (g .keep)) nodeLimit wordLimit indexPlaces (st .trees) k (m .below) so ∙ ap (hasSort s) (m .tree))
+        (number-sort (holds-now h high (g .keep)) nodeLimit wordLimit indexPlaces (st .keeps .trees) k (m .below) so ∙ ap (hasSort s) (m .tree))
 
     -- "`(?v T)`: unknown v 12, T, closing 10, bound already or wrong sort 21."
     pub binding-law : (s t spent : ℕ) {name : Name} (K : Stream Token → Type 0) (is : Items) (r : Reader) → part s t text ≡ name → 2 * top ≤ spent
@@ -182,7 +182,7 @@ module _ {rules heap : List ℕ} {es : Entries} {bound : ℕ} {th : Theory} (h :
         lifted (u .1) _ _ (closing-law text K (spent + 2) (u .0 .1) (k .reader))
         (λ q _ a. through _ (u .1) _ (judged v (y .0) (rulebook.sortOf x) (u .0 .0) left (u .1) q nth so (k .stored) (k .means) (k .grown)
         (k .keeps) a))))) where
-          judged : (v k : ℕ) (sort : Name) (u : Term) (after : Areas) (us : List Term) (q : Reader) → Nth (variablesOf rule) v name
+          judged : (v k : ℕ) (sort : Name) (u : Term) (after : Areas) (us : Store) (q : Reader) → Nth (variablesOf rule) v name
               → SortAt es (sortOfVariable live e v) sort
               → Stored es th document01 indexPlaces (after .0) us → Means es th us k u → Longer ts us → Keeps top stack (after .1) → At text K (spent + 2) q
               → Simulates (λ q areas y. ReadItem (At text K (spent + 2)) (word, q) areas y)
@@ -199,7 +199,7 @@ module _ {rules heap : List ℕ} {es : Entries} {bound : ℕ} {th : Theory} (h :
               leave (item-read a (bound-now v k name u after us nth (not-stated _ (sym (bound-is name binds) ∙ not-true _ free)) st m more keeps)))
 
     -- A conclusion that was read is stated.
-    stated-now : (k : ℕ) (j : Term) (after : Areas) (us : List Term) → Stored es th document01 indexPlaces (after .0) us → Means es th us k j → Longer ts us
+    stated-now : (k : ℕ) (j : Term) (after : Areas) (us : Store) → Stored es th document01 indexPlaces (after .0) us → Means es th us k j → Longer ts us
         → Keeps top stack (after .1)
         → So (sum32 k 1) (after .0) (after .1) live us binds (some j)
     unfolding document01
@@ -257,17 +257,17 @@ module _ {rules heap : List ℕ} {es : Entries} {bound : ℕ} {th : Theory} (h :
     -- Two bytes at least were read for each turn of the loop.
     abbrev ItemsLaw : ℕ → Items → Type 0
     ItemsLaw fuel is =
-        (word spent : ℕ) (r : Reader) (store stack live : List ℕ) (ts : List Term) (binds : List Bind)
+        (word spent : ℕ) (r : Reader) (store stack live : List ℕ) (ts : Store) (binds : List Bind)
         (stated : Option Term) → 2 * top ≤ spent → length text + 2 ≤ fuel + spent
         → So word store stack live ts binds stated → At text (RestComes is K) spent r
         → Simulates (ReadItem (At text K 0)) (walk.itemsFrom fuel text rules table e top word r store stack live)
         (certificates.stepItems document01 th defs rule is (given binds stated) ts)
 
     -- One turn, by the look ahead.
-    module _ (fuel : ℕ) (on : (is : Items) → ItemsLaw fuel is) (word spent : ℕ) (store stack live : List ℕ) (ts : List Term) (binds : List Bind)
+    module _ (fuel : ℕ) (on : (is : Items) → ItemsLaw fuel is) (word spent : ℕ) (store stack live : List ℕ) (ts : Store) (binds : List Bind)
         (stated : Option Term)
         (room : 2 * top ≤ spent) (f : length text + 2 ≤ suc fuel + spent) (g : So word store stack live ts binds stated) where
-      next : (rest : Items) (x : ℕ × Reader) (areas : Worked) (y : Given × List Term) → ReadItem (At text (RestComes rest K) (spent + 2)) x areas y
+      next : (rest : Items) (x : ℕ × Reader) (areas : Worked) (y : Given × Store) → ReadItem (At text (RestComes rest K) (spent + 2)) x areas y
           → Simulates (ReadItem (At text K 0)) (walk.itemsFrom fuel text rules table e top (x .0) (x .1) (areas .0 .0) (areas .0 .1) (areas .1))
           (certificates.stepItems document01 th defs rule rest (y .0) (y .1))
       next rest x areas y (item-read {word = w} {q} {store = a} {stack = b} {live = c} {ts = us} {binds = bs} {stated = o} there k) =

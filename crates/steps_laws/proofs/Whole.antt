@@ -14,7 +14,7 @@ use Rattle.horn.specs.Names.{Name}
 use Rattle.horn.specs.Tokens.{Stream, Token}
 use Rattle.horn.specs.NestedLists.{Items}
 use Rattle.horn.specs.Rulebook.{Rule, Theory, variablesOf, premisesOf, ruleNamed}
-use Rattle.horn.specs.StoredTerms.{Term}
+use Rattle.horn.specs.StoredTerms.{Term, Store}
 use Rattle.horn.specs.Checker as definition
 use Rattle.horn.specs.Checker.{Goal}
 use Rattle.horn.specs.Matching.{Step, step, judgmentOf}
@@ -61,9 +61,9 @@ use Rattle.steps_laws.proofs.References.{ReferencesRead, references-fro
 use Rattle.steps_laws.proofs.Items.{ItemRead, item-read, items-from}
 
 -- A step was read: its judgment's number, its rule's address, the place of its references, and the reader behind its closing; the definition has one step more.
-pub record StepRead (rules heap : List ℕ) (es : Entries) (bound : ℕ) (th : Theory) (certificate : List ℕ) (ts : List Term) (now : Progress)
+pub record StepRead (rules heap : List ℕ) (es : Entries) (bound : ℕ) (th : Theory) (certificate : List ℕ) (ts : Store) (now : Progress)
     (K : Stream Token → Type 0)
-    (x : ℕ × ℕ × ℕ × Reader) (areas : Worked) (y : Progress × List Term) : Type 0 where
+    (x : ℕ × ℕ × ℕ × Reader) (areas : Worked) (y : Progress × Store) : Type 0 where
   pub judgment : Term
   pub rule : Rule
   pub progress : y .0 ≡ record { defs = now .defs; openGoals = now .openGoals; steps = now .steps ++ (step judgment rule ∷ []) }
@@ -89,25 +89,25 @@ module _ {text : List ℕ} {K : Stream Token → Type 0} {n : ℕ} where
 
 -- What is read and tested without the other areas, and what follows.
 counted : {S P U A C D E : Type 0} {Q : A → S → C → Type 0} {R : E → (P × S) × U → D → Type 0} {m : Did S A} (p : P) (u : U) (m′ : Result C) (c : C → Bool)
-    (r : Refusal) (ts : List Term)
-    (f : A × ((P × S) × U) → Did ((P × S) × U) E) (g : C → List Term → Result D)
+    (r : Refusal) (ts : Store)
+    (f : A × ((P × S) × U) → Did ((P × S) × U) E) (g : C → Store → Result D)
     → Simulates Q m (refusals._>>=_ m′ (λ a. refusals._>>=_ (refusals.need (c a) r) (λ _. refusals.ok a)))
     → ((x : A) (s : S) (y : C) → Q x s y → Simulates R (f (x, ((p, s), u))) (g y ts))
     → Simulates R (leaving._>>=_ (before u (beside p m)) f)
-    (refusals._>>=_ {A = C × List Term} (refusals._>>=_ m′ (λ a. refusals.ok (a, ts)))
-    (λ q. refusals._>>=_ {A = Unit {0} × List Term} (refusals._>>=_ (refusals.need (c (q .0)) r) (λ b. refusals.ok (b, q .1))) (λ v. g (q .0) (v .1))))
+    (refusals._>>=_ {A = C × Store} (refusals._>>=_ m′ (λ a. refusals.ok (a, ts)))
+    (λ q. refusals._>>=_ {A = Unit {0} × Store} (refusals._>>=_ (refusals.need (c (q .0)) r) (λ b. refusals.ok (b, q .1))) (λ v. g (q .0) (v .1))))
 unfolding refusals._>>=_ refusals.need
 counted p u (refusals.refused x) c r ts f g (refuse e) k = refuse e
 counted {S} {A} {Q} {R} p u (refusals.ok a) c r ts f g s k = by (c a) s where
   by : {d : Did S A} (b : Bool) → Simulates Q d (refusals._>>=_ (refusals.need b r) (λ _. refusals.ok a))
       → Simulates R (leaving._>>=_ (before u (beside p d)) f)
-      (refusals._>>=_ {A = Unit {0} × List Term} (refusals._>>=_ (refusals.need b r) (λ b. refusals.ok (b, ts))) (λ v. g a (v .1)))
+      (refusals._>>=_ {A = Unit {0} × Store} (refusals._>>=_ (refusals.need b r) (λ b. refusals.ok (b, ts))) (λ v. g a (v .1)))
   by true (leave q) = k _ _ _ q
   by false (refuse e) = refuse e
 
 module _ {rules heap : List ℕ} {es : Entries} {bound : ℕ} {th : Theory} (h : Holds rules heap es bound th) (high : bound ≤ places.theoryEnd)
     (w : WellFormed th) (goalsText certificate : List ℕ) (short : length certificate ≤ 32768)
-    {table : List ℕ} {tally : Tally} {goals : List Goal} {ts : List Term} (now : Progress)
+    {table : List ℕ} {tally : Tally} {goals : List Goal} {ts : Store} (now : Progress)
     (Recorded : ℕ → ℕ → ℕ → Step → Type 0) (judged : (j r p : ℕ) (s : Step) → Recorded j r p s → Means es th ts j (judgmentOf s))
     (t : Tables goalsText certificate table defBuckets (Means es th ts) Recorded tally goals (now .openGoals) (now .defs) (now .steps))
     (K : Stream Token → Type 0) where
@@ -126,7 +126,7 @@ module _ {rules heap : List ℕ} {es : Entries} {bound : ℕ} {th : Theory} (h :
       test (eqb (x .0) (premiseCount live e)) 20 referenceCount _ _ (ap₂ eqb (k .count) (premise-count-is hn a)) refl
       (λ yes. leave (k, eqb-decides .equal (length y) (length (premisesOf c)) yes)))
 
-  abbrev ReadStep : ℕ × ℕ × ℕ × Reader → Worked → Progress × List Term → Type 0
+  abbrev ReadStep : ℕ × ℕ × ℕ × Reader → Worked → Progress × Store → Type 0
   ReadStep x areas y = StepRead rules heap es bound th certificate ts now K x areas y
 
   -- "Items; matching": the rule and the references are known.
@@ -134,11 +134,11 @@ module _ {rules heap : List ℕ} {es : Entries} {bound : ℕ} {th : Theory} (h :
       (at-refs : ReferencesAt held 0 refs)
       (count : length refs ≡ length (premisesOf rule)) (long : length held ≡ 16384) (n place : ℕ) (all-held : length refs ≤ n)
       (small : place < 4294967296) where
-    concluded : (x : ℕ × Reader) (areas : Worked) (y : Given × List Term) → ItemRead es th heap (variablesOf rule) ts n held (At certificate K 0) x areas y
+    concluded : (x : ℕ × Reader) (areas : Worked) (y : Given × Store) → ItemRead es th heap (variablesOf rule) ts n held (At certificate K 0) x areas y
         → Simulates (λ (p : ℕ × Reader) after z. ReadStep (p .0, e, place, p .1) after z)
         (leaving._>>=_ (stepConcluded nodeLimit wordLimit indexPlaces table (tally .steps) e (x .0) (areas .0 .1) (areas .0 .0) (areas .1))
         (λ p. outcomes.ok (p .0, x .1) leaving (p .1)))
-        (refusals._>>=_ {A = Term × List Term} (certificates.conclude document01 th (now .steps) rule refs (y .0) (y .1))
+        (refusals._>>=_ {A = Term × Store} (certificates.conclude document01 th (now .steps) rule refs (y .0) (y .1))
         (λ p. refusals.ok (record { defs = now .defs; openGoals = now .openGoals; steps = now .steps ++ (step (p .0) rule ∷ []) }, p .1)))
     concluded x areas y (item-read {q} {ts = us} there g) =
         bind _ _
@@ -165,8 +165,8 @@ module _ {rules heap : List ℕ} {es : Entries} {bound : ℕ} {th : Theory} (h :
         → RuleAt rules live es bound e rule → At certificate (RestComes is K) spent r
         → Simulates (λ (p : ℕ × Reader) after z. ReadStep (p .0, e, place, p .1) after z)
         (walk.itemsJudged certificate rules table (tally .steps) e n r store held live)
-        (refusals._>>=_ {A = Given × List Term} (certificates.stepItems document01 th (now .defs) rule is (given [] none) ts)
-        (λ g. refusals._>>=_ {A = Term × List Term} (certificates.conclude document01 th (now .steps) rule refs (g .0) (g .1))
+        (refusals._>>=_ {A = Given × Store} (certificates.stepItems document01 th (now .defs) rule is (given [] none) ts)
+        (λ g. refusals._>>=_ {A = Term × Store} (certificates.conclude document01 th (now .steps) rule refs (g .0) (g .1))
         (λ p. refusals.ok (record { defs = now .defs; openGoals = now .openGoals; steps = now .steps ++ (step (p .0) rule ∷ []) }, p .1))))
     unfolding walk.itemsJudged stating.items
     judged-law is spent r store live room some st keep live-rule there =

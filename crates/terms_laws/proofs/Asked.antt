@@ -1,20 +1,19 @@
 -- Whether an item may be asked for at a depth. Assumes nothing.
 use Prim.Native.Nat.{ℕ, suc, _+_}
 use mathlib.Core.Path.{_≡_}
-use mathlib.Core.List.{List}
 use native.Mathlib.Omega.{arith}
 use borrow.Author.Tests.{le-leb, lt-leb}
 use lib.Dec.{leb}
 use Rattle.horn.specs.Refusals as refusals
 use Rattle.horn.specs.Refusals.{Result, nesting}
 use Rattle.horn.specs.NestedLists.{askedAt}
-use Rattle.horn.specs.StoredTerms.{Term}
+use Rattle.horn.specs.StoredTerms.{Store}
 use Rattle.horn.proofs.Equality.{case}
 
 -- What is asked for, then read.
-pub asked-then : {A B : Type 0} (depth : ℕ) (ts : List Term) (m : Result A) (f : A → Result B) (g : Unit {0} × List Term → Result B)
+pub asked-then : {A B : Type 0} (depth : ℕ) (ts : Store) (m : Result A) (f : A → Result B) (g : Unit {0} × Store → Result B)
     → g (tt, ts) ≡ refusals._>>=_ m f
-    → refusals._>>=_ {A = Unit {0} × List Term} (refusals._>>=_ (askedAt depth) (λ a. refusals.ok (a, ts))) g
+    → refusals._>>=_ {A = Unit {0} × Store} (refusals._>>=_ (askedAt depth) (λ a. refusals.ok (a, ts))) g
     ≡ refusals._>>=_ (refusals._>>=_ (askedAt depth) (λ _. m)) f
 unfolding askedAt refusals.need refusals._>>=_
 asked-then depth ts m f g e = case (leb depth 256) (λ t. rw t e) (λ t. rw t)

@@ -11,7 +11,7 @@ use Rattle.horn.specs.Refusals.{Result, number, unknown}
 use Rattle.horn.specs.Setting.{document01}
 use Rattle.horn.specs.Names.{Name, questioned}
 use Rattle.horn.specs.Rulebook.{Symbol, Theory, constructor, predicate}
-use Rattle.horn.specs.StoredTerms.{Term, []ₜ}
+use Rattle.horn.specs.StoredTerms.{Term, []ₜ, Store}
 use Rattle.horn.specs.Checker as definition
 use Rattle.horn.specs.Checker.{Def, meaning}
 use Rattle.horn.proofs.Equality.{case}
@@ -43,7 +43,7 @@ pub data SymbolMet (heap : List ℕ) (es : Entries) (bound : ℕ) (P : Reader �
   symbol-met : {a : ℕ} {q : Reader} {c : Symbol} → SymbolAt heap es bound a c → P q → SymbolMet heap es bound P (a, q) c
 
 module _ (text : List ℕ) (table : List ℕ) {rules heap : List ℕ} {es : Entries} {bound : ℕ} {th : Theory} (h : Holds rules heap es bound th)
-    (defs : List Def) (ts₀ : List Term) {base : ℕ} (abbreviations : Defs text table defBuckets base (Means es th ts₀) defs) where
+    (defs : List Def) (ts₀ : Store) {base : ℕ} (abbreviations : Defs text table defBuckets base (Means es th ts₀) defs) where
   module _ (P : Reader → Type 0) (s t : ℕ) (q : Reader) {name : Name} (n : part s t text ≡ name) (there : P q) where
     met : {o : Outcome ℕ} {m : Result Symbol} → Answers (SymbolAt heap es bound) o m
         → Answers (SymbolMet heap es bound P) (outcomes._>>=_ o (λ c. outcomes.ok (c, q))) m
@@ -59,7 +59,7 @@ module _ (text : List ℕ) (table : List ℕ) {rules heap : List ℕ} {es : Entr
     predicate-law = rw n (met (predicate-due h name))
 
     -- "An atom with a leading `?`, `?` alone too, is an earlier abbreviation (12). An atom or head is a constructor (12)."
-    pub atom-law : {store : List ℕ} {ts : List Term} (top : ℕ) (stack : List ℕ) → s < t → t ≤ length text → Stored es th document01 indexPlaces store ts
+    pub atom-law : {store : List ℕ} {ts : Store} (top : ℕ) (stack : List ℕ) → s < t → t ≤ length text → Stored es th document01 indexPlaces store ts
         → Longer ts₀ ts
         → top + 1 ≤ length stack → length stack < 4294967296
         → Simulates (TermRead es th P top stack ts) (atomTerm text rules heap table top s t q store stack) (definition.atomTerm document01 th defs name ts)
@@ -73,7 +73,7 @@ module _ (text : List ℕ) (table : List ℕ) {rules heap : List ℕ} {es : Entr
         abbreviation : {o : Option ℕ} {m : Option Def} → Agree (λ w d. Means es th ts₀ w (meaning d)) o m
             → Simulates (TermRead es th P top stack ts)
             (leaving._>>=_ (outcomes.orElse o 12 leaving (store, stack)) (λ p. outcomes.ok (p .0, q) leaving (p .1)))
-            (refusals._>>=_ {A = Def × List Term} {B = Term × List Term} (refusals._>>=_ (refusals.found m unknown) (λ d. refusals.ok (d, ts)))
+            (refusals._>>=_ {A = Def × Store} {B = Term × Store} (refusals._>>=_ (refusals.found m unknown) (λ d. refusals.ok (d, ts)))
             (λ p. refusals.ok (meaning (p .0), p .1)))
         abbreviation both-none = refuse refl
         abbreviation (both-some {e = k} {a = d} x) =
@@ -84,7 +84,7 @@ module _ (text : List ℕ) (table : List ℕ) {rules heap : List ℕ} {es : Entr
         constant : {o : Outcome (ℕ × Reader)} {m : Result Symbol} → Answers (SymbolMet heap es bound P) o m
             → Simulates (TermRead es th P top stack ts)
             (leaving._>>=_ (o leaving (store, stack)) (λ p. make heap (p .0 .0) top 0 (p .0 .1) (p .1 .0) (p .1 .1)))
-            (refusals._>>=_ {A = Symbol × List Term} {B = Term × List Term} (refusals._>>=_ m (λ c. refusals.ok (c, ts)))
+            (refusals._>>=_ {A = Symbol × Store} {B = Term × Store} (refusals._>>=_ m (λ c. refusals.ok (c, ts)))
             (λ p. definition.make document01 (p .0) []ₜ (p .1)))
         constant (both-refuse e) = refuse e
         constant (both-ok (symbol-met {q = p} x y)) =

@@ -2,10 +2,9 @@
 use Prim.Native.Nat.{ℕ}
 use mathlib.Core.Path.{_≡_, refl, sym}
 use mathlib.Core.Bool.{Bool, true, false, true≢false}
-use mathlib.Core.List.{List}
 use Rattle.horn.specs.Refusals as refusals
 use Rattle.horn.specs.Refusals.{Refusal, Result, number}
-use Rattle.horn.specs.StoredTerms.{Term}
+use Rattle.horn.specs.StoredTerms.{Store}
 use Rattle.outcomes.specs.Outcomes as outcomes
 use Rattle.outcomes.specs.Outcomes.{Outcome}
 use Rattle.outcomes.specs.Leaving as leaving
@@ -23,12 +22,12 @@ tested true {b′ = false} n r e q = absurd (true≢false e)
 tested false {b′ = true} n r e q = absurd (true≢false (sym e))
 
 -- What comes first of something that leaves the areas as they are.
-pub first-of : {S A B C D E : Type 0} {Q : A → B → Type 0} {R : E → S → D → Type 0} {o : Outcome A} {m : Result B} (s : S) (ts : List Term)
+pub first-of : {S A B C D E : Type 0} {Q : A → B → Type 0} {R : E → S → D → Type 0} {o : Outcome A} {m : Result B} (s : S) (ts : Store)
     (f : C × S → Did S E)
-    (k : A → Outcome C) (g : B × List Term → Result D)
+    (k : A → Outcome C) (g : B × Store → Result D)
     → Answers Q o m
     → ((a : A) (b : B) → Q a b → Simulates R (leaving._>>=_ (k a leaving s) f) (g (b, ts)))
-    → Simulates R (leaving._>>=_ (outcomes._>>=_ o k leaving s) f) (refusals._>>=_ {A = B × List Term} (refusals._>>=_ m (λ b. refusals.ok (b, ts))) g)
+    → Simulates R (leaving._>>=_ (outcomes._>>=_ o k leaving s) f) (refusals._>>=_ {A = B × Store} (refusals._>>=_ m (λ b. refusals.ok (b, ts))) g)
 unfolding refusals._>>=_
 first-of s ts f k g (both-refuse e) j = refuse e
 first-of s ts f k g (both-ok q) j = j _ _ q

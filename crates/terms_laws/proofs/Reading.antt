@@ -15,7 +15,7 @@ use Rattle.horn.specs.Names.{Name, isZero}
 use Rattle.horn.specs.Tokens.{Stream, Token}
 use Rattle.horn.specs.NestedLists.{Item, word, group, Items, closed, ended, badLine, _then_, askedAt, absent}
 use Rattle.horn.specs.Rulebook.{Symbol, Theory, constructor}
-use Rattle.horn.specs.StoredTerms.{Term, Terms, []ₜ, _∷ₜ_, width}
+use Rattle.horn.specs.StoredTerms.{Term, Terms, []ₜ, _∷ₜ_, width, Store}
 use Rattle.horn.specs.Checker as definition
 use Rattle.horn.specs.Checker.{Def}
 use Rattle.lex.specs.declared.Reader.{Reader}
@@ -47,7 +47,7 @@ use Rattle.terms_laws.proofs.Making.{TermRead, make-law}
 use Rattle.terms_laws.proofs.Atoms.{SymbolMet, symbol-met, constructor-law, atom-law}
 
 -- The store and the stack before a term is read, which goes on top of the stack: two bytes at least were read for each word on it.
-pub record Ready (es : Entries) (th : Theory) (text : List ℕ) (ts₀ : List Term) (K : Stream Token → Type 0) (top spent : ℕ) (ts : List Term) (r : Reader)
+pub record Ready (es : Entries) (th : Theory) (text : List ℕ) (ts₀ : Store) (K : Stream Token → Type 0) (top spent : ℕ) (ts : Store) (r : Reader)
     (store stack : List ℕ) : Type 0 where
   pub reader : At text K spent r
   pub room : 2 * top ≤ spent
@@ -56,28 +56,28 @@ pub record Ready (es : Entries) (th : Theory) (text : List ℕ) (ts₀ : List Te
   pub long : length stack ≡ 16384
 
 -- Arguments were read: their numbers stand on the stack, from word `place` on.
-pub record ArgumentsRead (es : Entries) (th : Theory) (text : List ℕ) (K : Stream Token → Type 0) (place n spent : ℕ) (stack : List ℕ) (ts : List Term)
-    (x : ℕ × Reader) (left : Areas) (y : Terms × List Term) : Type 0 where
+pub record ArgumentsRead (es : Entries) (th : Theory) (text : List ℕ) (K : Stream Token → Type 0) (place n spent : ℕ) (stack : List ℕ) (ts : Store)
+    (x : ℕ × Reader) (left : Areas) (y : Terms × Store) : Type 0 where
   pub ms : List ℕ
   pub count : x .0 ≡ n + length ms
   pub reader : At text K (spent + 2 * length ms) (x .1)
   pub stored : Stored es th document01 indexPlaces (left .0) (y .1)
-  pub below : Below (length (y .1)) ms
-  pub terms : lookups (symbolAt es th) (y .1) ms ≡ y .0
+  pub below : Below (length (y .1 .terms)) ms
+  pub terms : lookups (symbolAt es th) (y .1 .terms) ms ≡ y .0
   pub grown : Longer ts (y .1)
   pub row : Row (left .1) place ms
   pub keeps : Keeps place stack (left .1)
 
 module _ (text : List ℕ) (table : List ℕ) {rules heap : List ℕ} {es : Entries} {bound : ℕ} {th : Theory} (h : Holds rules heap es bound th)
-    (defs : List Def) (ts₀ : List Term) {base : ℕ} (abbreviations : Defs text table defBuckets base (Means es th ts₀) defs) (short : length text ≤ 32768) where
+    (defs : List Def) (ts₀ : Store) {base : ℕ} (abbreviations : Defs text table defBuckets base (Means es th ts₀) defs) (short : length text ≤ 32768) where
   abbrev pub TermLaw : Item → Type 1
-  TermLaw item = (left depth top spent : ℕ) (K : Stream Token → Type 0) (rest : Items) (ts : List Term) (r : Reader) (store stack : List ℕ) → depth + left ≡ 257
+  TermLaw item = (left depth top spent : ℕ) (K : Stream Token → Type 0) (rest : Items) (ts : Store) (r : Reader) (store stack : List ℕ) → depth + left ≡ 257
       → Ready es th text ts₀ (RestComes (item then rest) K) top spent ts r store stack
       → Simulates (TermRead es th (At text (RestComes rest K) (spent + 2)) top stack ts) (walk.term left text rules heap table top r store stack)
       (refusals._>>=_ (askedAt depth) (λ _. definition.term document01 th defs depth item ts))
 
   abbrev pub CompoundLaw : Items → Type 1
-  CompoundLaw is = (left depth top spent : ℕ) (K : Stream Token → Type 0) (ts : List Term) (r : Reader) (store stack : List ℕ) → depth + left ≡ 257
+  CompoundLaw is = (left depth top spent : ℕ) (K : Stream Token → Type 0) (ts : Store) (r : Reader) (store stack : List ℕ) → depth + left ≡ 257
       → Ready es th text ts₀ (RestComes is K) top spent ts r store stack
       → Simulates (TermRead es th (At text K (spent + 2)) top stack ts)
       (walk.termOf (walk.term left text rules heap table) left text rules heap table top (asked.list r) store stack)
@@ -85,7 +85,7 @@ module _ (text : List ℕ) (table : List ℕ) {rules heap : List ℕ} {es : Entr
 
   abbrev pub ArgumentsLaw : Items → Type 1
   ArgumentsLaw is =
-      (left depth top n place spent fuel : ℕ) (K : Stream Token → Type 0) (ts : List Term) (r : Reader) (store stack : List ℕ) → depth + left ≡ 257
+      (left depth top n place spent fuel : ℕ) (K : Stream Token → Type 0) (ts : Store) (r : Reader) (store stack : List ℕ) → depth + left ≡ 257
       → place ≡ top + n → fuel + n ≡ length text + 1 → Ready es th text ts₀ (RestComes is K) place spent ts r store stack
       → Simulates (ArgumentsRead es th text K place n spent stack ts) (walk.argumentsFrom (walk.term left text rules heap table) fuel text top n r store stack)
       (definition.arguments document01 th defs depth is ts)
@@ -95,7 +95,7 @@ module _ (text : List ℕ) (table : List ℕ) {rules heap : List ℕ} {es : Entr
   fits top spent a l = let b = at-within a in omega arith
 
   -- A term of one item: the item is asked for, then it is an atom or a list.
-  term-step : (item : Item) (left depth top spent : ℕ) (K : Stream Token → Type 0) (rest : Items) (ts : List Term) (r : Reader) (store stack : List ℕ)
+  term-step : (item : Item) (left depth top spent : ℕ) (K : Stream Token → Type 0) (rest : Items) (ts : Store) (r : Reader) (store stack : List ℕ)
       → depth + left ≡ 257 → Ready es th text ts₀ (RestComes (item then rest) K) top spent ts r store stack
       → ((l : ℕ) (m : asked.Met) → left ≡ suc l → ItemMet text K spent m (item, rest)
       → Simulates (TermRead es th (At text (RestComes rest K) (spent + 2)) top stack ts)
@@ -144,15 +144,15 @@ module _ (text : List ℕ) (table : List ℕ) {rules heap : List ℕ} {es : Entr
       leaving._>>=_ (walk.argumentsFrom (walk.term left text rules heap table) (length text + 1) text (sum32 top 1) 0 q store stack)
       (λ p. leaving._>>=_ (outcomes.need (not (eqb (p .0 .0) 0)) 16 leaving (p .1)) (λ _. make heap c top (p .0 .0) (p .0 .1) (p .1 .0) (p .1 .1)))
 
-  abbrev definedOn : ℕ → Symbol → Items → List Term → Result (Term × List Term)
+  abbrev definedOn : ℕ → Symbol → Items → Store → Result (Term × Store)
   definedOn depth d rest ts =
-      refusals._>>=_ {A = Terms × List Term} (definition.arguments document01 th defs depth rest ts)
-      (λ p. refusals._>>=_ {A = Unit {0} × List Term} (refusals._>>=_ (refusals.need (not (isZero (width (p .0)))) bracketedConstant)
+      refusals._>>=_ {A = Terms × Store} (definition.arguments document01 th defs depth rest ts)
+      (λ p. refusals._>>=_ {A = Unit {0} × Store} (refusals._>>=_ (refusals.need (not (isZero (width (p .0)))) bracketedConstant)
       (λ a. refusals.ok (a, p .1))) (λ u. definition.make document01 d (p .0) (u .1)))
 
   -- "After the closing come 16 for a bracketed constructor without arguments, then 15 for arity and sorts, then the store."
-  pub made-of : (top spent c : ℕ) (d : Symbol) (K : Stream Token → Type 0) (ts : List Term) (stack : List ℕ) (x : ℕ × Reader) (left : Areas)
-      (y : Terms × List Term) → 2 * top ≤ spent → length stack ≡ 16384 → SymbolAt heap es bound c d
+  pub made-of : (top spent c : ℕ) (d : Symbol) (K : Stream Token → Type 0) (ts : Store) (stack : List ℕ) (x : ℕ × Reader) (left : Areas)
+      (y : Terms × Store) → 2 * top ≤ spent → length stack ≡ 16384 → SymbolAt heap es bound c d
       → ArgumentsRead es th text K (top + 1) 0 (spent + 2) stack ts x left y
       → Simulates (TermRead es th (At text K (spent + 2)) top stack ts) (make heap c top (x .0) (x .1) (left .0) (left .1))
       (definition.make document01 d (y .0) (y .1))
@@ -173,7 +173,7 @@ module _ (text : List ℕ) (table : List ℕ) {rules heap : List ℕ} {es : Entr
         keeps = keeps-then (omega arith) (keeps-less (omega arith) (q .keeps)) (t .keeps);
       }))
 
-  compounded : (left depth top spent c : ℕ) (d : Symbol) (K : Stream Token → Type 0) (rest : Items) (ts : List Term) (r : Reader) (store stack : List ℕ)
+  compounded : (left depth top spent c : ℕ) (d : Symbol) (K : Stream Token → Type 0) (rest : Items) (ts : Store) (r : Reader) (store stack : List ℕ)
       → ArgumentsLaw rest → depth + left ≡ 257 → 2 * top ≤ spent → SymbolAt heap es bound c d
       → Ready es th text ts₀ (RestComes rest K) (top + 1) (spent + 2) ts r store stack
       → Simulates (TermRead es th (At text K (spent + 2)) top stack ts) (walkOn left top c r store stack) (definedOn depth d rest ts)
@@ -183,11 +183,11 @@ module _ (text : List ℕ) (table : List ℕ) {rules heap : List ℕ} {es : Entr
       rw (sum-small top 1 (omega arith))
       (bind _ _ (law left depth (top + 1) 0 (top + 1) (spent + 2) (length text + 1) K ts r store stack e (omega arith) (omega arith) ready)
       (λ x s y q. by x s y q (q .ms) (q .count) (q .terms))) where
-        by : (x : ℕ × Reader) (s : Areas) (y : Terms × List Term) (q : ArgumentsRead es th text K (top + 1) 0 (spent + 2) stack ts x s y) (ms : List ℕ)
-            → x .0 ≡ 0 + length ms → lookups (symbolAt es th) (y .1) ms ≡ y .0
+        by : (x : ℕ × Reader) (s : Areas) (y : Terms × Store) (q : ArgumentsRead es th text K (top + 1) 0 (spent + 2) stack ts x s y) (ms : List ℕ)
+            → x .0 ≡ 0 + length ms → lookups (symbolAt es th) (y .1 .terms) ms ≡ y .0
             → Simulates (TermRead es th (At text K (spent + 2)) top stack ts)
             (leaving._>>=_ (outcomes.need (not (eqb (x .0) 0)) 16 leaving s) (λ _. make heap c top (x .0) (x .1) (s .0) (s .1)))
-            (refusals._>>=_ {A = Unit {0} × List Term} (refusals._>>=_ (refusals.need (not (isZero (width (y .0)))) bracketedConstant)
+            (refusals._>>=_ {A = Unit {0} × Store} (refusals._>>=_ (refusals.need (not (isZero (width (y .0)))) bracketedConstant)
             (λ b. refusals.ok (b, y .1))) (λ u. definition.make document01 d (y .0) (u .1)))
         by x s y q [] n t = rw (eq-eqb (x .0) 0 n, ← t) (refuse refl)
         by x s y q (m ∷ ms) n t =
@@ -197,9 +197,9 @@ module _ (text : List ℕ) (table : List ℕ) {rules heap : List ℕ} {es : Entr
   -- No head there, or none that is an atom.
   abbrev Refuses : ℕ → Items → Refusal → Type 0
   Refuses depth is x =
-      (definition.askWord depth is ≡ refusals.refused x) × ((ts : List Term) → definition.compoundTerm document01 th defs depth is ts ≡ refusals.refused x)
+      (definition.askWord depth is ≡ refusals.refused x) × ((ts : Store) → definition.compoundTerm document01 th defs depth is ts ≡ refusals.refused x)
 
-  headless : (is : Items) (x : Refusal) (left depth top spent : ℕ) (K : Stream Token → Type 0) (ts : List Term) (r : Reader) (store stack : List ℕ)
+  headless : (is : Items) (x : Refusal) (left depth top spent : ℕ) (K : Stream Token → Type 0) (ts : Store) (r : Reader) (store stack : List ℕ)
       → Refuses depth is x → depth + left ≡ 257 → Ready es th text ts₀ (RestComes is K) top spent ts r store stack
       → Simulates (TermRead es th (At text K (spent + 2)) top stack ts)
       (walk.termOf (walk.term left text rules heap table) left text rules heap table top (asked.list r) store stack)
@@ -244,7 +244,7 @@ module _ (text : List ℕ) (table : List ℕ) {rules heap : List ℕ} {es : Entr
         found : {o : Outcome (ℕ × Reader)} {m : Result Symbol} → Answers (SymbolMet heap es bound (At text (RestComes rest K) (spent + 2))) o m
             → Simulates (TermRead es th (At text K (spent + 2)) top stack ts)
             (leaving._>>=_ (o leaving (store, stack)) (λ p. walkOn (suc l) top (p .0 .0) (p .0 .1) (p .1 .0) (p .1 .1)))
-            (refusals._>>=_ {A = Symbol × List Term} (refusals._>>=_ m (λ c. refusals.ok (c, ts))) (λ p. definedOn depth (p .0) rest (p .1)))
+            (refusals._>>=_ {A = Symbol × Store} (refusals._>>=_ m (λ c. refusals.ok (c, ts))) (λ p. definedOn depth (p .0) rest (p .1)))
         found (both-refuse f) = refuse f
         found (both-ok (symbol-met {a = c} {q} {c = d} x there)) =
             let b = ready .room in
@@ -255,7 +255,7 @@ module _ (text : List ℕ) (table : List ℕ) {rules heap : List ℕ} {es : Entr
             → Simulates (TermRead es th (At text K (spent + 2)) top stack ts)
             (leaving._>>=_ (outcomes._>>=_ o (λ p. constructorDue text rules heap (p .0) (p .1) (p .2)) leaving (store, stack))
             (λ p. walkOn (suc l) top (p .0 .0) (p .0 .1) (p .1 .0) (p .1 .1)))
-            (refusals._>>=_ {A = Symbol × List Term} (refusals._>>=_ (constructor th name) (λ c. refusals.ok (c, ts)))
+            (refusals._>>=_ {A = Symbol × Store} (refusals._>>=_ (constructor th name) (λ c. refusals.ok (c, ts)))
             (λ p. definedOn depth (p .0) rest (p .1)))
         by (both-ok (word-met {s} {t} {r = q} n a b there)) =
             found (constructor-law text table h defs ts₀ abbreviations (At text (RestComes rest K) (spent + 2)) s t q n there)
@@ -330,7 +330,7 @@ module _ (text : List ℕ) (table : List ℕ) {rules heap : List ℕ} {es : Entr
   unfolding walk.argumentsFrom definition.arguments definition._>>=_ definition.lift definition.give lookups
   arguments-more item rest one law left depth top n place spent zero K ts r store stack e p f ready = no-fuel top n place (ready .reader) (ready .room) p f
   arguments-more item rest one law left depth top n place spent (suc fuel) K ts r store stack e p f ready =
-      rw (asked-then {A = Term × List Term} {B = Terms × List Term} depth ts (definition.term document01 th defs depth item ts)
+      rw (asked-then {A = Term × Store} {B = Terms × Store} depth ts (definition.term document01 th defs depth item ts)
       (λ y. refusals._>>=_ (definition.arguments document01 th defs depth rest (y .1)) (λ z. refusals.ok (y .0 ∷ₜ z .0, z .1))) _ refl)
       (by (look-law text K spent (item then rest) (ready .reader))) where
         small : place < 4294967296
@@ -342,7 +342,7 @@ module _ (text : List ℕ) (table : List ℕ) {rules heap : List ℕ} {es : Entr
         next : sum32 n 1 ≡ n + 1
         next = sum-small n 1 (let b = at-within (ready .reader) in let c = ready .room in omega arith)
 
-        on : (x : ℕ × Reader) (s : Areas) (y : Term × List Term) → TermRead es th (At text (RestComes rest K) (spent + 2)) place stack ts x s y
+        on : (x : ℕ × Reader) (s : Areas) (y : Term × Store) → TermRead es th (At text (RestComes rest K) (spent + 2)) place stack ts x s y
             → Simulates (ArgumentsRead es th text K place n spent stack ts)
             (walk.argumentsFrom (walk.term left text rules heap table) fuel text top (n + 1) (x .1) (s .0) (set (s .1) place (x .0)))
             (refusals._>>=_ (definition.arguments document01 th defs depth rest (y .1)) (λ z. refusals.ok (y .0 ∷ₜ z .0, z .1)))
@@ -352,7 +352,7 @@ module _ (text : List ℕ) (table : List ℕ) {rules heap : List ℕ} {es : Entr
             let k = length-set (s .1) place (x .0) in
             let i = t .keeps .same-length in
             let j = ready .long in
-            after (λ (z : Terms × List Term). (y .0 ∷ₜ z .0, z .1))
+            after (λ (z : Terms × Store). (y .0 ∷ₜ z .0, z .1))
             (law left depth top (n + 1) (place + 1) (spent + 2) fuel K (y .1) (x .1) (s .0) (set (s .1) place (x .0)) e (omega arith) (omega arith)
             record { reader = t .reader; room = omega arith; stored = t .stored; grown = longer-then (ready .grown) (t .grown); long = omega arith })
             (λ a u z w.

@@ -7,7 +7,7 @@ use Rattle.horn.specs.Setting.{document01}
 use Rattle.horn.specs.Tokens.{Stream, Token}
 use Rattle.horn.specs.NestedLists.{Items}
 use Rattle.horn.specs.Rulebook.{Theory}
-use Rattle.horn.specs.StoredTerms.{Term}
+use Rattle.horn.specs.StoredTerms.{Store}
 use Rattle.horn.specs.Checker as definition
 use Rattle.horn.specs.Checker.{Def, Goal}
 use Rattle.horn.specs.Matching.{Step}
@@ -25,7 +25,7 @@ use Rattle.nodes.specs.Limits.{indexPlaces, defBuckets}
 use Rattle.terms_laws.proofs.Reading.{Ready}
 use Rattle.terms_laws.proofs.Judgments.{AskedRead, ask-term-law, judgment-law}
 
-module _ {rules heap : List ℕ} {es : Entries} {bound : ℕ} {th : Theory} (h : Holds rules heap es bound th) {ts : List Term}
+module _ {rules heap : List ℕ} {es : Entries} {bound : ℕ} {th : Theory} (h : Holds rules heap es bound th) {ts : Store}
     (left depth top spent : ℕ) (deep : depth + left ≡ 257) (is : Items) (K : Stream Token → Type 0) (r : Reader) (store stack : List ℕ)
     (stored : Stored es th document01 indexPlaces store ts) (room : 2 * top ≤ spent) (long : length stack ≡ 16384) where
   ready : (text : List ℕ) → At text (RestComes is K) spent r → Ready es th text ts (RestComes is K) top spent ts r store stack

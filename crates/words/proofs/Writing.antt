@@ -18,6 +18,12 @@ copied-before zero a i s j m h = refl
 copied-before (suc n) a i s j m h =
     copied-before n (set a i (getD s j 0)) (i + 1) s (j + 1) m (omega arith) ∙ getD-set-other a i m (getD s j 0) 0 (λ e. omega arith)
 
+pub copied-behind : (n : ℕ) (a : List ℕ) (i : ℕ) (s : List ℕ) (j m : ℕ) → i + n ≤ m → getD (copied a i s j n) m 0 ≡ getD a m 0
+unfolding copied
+copied-behind zero a i s j m h = refl
+copied-behind (suc n) a i s j m h =
+    copied-behind n (set a i (getD s j 0)) (i + 1) s (j + 1) m (omega arith) ∙ getD-set-other a i m (getD s j 0) 0 (λ e. omega arith)
+
 pub copied-there : (n : ℕ) (a : List ℕ) (i : ℕ) (s : List ℕ) (j d : ℕ) → i + n ≤ length a → d < n →
     getD (copied a i s j n) (i + d) 0 ≡ getD s (j + d) 0
 unfolding copied

@@ -18,7 +18,7 @@ same-length-4 c = c .before .before .before .before .before .before .before .bef
 
 returns-2 : tie.Need-returns-2
 unfolding make interned
-returns-2 c = λ r. rw (← c .before .before .before .before .before .before .before .before .before .before .before .before .before .before .before .plus .ensures, sym (c .before .before .before .before .before .before .before .before .before .before .before .before .before .before .accepts .ensures) ∙ not-false _ (c .before .before .before .before .before .before .before .before .before .before .before .before .before .if1 .left), ← c .before .before .before .before .before .before .before .before .before .before .before .put .ensures, ← c .before .before .before .before .before .before .before .words-part .ensures, ← c .before .before .before .before .before .intern .ensures .0, ← c .before .before .before .before .before .intern .ensures .1 .0, c .before .answer .given .1)
+returns-2 c = λ r. rw (← c .before .before .before .before .before .before .before .before .before .before .before .before .before .before .before .plus .ensures, sym (c .before .before .before .before .before .before .before .before .before .before .before .before .before .before .accepts .ensures) ∙ not-false _ (c .before .before .before .before .before .before .before .before .before .before .before .before .before .if1 .left), ← c .before .before .before .before .before .before .before .before .before .before .before .put .ensures, ← c .before .before .before .before .before .before .before .words-part .ensures, ← c .before .before .before .before .before .intern .ensures .0, ← c .before .before .before .before .before .intern .ensures .1, c .before .answer .given .1)
 
 same-length-5 : tie.Need-same-length-5
 same-length-5 c = c .before .before .before .before .store .given
@@ -28,7 +28,7 @@ same-length-6 c = c .before .before .before .before .before .before .before .bef
 
 returns-3 : tie.Need-returns-3
 unfolding make interned
-returns-3 c = λ r. rw (← c .before .before .before .before .before .before .before .before .before .before .before .before .before .before .before .plus .ensures, sym (c .before .before .before .before .before .before .before .before .before .before .before .before .before .before .accepts .ensures) ∙ not-false _ (c .before .before .before .before .before .before .before .before .before .before .before .before .before .if1 .left), ← c .before .before .before .before .before .before .before .before .before .before .before .put .ensures, ← c .before .before .before .before .before .before .before .words-part .ensures, ← c .before .before .before .before .before .intern .ensures .0, ← c .before .before .before .before .before .intern .ensures .1 .0, c .before .answer2 .given .1)
+returns-3 c = λ r. rw (← c .before .before .before .before .before .before .before .before .before .before .before .before .before .before .before .plus .ensures, sym (c .before .before .before .before .before .before .before .before .before .before .before .before .before .before .accepts .ensures) ∙ not-false _ (c .before .before .before .before .before .before .before .before .before .before .before .before .before .if1 .left), ← c .before .before .before .before .before .before .before .before .before .before .before .put .ensures, ← c .before .before .before .before .before .before .before .words-part .ensures, ← c .before .before .before .before .before .intern .ensures .0, ← c .before .before .before .before .before .intern .ensures .1, c .before .answer2 .given .1)
 
 same-length-7 : tie.Need-same-length-7
 same-length-7 c = c .before .before .before .store .given
@@ -38,7 +38,7 @@ same-length-8 c = c .before .before .before .before .before .before .before .bef
 
 returns-4 : tie.Need-returns-4
 unfolding make interned
-returns-4 c = λ r. rw (← c .before .before .before .before .before .before .before .before .before .before .before .before .before .before .plus .ensures, sym (c .before .before .before .before .before .before .before .before .before .before .before .before .before .accepts .ensures) ∙ not-false _ (c .before .before .before .before .before .before .before .before .before .before .before .before .if1 .left), ← c .before .before .before .before .before .before .before .before .before .before .put .ensures, ← c .before .before .before .before .before .before .words-part .ensures, ← c .before .before .before .before .intern .ensures .0, ← c .before .before .before .before .intern .ensures .1 .0, c .enum-told .given .1)
+returns-4 c = λ r. rw (← c .before .before .before .before .before .before .before .before .before .before .before .before .before .before .plus .ensures, sym (c .before .before .before .before .before .before .before .before .before .before .before .before .before .accepts .ensures) ∙ not-false _ (c .before .before .before .before .before .before .before .before .before .before .before .before .if1 .left), ← c .before .before .before .before .before .before .before .before .before .before .put .ensures, ← c .before .before .before .before .before .before .words-part .ensures, ← c .before .before .before .before .intern .ensures .0, ← c .before .before .before .before .intern .ensures .1, c .enum-told .given .1)
 
 pub node-spec : {M : Type 1} → statement M
 node-spec =
