@@ -93,28 +93,45 @@ fn full_store(quarters: usize) -> Release {
     Release::new(rulebook, "(goal g(p))", certificate)
 }
 
-pub fn loads(run: &mut Run) {
-    run.fixed("release", "bench set", "", Release::new(BENCH, BENCH_GOALS, BENCH_CERTIFICATE));
-    run.load("release", "chain of 1,023 steps", "0.6", |q| chain(256 * q - 1));
-    run.load("release", "conclusions stated", "", stated);
-    run.load("release", "600 sums", "", |q| sums(150 * q));
-    run.load("release", "largest rulebook, small certificate", "0.6", largest_rulebook);
-    run.load("release", "most abbreviations", "0.6", most_abbreviations);
-    run.load("release", "most goals", "", most_goals);
-    run.load("release", "deepest terms", "", deepest_terms);
-    run.load("release", "widest rule", "", widest);
-    run.load("release", "full store", "", full_store);
-    run.load("release", "refused early: the rulebook's first token", "", |q| Release { rulebook: ")".into(), ..most_abbreviations(q) });
-    run.load("release", "refused early: the certificate's first token", "", |q| {
+/// A load by its name, its bar, and its texts in quarters of their whole size.
+type Load = (&'static str, &'static str, fn(usize) -> Release);
+
+const LOADS: [Load; 13] = [
+    ("chain of 1,023 steps", "0.6", |q| chain(256 * q - 1)),
+    ("conclusions stated", "", stated),
+    ("600 sums", "", |q| sums(150 * q)),
+    ("largest rulebook, small certificate", "0.6", largest_rulebook),
+    ("most abbreviations", "0.6", most_abbreviations),
+    ("most goals", "", most_goals),
+    ("deepest terms", "", deepest_terms),
+    ("widest rule", "", widest),
+    ("full store", "", full_store),
+    ("refused early: the rulebook's first token", "", |q| Release { rulebook: ")".into(), ..most_abbreviations(q) }),
+    ("refused early: the certificate's first token", "", |q| {
         let all = most_abbreviations(q);
         Release { certificate: format!("){}", &all.certificate[1..]), ..all }
-    });
-    run.load("release", "refused late: the last form", "", |q| {
+    }),
+    ("refused late: the last form", "", |q| {
         let all = chain(256 * q - 1);
         Release { certificate: all.certificate.replace("(result g 254)", "(result h 254)"), ..all }
-    });
-    run.load("release", "refused late: a goal left open", "", |q| {
+    }),
+    ("refused late: a goal left open", "", |q| {
         let all = most_abbreviations(q);
         Release { certificate: all.certificate.replace("(result g 1)", ""), ..all }
-    });
+    }),
+];
+
+fn bench_set() -> Release {
+    Release::new(BENCH, BENCH_GOALS, BENCH_CERTIFICATE)
+}
+
+pub fn loads(run: &mut Run) {
+    run.fixed("release", "bench set", "", bench_set());
+    LOADS.iter().for_each(|(load, bar, make)| run.load("release", load, bar, make));
+}
+
+/// The same loads by the call that writes the release page, beside the call with three texts.
+pub fn pages(run: &mut Run) {
+    run.page("bench set", |_| bench_set());
+    LOADS.iter().for_each(|(load, _, make)| run.page(load, make));
 }

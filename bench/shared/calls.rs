@@ -1,7 +1,8 @@
-//! The two calls on both sides, and what each answers.
+//! The calls on both sides, and what each answers.
 use crate::kernel::{self, Theory};
-use crate::measure::{AREA, Areas, Work};
+use crate::measure::{AREA, Areas, Work, areas};
 use crate::messages;
+use std::cell::RefCell;
 use std::hint::black_box;
 
 pub const LONGEST_RULEBOOK: usize = 8_192;
@@ -22,6 +23,14 @@ struct Report {
     number: u32,
     counts: [u32; 4],
     requested: u32,
+}
+
+/// What the call that writes the release page hands back.
+#[repr(C)]
+#[derive(Debug, PartialEq)]
+struct Written {
+    number: u32,
+    length: u32,
 }
 
 unsafe extern "C" {
@@ -56,6 +65,25 @@ unsafe extern "C" {
         d: *mut u32,
         d_words: usize,
     ) -> Report;
+    #[rustfmt::skip]
+    fn horn_page(
+        rulebook: *const u8,
+        rulebook_bytes: usize,
+        goals: *const u8,
+        goals_bytes: usize,
+        certificate: *const u8,
+        certificate_bytes: usize,
+        a: *mut u32,
+        a_words: usize,
+        b: *mut u32,
+        b_words: usize,
+        c: *mut u32,
+        c_words: usize,
+        d: *mut u32,
+        d_words: usize,
+        out: *mut u8,
+        out_bytes: usize,
+    ) -> Written;
 }
 
 /// 01's number of the Rust's answer.
@@ -162,6 +190,63 @@ impl Work for Release {
         let requested = answer.as_ref().map_or(0, |_| self.requested());
         let counts = answer.map_or([0; 4], |r| [r.steps, r.goals, r.terms, r.bytes as usize].map(|n| n as u32));
         assert_eq!(self.called(areas), Report { number, counts, requested }, "the port answers something else");
+        number
+    }
+}
+
+/// The call that writes the release page, in a buffer that has room for it. Beside it stands, in place of the Rust, the call with the same three
+/// texts, over the same areas.
+pub struct Page {
+    release: Release,
+    /// The page by compare's second opinion; empty where the release is refused.
+    due: Vec<u8>,
+    lent: RefCell<(Areas, Vec<u8>)>,
+}
+
+/// More bytes than any page has.
+const BUFFER: usize = 65_536;
+
+impl Page {
+    pub fn new(release: Release) -> Self {
+        let [r, g, p] = [&release.rulebook, &release.goals, &release.certificate].map(|text| text.as_bytes());
+        let due = second::page(r, g, p, [AREA; 4], second::LIMITS).written(BUFFER).text;
+        Self { release, due, lent: RefCell::new((areas(), vec![0; BUFFER])) }
+    }
+
+    /// Bytes of the page.
+    pub fn length(&self) -> usize {
+        self.due.len()
+    }
+
+    fn called(&self) -> Written {
+        let (areas, out) = &mut *self.lent.borrow_mut();
+        let [a, b, c, d] = areas.each_mut().map(|w| w.as_mut_ptr());
+        let [r, g, p] = [&self.release.rulebook, &self.release.goals, &self.release.certificate].map(|text| text.as_ptr());
+        let [rn, gn, pn] = self.release.lengths();
+        unsafe { horn_page(r, rn, g, gn, p, pn, a, AREA, b, AREA, c, AREA, d, AREA, out.as_mut_ptr(), BUFFER) }
+    }
+}
+
+impl Work for Page {
+    type Kept = ();
+    const CLEARS: bool = false;
+
+    fn bytes(&self) -> usize {
+        self.release.bytes()
+    }
+
+    fn rust(&self) {
+        black_box(self.release.called(&mut self.lent.borrow_mut().0));
+    }
+
+    fn port(&self, _: &mut Areas) {
+        black_box(self.called());
+    }
+
+    fn answer(&self, areas: &mut Areas) -> u32 {
+        let number = self.release.answer(areas);
+        assert_eq!(self.called(), Written { number, length: self.due.len() as u32 }, "the page's call answers something else");
+        assert!(self.lent.borrow().1.starts_with(&self.due), "another page");
         number
     }
 }

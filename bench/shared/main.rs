@@ -59,5 +59,6 @@ fn main() {
     arena::loads(run);
     rulebook::loads(run);
     release::loads(run);
+    release::pages(run);
     worst::loads::loads(run);
 }

@@ -1,5 +1,6 @@
 //! A run over all loads: each is measured at three sizes and told as a line of words parted by tabs; or one load alone is done over
 //! and over, for a profile.
+use crate::calls::{Page, Release};
 use crate::measure::{self, Areas, Times, Work, measure, now};
 use crate::worst::median;
 use std::hint::black_box;
@@ -77,6 +78,15 @@ impl Run {
                 line += &self.measured(&work, budget);
             }
             println!("{line}");
+        }
+    }
+
+    /// A load of the call that writes the release page, beside the call with the same three texts; `make` as above. To be repeated it is `page: ` and its name.
+    pub fn page(&mut self, load: &str, make: impl Fn(usize) -> Release) {
+        if self.due("page", &format!("page: {load}"), || Page::new(make(4))) {
+            let work = Page::new(make(4));
+            let answer = work.answer(&mut self.areas);
+            println!("page\trelease\t{load}\t{}\t{answer}{}", work.length(), self.measured(&work, WHOLE));
         }
     }
 

@@ -90,6 +90,23 @@ fn sizes(loads: &[Load]) {
     }
 }
 
+/// The call that writes the page stands in the port's place, the call with three texts in the Rust's.
+fn pages(loads: &[Load], runs: usize) {
+    println!("\n## The release page\n");
+    println!("|Load|Answer|Bytes of the page|Call with three texts|Call that writes the page|Ratio, median of {runs}|Slowest of {runs}|");
+    println!("|-|-|-|-|-|-|-|");
+    for l in loads {
+        let [load, page, answer] = [1, 2, 3].map(|i| &l.words[i]);
+        println!(
+            "|{load}|{answer}|{page}|{}|{}|{:.2}|{:.2}|",
+            us(l.of(|r| r[RUST])),
+            us(l.of(|r| r[PORT])),
+            l.of(|r| r[PORT] / r[RUST]),
+            l.most(|r| r[PORT] / r[RUST]),
+        );
+    }
+}
+
 fn worst(loads: &[Load]) {
     println!("\n## Worst cases\n");
     println!("|Call|Load|Answer|Bytes|Port|Median text|Times|Whole / half|Rust|Times its median|What bounds it|");
@@ -117,7 +134,8 @@ pub fn print() {
     for line in text.lines() {
         let words: Vec<String> = line.split('\t').map(String::from).collect();
         let figures: Vec<f64> = words[5..].iter().map(|w| w.parse().expect("a figure")).collect();
-        let table = tables.entry(if line.starts_with("speed") { "speed" } else { "worst" }).or_default();
+        let kind = line.split('\t').next().expect("a word");
+        let table = tables.entry(kind).or_default();
         match table.iter_mut().find(|l| l.words == words[1..5]) {
             Some(load) => load.runs.push(figures),
             None => table.push(Load { words: words[1..5].to_vec(), runs: vec![figures] }),
@@ -126,6 +144,9 @@ pub fn print() {
     if let Some(loads) = tables.get("speed") {
         speed(loads, loads[0].runs.len());
         sizes(loads);
+    }
+    if let Some(loads) = tables.get("page") {
+        pages(loads, loads[0].runs.len());
     }
     if let Some(loads) = tables.get("worst") {
         worst(loads);

@@ -1,4 +1,4 @@
-/* Judges the bench set of document 01, texts that are refused, and prints the reports. */
+/* Judges the bench set of document 01, texts that are refused, and prints the reports; then the release page of document 02. */
 #include "horn.h"
 
 #include <stdio.h>
@@ -7,7 +7,7 @@
 
 #define AREAS areas[0], HORN_AREA_WORDS, areas[1], HORN_AREA_WORDS, areas[2], HORN_AREA_WORDS, areas[3], HORN_AREA_WORDS
 
-/* Areas and texts are blocks of their exact size, so that valgrind and the address sanitizer see a step beyond one. */
+/* Areas, texts and buffers are blocks of their exact size, so that valgrind and the address sanitizer see a step beyond one. */
 static uint32_t *areas[4];
 
 typedef struct {
@@ -49,6 +49,29 @@ static int release(Text rulebook, Text goals, Text certificate, uint32_t number,
     return r.number == number && r.bytes == bytes && r.requested == requested;
 }
 
+/* What a buffer holds before. */
+#define BEFORE 0xA5
+
+/* The page in a buffer of so many bytes, those behind it untouched; all of them where it is refused. */
+static int page(Text rulebook, Text goals, Text certificate, size_t room, uint32_t number, const char *due)
+{
+    uint8_t *out = block(room);
+    memset(out, BEFORE, room);
+    HornWritten w = horn_page(rulebook.bytes, rulebook.length, goals.bytes, goals.length,
+        certificate.bytes, certificate.length, AREAS, out, room);
+    printf("number %u, length %u\n", w.number, w.length);
+    fwrite(out, 1, w.length, stdout);
+    int held = w.number == number && w.length == strlen(due) && memcmp(out, due, strlen(due)) == 0;
+    for (size_t i = strlen(due); i < room; i++)
+        held &= out[i] == BEFORE;
+    free(out);
+    return held;
+}
+
+#define PAGE \
+    "g                                       1 more                  \n" \
+    "used 100%                                                       \n"
+
 int main(void)
 {
     Text rulebook = text("(sort t)(ctor z () t)(ctor s (t) t)(pred hold (t))(rule base () (hold z))"
@@ -70,6 +93,10 @@ int main(void)
     held &= release(rulebook, goals, shared, 0, 96, 9);
     held &= release(rulebook, goals, written, 0, 88, 11);
     held &= release(rulebook, goals, other, 27, 0, 0);
+    held &= page(rulebook, goals, certificate, 2 * HORN_PAGE_LINE_BYTES, 0, PAGE);
+    held &= page(rulebook, goals, certificate, 2 * HORN_PAGE_LINE_BYTES - 1, 31, "");
+    held &= page(rulebook, goals, certificate, HORN_PAGE_BYTES, 0, PAGE);
+    held &= page(rulebook, goals, other, 1, 27, "");
     /* The areas held other words before; now all are 0. */
     for (size_t i = 0; i < 4 * HORN_AREA_WORDS; i++)
         held &= areas[i / HORN_AREA_WORDS][i % HORN_AREA_WORDS] == 0;
@@ -82,6 +109,6 @@ int main(void)
     free(shared.bytes);
     free(written.bytes);
     free(other.bytes);
-    puts(held ? "as document 01 says" : "NOT as document 01 says");
+    puts(held ? "as documents 01 and 02 say" : "NOT as documents 01 and 02 say");
     return !held;
 }

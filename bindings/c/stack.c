@@ -1,5 +1,5 @@
 /*
- * Runs both calls on the deepest texts, on a thread whose stack is painted, and prints how much of it each call wrote. Fails
+ * Runs the calls on the deepest texts, on a thread whose stack is painted, and prints how much of it each call wrote. Fails
  * unless each gives its number and stays within HORN_STACK_BYTES. Then runs them all on a thread of THREAD_BYTES.
  */
 #define _POSIX_C_SOURCE 200809L
@@ -23,6 +23,7 @@
 #define AREAS areas[0], HORN_AREA_WORDS, areas[1], HORN_AREA_WORDS, areas[2], HORN_AREA_WORDS, areas[3], HORN_AREA_WORDS
 
 static uint32_t areas[4][HORN_AREA_WORDS];
+static uint8_t page[HORN_PAGE_BYTES];
 
 /* A text: `before`, so many times `open`, `inner`, as many closings, `after`. */
 typedef struct {
@@ -76,8 +77,13 @@ static const Case cases[] = {
         DEEP(254, "(step 0 deep()(hold ", "z", "))") },
     { "step: deepest premise matched", 29, DEEP(253, PREMISE, "?x", "))(hold ?x))"), FLAT(GOAL),
         DEEP(253, DEF, "z", ")(step 0 any()(?y ?a))(step 1 deep(0))") },
+    { "accepted: deepest goal", 0, DEEP(254, RULE, "z", "))"), DEEP(254, ASKED, "z", "))"), FLAT("(step 0 deep())(result g 0)") },
+    { "accepted: bench set", 0, FLAT(BENCH), FLAT(GOAL), FLAT("(step 0 base())(step 1 more(0))(result g 1)") },
 };
 enum { CASES = sizeof cases / sizeof *cases };
+
+/* The call with the rulebook alone, the one with three texts, and that of the page, which takes the same three. */
+enum { ALONE_CALL, RELEASE_CALL, PAGE_CALL, CALLS };
 
 /* Longer than any text of the cases. */
 typedef char Text[4096];
@@ -94,9 +100,10 @@ static size_t write_text(char *text, const Nested *n, int less)
     return (size_t)(p - text) + (size_t)sprintf(p, "%s", n->after);
 }
 
-/* The case to run, how much less deep, and what came of it. */
+/* The case to run, by which call, how much less deep, and what came of it. */
 typedef struct {
     const Case *texts;
+    int by;
     int less;
     unsigned char *stack;
     uint32_t number;
@@ -110,9 +117,12 @@ static void __attribute__((noinline)) call(Run *run, const uint8_t *text[3], con
     __asm__ volatile("mov %%rsp, %0" : "=r"(here));
     for (volatile unsigned char *p = low; low && p < here - NEAR; p++)
         *p = PAINT;
-    run->number = text[1]
-        ? horn_release(text[0], length[0], text[1], length[1], text[2], length[2], AREAS).number
-        : horn_rulebook(text[0], length[0], AREAS).number;
+    if (run->by == ALONE_CALL)
+        run->number = horn_rulebook(text[0], length[0], AREAS).number;
+    else if (run->by == RELEASE_CALL)
+        run->number = horn_release(text[0], length[0], text[1], length[1], text[2], length[2], AREAS).number;
+    else
+        run->number = horn_page(text[0], length[0], text[1], length[1], text[2], length[2], AREAS, page, sizeof page).number;
     while (low && low < here && *low == PAINT)
         low++;
     run->bytes = low ? (size_t)(here - low) : 0;
@@ -149,28 +159,41 @@ static void run(Run *run, unsigned char *stack, size_t bytes)
     pthread_attr_destroy(&attributes);
 }
 
+/* Whether a case is one for a call. */
+static int asks(const Case *texts, int by)
+{
+    return (texts->goals.before == NULL) == (by == ALONE_CALL);
+}
+
+/* A case by a call, as deep as it is and less deep: the bytes it wrote are told, and kept if they are the most. */
+static int measured(const Case *texts, int by, unsigned char *stack, size_t *most)
+{
+    static const char *const calls[CALLS] = { "rulebook", "release", "page" };
+    Run deep = { texts, by, 0, NULL, 0, 0 }, less = { texts, by, LESS, NULL, 0, 0 };
+    run(&deep, stack, PAINTED_BYTES);
+    run(&less, stack, PAINTED_BYTES);
+    printf("%-8s %-38s number %2u, %6zu bytes, %4zu a level\n", calls[by], texts->name, deep.number, deep.bytes,
+        deep.bytes > less.bytes ? (deep.bytes - less.bytes) / LESS : 0);
+    *most = deep.bytes > *most ? deep.bytes : *most;
+    return deep.number == texts->number && deep.bytes <= HORN_STACK_BYTES;
+}
+
 int main(void)
 {
     void *stack = NULL;
-    size_t worst[2] = { 0, 0 };
+    size_t worst[CALLS] = { 0, 0, 0 };
     int held = posix_memalign(&stack, 4096, PAINTED_BYTES) == 0;
-    for (int i = 0; held && i < CASES; i++) {
-        Run deep = { &cases[i], 0, NULL, 0, 0 }, less = { &cases[i], LESS, NULL, 0, 0 };
-        size_t *most = &worst[cases[i].goals.before != NULL];
-        run(&deep, stack, PAINTED_BYTES);
-        run(&less, stack, PAINTED_BYTES);
-        printf("%-38s number %2u, %6zu bytes, %4zu a level\n", cases[i].name, deep.number, deep.bytes,
-            deep.bytes > less.bytes ? (deep.bytes - less.bytes) / LESS : 0);
-        held = deep.number == cases[i].number;
-        *most = deep.bytes > *most ? deep.bytes : *most;
-    }
-    printf("most: %zu bytes for a rulebook alone, %zu for three texts; promised: %d\n", worst[0], worst[1], HORN_STACK_BYTES);
-    held = held && worst[0] <= HORN_STACK_BYTES && worst[1] <= HORN_STACK_BYTES;
+    for (int i = 0; held && i < CASES * CALLS; i++)
+        if (asks(&cases[i / CALLS], i % CALLS))
+            held = measured(&cases[i / CALLS], i % CALLS, stack, &worst[i % CALLS]);
+    printf("most: %zu bytes for a rulebook alone, %zu for three texts, %zu for a page; promised: %d\n", worst[ALONE_CALL],
+        worst[RELEASE_CALL], worst[PAGE_CALL], HORN_STACK_BYTES);
     /* A stack that is too small ends the process. */
-    for (int i = 0; held && i < CASES; i++) {
-        Run small = { &cases[i], 0, NULL, 0, 0 };
-        run(&small, NULL, THREAD_BYTES);
-        held = small.number == cases[i].number;
+    for (int i = 0; held && i < CASES * CALLS; i++) {
+        Run small = { &cases[i / CALLS], i % CALLS, 0, NULL, 0, 0 };
+        if (asks(small.texts, small.by))
+            run(&small, NULL, THREAD_BYTES);
+        held = !asks(small.texts, small.by) || small.number == small.texts->number;
     }
     if (held)
         printf("all of them on a thread of %d bytes\n", THREAD_BYTES);

@@ -1,13 +1,16 @@
-"""docs/paper/algorithm.md written out, line by line: the two calls on bytes. It shares nothing with the port, the Rust or the second opinion.
+"""docs/paper/algorithm.md written out, line by line: the three calls on bytes. It shares nothing with the port, the Rust or the second opinion.
 
 As a program it is one that compare/paper/against can try.
 """
+import collections
 import sys
 
 sys.dont_write_bytecode = True
+from page import page
 from reading import LIST, NONE, Reader, Refused, Theory, is_atom, number, questioned, refuse
 
 FOUND, MADE = "FOUND", "MADE"
+Step = collections.namedtuple("Step", "judgment rule refs")
 
 
 class Release:
@@ -16,10 +19,10 @@ class Release:
     def __init__(self, theory, goals, certificate):
         self.th, self.nodes, self.numbers, self.words = theory, [], {}, 0
         self.found, self.made = 0, 0
-        self.defs, self.open, self.steps = {}, {}, []
+        self.defs, self.open, self.steps, self.results = {}, {}, [], {}
         self.r = Reader(goals)
         self.read_goals()
-        self.goals = len(self.open)
+        self.goals = list(self.open)
         self.r = Reader(certificate)
         self.read_certificate()
 
@@ -132,19 +135,20 @@ class Release:
         i = number(self.r.ask(1))
         if i >= len(self.steps):
             refuse(24)
-        if self.steps[i] != self.open[n]:
+        if self.steps[i].judgment != self.open[n]:
             refuse(27)
         self.r.closing_due()
         del self.open[n]
+        self.results[n] = i
 
     def step(self):
         i = number(self.r.ask(1))
         if i != len(self.steps):
             refuse(19)
-        n = self.r.atom_due(1)
-        if n not in self.th.rules:
+        r = self.r.atom_due(1)
+        if r not in self.th.rules:
             refuse(12)
-        variables, premises, conclusion = self.th.rules[n]
+        variables, premises, conclusion = self.th.rules[r]
         self.r.list_due(1)
         refs = []
         while (m := self.r.member(2)) != NONE:
@@ -174,11 +178,11 @@ class Release:
         for premise, ref in zip(premises, refs):
             if ref >= len(self.steps):
                 refuse(24)
-            if not self.match(premise, self.steps[ref], binds):
+            if not self.match(premise, self.steps[ref].judgment, binds):
                 refuse(25)
         if stated == NONE:
             stated = self.build(conclusion, binds)
-        self.steps.append(stated)
+        self.steps.append(Step(stated, r, refs))
 
     def match(self, p, n, binds):
         if is_atom(p):
@@ -213,18 +217,48 @@ def rulebook_call(areas, r):
         return e.args[0], 0, 0, 0, 0
 
 
+def release(areas, r, g, c):
+    lengths(areas, [(r, 8192), (g, 8192), (c, 32768)])
+    return Release(Theory(Reader(r).read_whole()), g, c)
+
+
 def release_call(areas, r, g, c):
     try:
-        lengths(areas, [(r, 8192), (g, 8192), (c, 32768)])
-        done = Release(Theory(Reader(r).read_whole()), g, c)
-        return 0, len(done.steps), done.goals, len(done.nodes), len(c), done.found + done.made
+        done = release(areas, r, g, c)
+        return 0, len(done.steps), len(done.goals), len(done.nodes), len(c), done.found + done.made
     except Refused as e:
         return e.args[0], 0, 0, 0, 0, 0
 
 
-sys.setrecursionlimit(10000)
-if __name__ == "__main__":
+def page_call(areas, r, g, c, buffer):
+    try:
+        text = page(release(areas, r, g, c))
+        if len(text) > len(buffer):
+            refuse(31)
+        buffer[: len(text)] = text
+        return 0, len(text)
+    except Refused as e:
+        return e.args[0], 0
+
+
+def answered(call, areas, fields):
+    """The answer to a line; of a page also the bytes of the buffer that the length speaks of, in hexadecimal."""
+    texts = [b"" if f == "-" else bytes.fromhex(f) for f in fields[call == "page" :]]
+    if call != "page":
+        return (rulebook_call if call == "rulebook" else release_call)(areas, *texts)
+    buffer = bytearray(b"\xa5" * int(fields[0]))
+    number, length = page_call(areas, *texts, buffer)
+    if len(buffer) != int(fields[0]) or any(b != 0xA5 for b in buffer[length:]):
+        sys.exit("a byte behind the text was written")
+    return number, length, buffer[:length].hex() or "-"
+
+
+def main():
     for line in sys.stdin:
         call, *fields = line.split()
-        lent, texts = list(map(int, fields[:4])), [b"" if f == "-" else bytes.fromhex(f) for f in fields[4:]]
-        print(*(rulebook_call if call == "rulebook" else release_call)(lent, *texts), flush=True)
+        print(*answered(call, list(map(int, fields[:4])), fields[4:]), flush=True)
+
+
+sys.setrecursionlimit(10000)
+if __name__ == "__main__":
+    main()

@@ -1,19 +1,22 @@
-//! A second opinion on both calls, worked from document 01, its readings and the customer's later requests alone: it shares
+//! A second opinion on all calls, worked from document 01, its readings and the customer's later requests alone: it shares
 //! no code with the port, with the Rust or with the opened copy of it. It takes raw bytes, any lengths of areas and texts,
 //! any limits of the store.
 //!
 //! `misread!("...")` marks the place of a misreading of 01 that can be planted, one at a time: see misreadings.rs.
 #[macro_use]
 mod misreadings;
+mod page;
 mod reader;
 mod release;
 mod rulebook;
 mod steps;
 mod store;
 
-pub use misreadings::{COUNT, name, plant};
+pub use misreadings::{COUNT, name, of_page, plant};
+pub use page::{Judged, Line, Page, Written};
 
 use reader::Reader;
+use release::Checker;
 use rulebook::Rulebook;
 
 /// A number and four counts, and of the call with three texts a fifth, which the customer's request L1 added: "every request
@@ -105,6 +108,31 @@ pub fn rulebook(text: &[u8], areas: [usize; 4]) -> Answer {
 
 /// The call with three texts.
 pub fn release(rulebook: &[u8], goals: &[u8], certificate: &[u8], areas: [usize; 4], limits: Limits) -> Answer {
+    // What was requested before a refusal.
+    let mut until = 0;
+    let outcome = judged([rulebook, goals, certificate], areas, limits, &mut until, |_, counts| counts);
+    answered(outcome, until)
+}
+
+/// The call that writes the page, which the customer's request L2 added, before it looks at the lent buffer.
+pub fn page(rulebook: &[u8], goals: &[u8], certificate: &[u8], areas: [usize; 4], limits: Limits) -> Judged {
+    let mut due = None;
+    let outcome = judged([rulebook, goals, certificate], areas, limits, &mut 0, |checker, counts| {
+        due = Some(checker.goals.len());
+        counts.map(|_| Page::of(checker))
+    });
+    Judged { outcome, due }
+}
+
+/// Three texts read and judged; `end` is asked where the certificate was read, or refused.
+fn judged<T>(
+    texts: [&[u8]; 3],
+    areas: [usize; 4],
+    limits: Limits,
+    until: &mut usize,
+    end: impl FnOnce(&Checker, Outcome<[usize; 5]>) -> Outcome<T>,
+) -> Outcome<T> {
+    let [rulebook, goals, certificate] = texts;
     let all = [
         (rulebook.len(), short_limit(false)),
         (goals.len(), short_limit(true)),
@@ -115,31 +143,25 @@ pub fn release(rulebook: &[u8], goals: &[u8], certificate: &[u8], areas: [usize;
         _ if misread!("the certificate's length is tested after the goals") => &all[..2],
         _ => &all[..],
     };
-    // What was requested before a refusal.
-    let mut until = 0;
-    let mut read = || {
-        lengths(areas, tested)?;
-        let book = Rulebook::read(rulebook)?;
-        if all[1].0 > all[1].1 {
-            return Err(2);
-        }
-        let mut checker = release::Checker::new(&book, limits);
-        let early = if misread!("no goal is told only at the end") { Ok(()) } else { Err(17) };
-        let goals = checker.goals(Reader::new(goals));
-        until = checker.store.requested;
-        match goals {
-            Err(17) => early?,
-            other => other?,
-        }
-        if all[2].0 > all[2].1 {
-            return Err(2);
-        }
-        let counts = checker.certificate(Reader::new(certificate));
-        until = checker.store.requested;
-        counts
-    };
-    let outcome = read();
-    answered(outcome, until)
+    lengths(areas, tested)?;
+    let book = Rulebook::read(rulebook)?;
+    if all[1].0 > all[1].1 {
+        return Err(2);
+    }
+    let mut checker = Checker::new(&book, limits);
+    let early = if misread!("no goal is told only at the end") { Ok(()) } else { Err(17) };
+    let goals = checker.goals(Reader::new(goals));
+    *until = checker.store.requested;
+    match goals {
+        Err(17) => early?,
+        other => other?,
+    }
+    if all[2].0 > all[2].1 {
+        return Err(2);
+    }
+    let counts = checker.certificate(Reader::new(certificate));
+    *until = checker.store.requested;
+    end(&checker, counts)
 }
 
 /// The answer of a release, and what was requested before a refusal.

@@ -1,4 +1,5 @@
-//! Misreadings of 01 that can be planted, one at a time, to measure what the generated cases can see.
+//! Misreadings of 01 and of the customer's later requests that can be planted, one at a time, to measure what the generated cases
+//! can see.
 use crate::reader::{NOT_WHITE, WHITE};
 use std::sync::atomic::{AtomicUsize, Ordering::Relaxed};
 
@@ -26,6 +27,11 @@ pub fn name(misreading: usize) -> String {
         None if white < WHITE.len() => format!("{:X} is not white space", WHITE[white]),
         None => format!("{:X} is white space", NOT_WHITE[white - WHITE.len()]),
     }
+}
+
+/// Whether a misreading is one of the page, which stand last in the list: only the call that writes it can show them.
+pub fn of_page(misreading: usize) -> bool {
+    (const { index("31 before the certificate's refusals") }..NAMES.len()).contains(&misreading)
 }
 
 pub fn planted(misreading: usize) -> bool {
@@ -318,4 +324,52 @@ const NAMES: &[&str] = &[
     "equal nodes are stored again",
     "a node that is found is not requested",
     "a node that is made is not requested",
+    "31 before the certificate's refusals",
+    "31 before 29",
+    "a page as long as the buffer is 31",
+    "a page longer by a byte fits",
+    "the last line need not fit",
+    "31 writes what fits",
+    "31 tells how long the page is",
+    "lines in the results' order",
+    "lines in the order of the results' steps",
+    "lines in the names' order",
+    "lines end in 0D 0A",
+    "a step's number is left-aligned",
+    "the percentage is left-aligned",
+    "the last line is not filled",
+    "the last line has 64 bytes with its 0A",
+    "the last line has no 0A",
+    "the first step that concludes a goal is shown",
+    "the rule of the first step that concludes a goal is shown",
+    "the rule of the first step is shown",
+    "the rule of the last step is shown",
+    "a step's number is shown plus one",
+    "a step's number is shown as it is written",
+    "steps up to the last result's are used",
+    "a step that two results lean on counts twice",
+    "a result's own step is not used",
+    "a step that any step refers to is used",
+    "only results' own steps are used",
+    "references of references are not used",
+    "only a step's first reference is used",
+    "only a step's last reference is used",
+    "the percentage of the unused steps",
+    "a percentage is rounded twice",
+    "100 times used is cut to 16 bits",
+    "a percentage's halves go down",
+    "a percentage's halves go to even",
+    "a percentage is cut",
+    "a percentage is rounded up",
+    "filling is with NUL",
+    "filling is with 0",
+    "numbers are filled with 0",
+    "names are filled by characters, not bytes",
+    "a name's filling stands before it",
+    "a name is cut inside a character",
+    "a shown name has a byte less",
+    "a long name is shown with a byte less",
+    "a shown name has a byte more",
+    "a name is cut by characters, not bytes",
+    "a character over the end is shown",
 ];

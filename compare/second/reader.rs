@@ -63,7 +63,7 @@ fn sequence(i: usize) -> (u8, u8, u8, u8, usize) {
 }
 
 /// Bytes of the first character, or nothing where it is not UTF-8.
-fn character(text: &[u8]) -> Option<usize> {
+pub fn character(text: &[u8]) -> Option<usize> {
     let first = *text.first()?;
     if first < 0x80 {
         return Some(1);

@@ -1,23 +1,31 @@
 //! Goals and certificate.
 use crate::reader::{Reader, Token};
 use crate::rulebook::{Rulebook, Symbol, find};
+use crate::steps::Step;
 use crate::store::{Head, Store};
 use crate::{Limits, Outcome};
 use std::collections::HashMap;
 
-struct Goal<'a> {
-    name: &'a [u8],
-    judgment: usize,
+pub struct Goal<'a> {
+    pub name: &'a [u8],
+    pub judgment: usize,
     open: bool,
+}
+
+/// A result: the place of its goal, its step, and the step's number as it is written.
+pub struct Met<'a> {
+    pub goal: usize,
+    pub step: usize,
+    pub written: &'a [u8],
 }
 
 pub struct Checker<'a> {
     pub book: &'a Rulebook<'a>,
     pub store: Store,
-    goals: Vec<Goal<'a>>,
+    pub goals: Vec<Goal<'a>>,
     abbreviations: HashMap<&'a [u8], usize>,
-    /// The judgment of each step.
-    pub steps: Vec<usize>,
+    pub steps: Vec<Step<'a>>,
+    pub results: Vec<Met<'a>>,
     /// The length of the certificate.
     bytes: usize,
 }
@@ -70,7 +78,7 @@ pub fn number(atom: &[u8]) -> Outcome<u64> {
 impl<'a> Checker<'a> {
     pub fn new(book: &'a Rulebook<'a>, limits: Limits) -> Self {
         let (store, goals, abbreviations) = (Store::new(limits), Vec::new(), HashMap::new());
-        let mut new = Self { book, store, goals, abbreviations, steps: Vec::new(), bytes: 0 };
+        let mut new = Self { book, store, goals, abbreviations, steps: Vec::new(), results: Vec::new(), bytes: 0 };
         if misread!("rule patterns without variables are stored") {
             for rule in &book.rules {
                 let values = vec![None; rule.variables.len()];
@@ -365,7 +373,8 @@ impl<'a> Checker<'a> {
         if step == last && last > 0 && misread!("a result may name the step to come") {
             return Err(27);
         }
-        let Some(&judgment) = usize::try_from(step).ok().and_then(|s| self.steps.get(s)) else {
+        let found = usize::try_from(step).ok().and_then(|n| Some((n, self.steps.get(n)?.judgment)));
+        let Some((step, judgment)) = found else {
             return Err(if misread!("a result's step that is none is 12") { 12 } else { 24 });
         };
         let other = judgment != self.goals[goal].judgment && !misread!("a result's judgment is not tested");
@@ -379,6 +388,7 @@ impl<'a> Checker<'a> {
             reader.closing()?;
         }
         self.goals[goal].open = false;
+        self.results.push(Met { goal, step, written: atom });
         self.store.requested += usize::from(misread!("a result is requested"));
         Ok(())
     }

@@ -5,6 +5,13 @@ use crate::release::{Checker, number};
 use crate::rulebook::{Pattern, Rule, find};
 use crate::store::Head;
 
+/// A step: its judgment, its rule's name, and the numbers of the steps that it refers to.
+pub struct Step<'a> {
+    pub judgment: usize,
+    pub rule: &'a [u8],
+    pub references: Vec<u64>,
+}
+
 /// The values of a rule's variables.
 type Values = Vec<Option<usize>>;
 
@@ -75,7 +82,7 @@ impl<'a> Checker<'a> {
             return Err(20);
         }
         let judgment = self.matching(rule, &refs, &mut values, stated)?;
-        self.steps.push(judgment);
+        self.steps.push(Step { judgment, rule: name, references: refs });
         Ok(())
     }
 
@@ -230,7 +237,9 @@ impl<'a> Checker<'a> {
                 }
                 return Err(24);
             }
-            if !self.matches(premise, true, self.steps[r as usize], values) && !misread!("premises are not matched") {
+            if !self.matches(premise, true, self.steps[r as usize].judgment, values)
+                && !misread!("premises are not matched")
+            {
                 mismatch = true;
                 if !misread!("all 24 and then 25") {
                     return Err(25);

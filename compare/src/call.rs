@@ -1,11 +1,11 @@
 //! The static library's calls beside the Rust and the second opinion: number, counts, texts, and every word of the areas.
 use crate::cases::{Answer, Texts, hex};
-use crate::lent::{self, Garbage, Lent, Place};
+use crate::lent::{self, Desk};
 use crate::oracle::{self, AREA};
 use crate::random::Random;
 use crate::sources::{self, Source};
+use crate::tally::Tally;
 use crate::{releases, rulebooks};
-use std::collections::BTreeMap;
 use std::io::Write;
 use std::sync::atomic::Ordering::Relaxed;
 
@@ -57,7 +57,7 @@ unsafe extern "C" {
 }
 
 /// A number that no paper has shows as 255.
-fn number(n: u32) -> u8 {
+pub fn number(n: u32) -> u8 {
     u8::try_from(n).unwrap_or(u8::MAX)
 }
 
@@ -157,126 +157,65 @@ impl Call for Release {
     }
 }
 
+/// Who is asked what is due over areas of these lengths: the Rust, or its reader, where they are long enough and it can speak.
+pub fn due(rust: Option<(Answer, Source)>, second: Answer, lengths: [usize; 4]) -> (Answer, Source) {
+    match rust {
+        Some(said) if lengths.iter().all(|&n| n >= AREA) => said,
+        _ => (second, if second.number < 3 && second.number > 0 { Source::Lengths } else { Source::Second }),
+    }
+}
+
 /// What was seen of all cases.
 pub struct Seen {
-    garbage: Garbage,
-    areas: [Place; 4],
-    texts: [Place; 3],
-    /// How often each number is due, by who says so.
-    rows: BTreeMap<u8, [usize; 4]>,
-    cases: usize,
+    desk: Desk,
+    tally: Tally,
     longer: usize,
     short: usize,
     /// The largest of each count.
     most: [usize; 5],
-    differences: usize,
-    /// The shortest of them, and some more.
-    shortest: Vec<String>,
 }
 
 impl Seen {
     pub fn new(rng: &mut Random) -> Self {
-        lent::watch();
-        Self {
-            garbage: Garbage::new(rng),
-            areas: Default::default(),
-            texts: Default::default(),
-            rows: BTreeMap::new(),
-            cases: 0,
-            longer: 0,
-            short: 0,
-            most: [0; 5],
-            differences: 0,
-            shortest: Vec::new(),
-        }
+        Self { desk: Desk::new(rng), tally: Tally::default(), longer: 0, short: 0, most: [0; 5] }
     }
 
     /// One case, over areas that are drawn.
     pub fn case<C: Call>(&mut self, case: &C::Case, rng: &mut Random) {
-        self.cases += 1;
-        lent::CASE.store(self.cases, Relaxed);
+        self.tally.cases += 1;
+        lent::CASE.store(self.tally.cases, Relaxed);
         let lengths = lent::lengths(rng);
         let second = C::second(case, lengths);
-        let enough = lengths.iter().all(|&n| n >= AREA);
-        let (answer, source) = match C::rust(case) {
-            Some(said) if enough => said,
-            _ => (second, if second.number < 3 && second.number > 0 { Source::Lengths } else { Source::Second }),
-        };
-        self.rows.entry(answer.number).or_default()[source as usize] += 1;
+        let (answer, source) = due(C::rust(case), second, lengths);
+        self.tally.due(answer.number, source);
         self.longer += usize::from(lengths.iter().all(|&n| n > AREA));
         self.short += usize::from(lengths.iter().filter(|&&n| n < AREA).count() > 1);
         self.most.iter_mut().zip(answer.counts()).for_each(|(most, n)| *most = n.max(*most));
-        let (said, wrong) = self.call::<C>(case, lengths, second::clears(answer.number), rng);
+        let texts = C::texts(case);
+        let call = |texts: &[_], areas| C::call(texts, areas, lengths);
+        let (said, wrong) = self.desk.lend(&texts, lengths, second::clears(answer.number), rng, call);
         if said != answer || second != answer || !wrong.is_empty() {
-            let texts: Vec<_> = C::texts(case).into_iter().map(hex).collect();
-            let line = format!(
+            let texts: Vec<_> = texts.into_iter().map(hex).collect();
+            self.tally.differs(format!(
                 "{}: areas {lengths:?}, expected {answer} ({source:?}), second opinion {second}, answered {said}, wrong afterwards: {wrong:?}",
                 texts.join("\t")
-            );
-            self.differences += 1;
-            self.shortest.push(line);
-            if self.shortest.len() > 200 {
-                self.prune();
-            }
+            ));
         }
-    }
-
-    /// Calls the library, and says which of the four areas and three texts were left as they must not be.
-    fn call<C: Call>(
-        &mut self,
-        case: &C::Case,
-        lengths: [usize; 4],
-        cleared: bool,
-        rng: &mut Random,
-    ) -> (Answer, Vec<usize>) {
-        let same = rng.below(lent::KINDS.len());
-        let all_same = rng.chance(50);
-        let kinds = [(); 4].map(|()| if all_same { same } else { rng.below(lent::KINDS.len()) });
-        let held: [&[u32]; 4] = std::array::from_fn(|i| self.garbage.words(kinds[i], lengths[i]));
-        let areas: [Lent; 4] = std::array::from_fn(|i| self.areas[i].area(held[i], rng.chance(50)));
-        let texts = C::texts(case);
-        let placed: Vec<Lent> =
-            texts.iter().zip(&mut self.texts).map(|(text, place)| place.text(text, rng.chance(60))).collect();
-        let pointers: Vec<_> =
-            placed.iter().zip(&texts).map(|(lent, text)| (lent.pointer().cast_const(), text.len())).collect();
-        let answer = C::call(&pointers, areas.map(|a| a.pointer().cast()), lengths);
-        let mut wrong: Vec<usize> = (0..4).filter(|&i| !areas[i].area_is(held[i], cleared)).collect();
-        wrong.extend((0..texts.len()).filter(|&i| !placed[i].text_is(texts[i])).map(|i| 4 + i));
-        (answer, wrong)
-    }
-
-    fn prune(&mut self) {
-        self.shortest.sort_by_key(String::len);
-        self.shortest.truncate(20);
-    }
-
-    fn all(&self, number: u8) -> usize {
-        self.rows.get(&number).map_or(0, |r| r.iter().sum())
     }
 
     /// The histogram, and the shortest of the differences.
     pub fn print<C: Call>(&mut self, what: &str, out: &mut impl Write) -> std::io::Result<()> {
-        self.prune();
-        self.shortest.iter().try_for_each(|line| writeln!(out, "differs: {line}"))?;
-        writeln!(out, "number\tall\tRust\tRust's reader\tsecond opinion\tlengths")?;
-        for (number, row) in &self.rows {
-            writeln!(out, "{number}\t{}\t{}", self.all(*number), row.map(|n| n.to_string()).join("\t"))?;
-        }
-        let least = C::NUMBERS.iter().map(|&k| (self.all(k), k)).min().expect("a number");
-        let share = 100.0 * self.all(0) as f64 / self.cases.max(1) as f64;
-        writeln!(out, "\ncases\t{}\t{what}", self.cases)?;
-        writeln!(out, "accepted\t{}\t{share:.1} %", self.all(0))?;
-        writeln!(out, "rarest\t{}\tnumber {}", least.0, least.1)?;
+        self.tally.print(what, C::NUMBERS, out)?;
         writeln!(out, "all four areas longer\t{}", self.longer)?;
         writeln!(out, "several areas short\t{}", self.short)?;
         let most: Vec<_> =
             self.most.iter().zip(C::COUNTED).map(|(most, counted)| format!("{most} {counted}")).collect();
         writeln!(out, "most counted\t{}", most.join(", "))?;
-        writeln!(out, "differences\t{}", self.differences)
+        self.tally.print_differences(out)
     }
 
     pub fn good<C: Call>(&self) -> bool {
-        self.differences == 0 && C::NEVER.iter().all(|&k| self.all(k) == 0)
+        self.tally.good() && C::NEVER.iter().all(|&k| self.tally.all(k) == 0)
     }
 }
 

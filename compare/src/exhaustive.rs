@@ -2,6 +2,7 @@
 use crate::call::{Release, RulebookAlone, Seen};
 use crate::cases::Texts;
 use crate::oracle::{self, AREA};
+use crate::page;
 use crate::pairs;
 use crate::random::Random;
 use crate::special;
@@ -78,8 +79,11 @@ fn all_pairs(seen: &mut [Seen; 2], rng: &mut Random) {
     }
 }
 
-/// One family: `bytes N`, `tokens N M`, or `pairs`. Says whether all is as it must be.
+/// One family: `bytes N`, `tokens N M`, `pairs`, or `shares N`. Says whether all is as it must be.
 pub fn run(what: &[&str], out: &mut impl Write) -> std::io::Result<Option<bool>> {
+    if let ["shares", n] = what {
+        return page::shares(n.parse().unwrap_or(0), out).map(Some);
+    }
     let mut rng = Random::new(1);
     let mut seen = [Seen::new(&mut rng), Seen::new(&mut rng)];
     match what {

@@ -107,6 +107,14 @@ impl Place {
         lent
     }
 
+    /// A buffer that holds these bytes.
+    pub fn buffer(&mut self, held: &[u8], back: bool) -> Lent {
+        let lent = self.lend(held.len(), back);
+        lent.all().fill(BESIDE_BUFFER);
+        lent.all()[lent.at..][..held.len()].copy_from_slice(held);
+        lent
+    }
+
     pub fn area(&mut self, words: &[u32], back: bool) -> Lent {
         let lent = self.lend(4 * words.len(), back);
         lent.words().fill(BESIDE);
@@ -116,6 +124,7 @@ impl Place {
 }
 
 const BESIDE: u32 = 0x5a5a_a5a5;
+const BESIDE_BUFFER: u8 = 0xa5;
 
 impl Lent {
     pub fn pointer(&self) -> *mut u8 {
@@ -134,6 +143,26 @@ impl Lent {
 
     pub fn text_is(&self, text: &[u8]) -> bool {
         &self.all()[self.at..][..self.length] == text
+    }
+
+    /// Whether a buffer is as it must be: a text at its front, behind it what it held; what lies beside it untouched.
+    pub fn buffer_is(&self, text: &[u8], held: &[u8]) -> bool {
+        let (before, rest) = self.all().split_at(self.at);
+        let (lent, behind) = rest.split_at(held.len());
+        lent[..text.len()] == *text
+            && lent[text.len()..] == held[text.len()..]
+            && before.iter().chain(behind).all(|&b| b == BESIDE_BUFFER)
+    }
+
+    /// Where a buffer is first not as it must be, for the message.
+    pub fn told(&self, text: &[u8], held: &[u8]) -> String {
+        let due = text.iter().chain(&held[text.len()..]);
+        let lent = &self.all()[self.at..][..held.len()];
+        match lent.iter().zip(due).position(|(is, due)| is != due) {
+            Some(i) => format!("byte {i} of the buffer is {:02x}", lent[i]),
+            None if self.buffer_is(text, held) => "the buffer as expected".into(),
+            None => "bytes beside the buffer written".into(),
+        }
     }
 
     /// Whether an area is as it must be: what it held, or the first 16,384 words zero; what lies beside it untouched.
@@ -189,6 +218,44 @@ impl Garbage {
     }
 }
 
+/// The places of what is lent to a call: four areas and up to three texts.
+pub struct Desk {
+    garbage: Garbage,
+    areas: [Place; 4],
+    texts: [Place; 3],
+}
+
+impl Desk {
+    pub fn new(rng: &mut Random) -> Self {
+        watch();
+        Self { garbage: Garbage::new(rng), areas: Default::default(), texts: Default::default() }
+    }
+
+    /// Calls, and says which of the four areas and three texts were left as they must not be.
+    pub fn lend<T>(
+        &mut self,
+        texts: &[&[u8]],
+        lengths: [usize; 4],
+        cleared: bool,
+        rng: &mut Random,
+        call: impl FnOnce(&[(*const u8, usize)], [*mut u32; 4]) -> T,
+    ) -> (T, Vec<usize>) {
+        let same = rng.below(KINDS.len());
+        let all_same = rng.chance(50);
+        let kinds = [(); 4].map(|()| if all_same { same } else { rng.below(KINDS.len()) });
+        let held: [&[u32]; 4] = std::array::from_fn(|i| self.garbage.words(kinds[i], lengths[i]));
+        let areas: [Lent; 4] = std::array::from_fn(|i| self.areas[i].area(held[i], rng.chance(50)));
+        let placed: Vec<Lent> =
+            texts.iter().zip(&mut self.texts).map(|(text, place)| place.text(text, rng.chance(60))).collect();
+        let pointers: Vec<_> =
+            placed.iter().zip(texts).map(|(lent, text)| (lent.pointer().cast_const(), text.len())).collect();
+        let answer = call(&pointers, areas.map(|a| a.pointer().cast()));
+        let mut wrong: Vec<usize> = (0..4).filter(|&i| !areas[i].area_is(held[i], cleared)).collect();
+        wrong.extend((0..texts.len()).filter(|&i| !placed[i].text_is(texts[i])).map(|i| 4 + i));
+        (answer, wrong)
+    }
+}
+
 /// Lengths of the four areas, each its own; now and then one or several are short.
 pub fn lengths(rng: &mut Random) -> [usize; 4] {
     let mut lengths = [AREA; 4].map(|n| if rng.chance(50) { n } else { n + rng.from(1, LONGER) });
@@ -205,18 +272,21 @@ pub fn lengths(rng: &mut Random) -> [usize; 4] {
     lengths
 }
 
-/// Touches a byte beyond a text or an area, which must end the program.
+/// Touches a byte beyond a text, an area or a buffer, which must end the program.
 pub fn touch(what: &str) {
     watch();
     let mut place = Place::default();
     let text = place.text(b"(sort t)", what.ends_with("behind"));
     let area = Place::default().area(&[1; AREA], false);
+    let buffer = Place::default().buffer(&[1; 130], what.ends_with("behind"));
     unsafe {
         let at = match what {
             "text-before" => text.pointer().sub(1),
             "text-behind" => text.pointer().add(8),
             "area-before" => area.pointer().sub(1),
-            _ => area.pointer().add(4 * AREA),
+            "area-behind" => area.pointer().add(4 * AREA),
+            "buffer-before" => buffer.pointer().sub(1),
+            _ => buffer.pointer().add(130),
         };
         if what.starts_with("text") {
             let _ = at.read_volatile();

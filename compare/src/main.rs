@@ -10,12 +10,18 @@ mod draft;
 #[cfg(library)]
 mod exhaustive;
 mod generate;
+#[cfg(library)]
+mod graphs;
 mod histogram;
 #[cfg(library)]
 mod lent;
 mod messages;
 mod names;
 mod oracle;
+#[cfg(library)]
+mod page;
+#[cfg(library)]
+mod pages;
 #[cfg(library)]
 mod pairs;
 #[cfg(library)]
@@ -29,6 +35,8 @@ mod rulebooks;
 #[cfg(library)]
 mod sources;
 mod special;
+#[cfg(library)]
+mod tally;
 mod tree;
 #[cfg(library)]
 mod two_faults;
@@ -50,10 +58,12 @@ const USAGE: &str = "usage: compare/run COMMAND
   readings | by-hand  cases written for people (standard input) as case lines, checked
   rulebook-call N SEED  N generated rulebooks: the static library's call beside the Rust
   release-call N SEED   N generated cases: the static library's call with three texts beside the Rust
+  page-call N SEED      N generated cases: its call that writes the release page, over buffers of several lengths
   rulebook-cases N SEED | release-cases N SEED  such cases themselves, with the library's answers
   exhaustive bytes N  every text of at most N bytes over an alphabet, as each of the three texts
   exhaustive tokens N M  every string of at most N tokens, and up to M of those that are not refused
   exhaustive pairs    every form with every pair of faults
+  exhaustive shares N  the release page of every share of used steps of at most N
   power N SEED        how many of N cases it takes to show each planted misreading
   unseen              which of them no case of standard input shows (compare/paper/listed)
   guards              a touched guard page ends a run of the library
@@ -109,6 +119,8 @@ fn main() {
         #[cfg(library)]
         ["release-call", n, seed] => call::<call::Release>(number(n) as usize, number(seed), &mut out),
         #[cfg(library)]
+        ["page-call", n, seed] => same(page::compare(number(n) as usize, number(seed), &mut out), &mut out),
+        #[cfg(library)]
         ["rulebook-cases", n, seed] => {
             call::answers::<call::RulebookAlone>("rulebook", number(n) as usize, number(seed), &mut out)
         }
@@ -149,11 +161,17 @@ fn generated(n: usize, seed: u64, out: &mut impl Write) -> Io {
 
 #[cfg(library)]
 fn call<C: call::Call>(n: usize, seed: u64, out: &mut impl Write) -> Io {
-    if call::compare::<C>(n, seed, out)? {
+    same(call::compare::<C>(n, seed, out), out)
+}
+
+/// Ends the program where a comparison found a difference.
+#[cfg(library)]
+fn same(compared: std::io::Result<bool>, out: &mut impl Write) -> Io {
+    if compared? {
         return Ok(());
     }
     out.flush()?;
-    fail("the call differs from the Rust")
+    fail("the call differs from what is due")
 }
 
 fn second(nodes: usize, words: usize, out: &mut impl Write) -> Io {
@@ -181,17 +199,15 @@ fn power(n: usize, seed: u64, out: &mut impl Write) -> Io {
 #[cfg(library)]
 fn exhaustive(what: &[&str], out: &mut impl Write) -> Io {
     match exhaustive::run(what, out)? {
-        Some(true) => return Ok(()),
-        Some(false) => out.flush()?,
+        Some(good) => same(Ok(good), out),
         None => fail(USAGE),
     }
-    fail("the call differs from the Rust")
 }
 
-/// A byte beyond a text or an area is touched, each in a process of its own, which it must end.
+/// A byte beyond a text, an area or a buffer is touched, each in a process of its own, which it must end.
 #[cfg(library)]
 fn guards(out: &mut impl Write) -> Io {
-    for what in ["text-before", "text-behind", "area-before", "area-behind"] {
+    for what in ["text-before", "text-behind", "area-before", "area-behind", "buffer-before", "buffer-behind"] {
         let status = std::process::Command::new(std::env::current_exe()?).args(["touch", what]).status()?;
         writeln!(out, "{what}: status {:?}", status.code())?;
         if status.code() != Some(lent::BEYOND) {

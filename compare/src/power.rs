@@ -1,22 +1,29 @@
 //! What the generated cases can see: how many cases it takes until each misreading, planted in the second opinion,
 //! gives another answer than the second opinion without it.
 use crate::call::{Call, Release, RulebookAlone};
+use crate::cases::{self, Texts};
+use crate::lent;
+use crate::page;
 use crate::random::Random;
-use crate::{cases, lent};
 use std::io::Write;
 
 /// For each misreading the first case that shows it.
-fn shown<C: Call>(n: usize, seed: u64) -> Vec<Option<usize>> {
+fn shown<T, S: PartialEq>(
+    n: usize,
+    seed: u64,
+    draw: impl Fn(&mut Random) -> T,
+    second: impl Fn(&T, [usize; 4]) -> S,
+) -> Vec<Option<usize>> {
     let mut rng = Random::new(seed);
     let mut took = vec![None; second::COUNT];
     for i in 1..=n {
-        let case = C::draw(&mut rng);
-        let lengths = lent::lengths(&mut rng);
         second::plant(None);
-        let answer = C::second(&case, lengths);
+        let case = draw(&mut rng);
+        let lengths = lent::lengths(&mut rng);
+        let answer = second(&case, lengths);
         for (misreading, first) in took.iter_mut().enumerate().filter(|(_, first)| first.is_none()) {
             second::plant(Some(misreading));
-            if C::second(&case, lengths) != answer {
+            if second(&case, lengths) != answer {
                 *first = Some(i);
             }
         }
@@ -25,28 +32,39 @@ fn shown<C: Call>(n: usize, seed: u64) -> Vec<Option<usize>> {
     took
 }
 
-/// The table, and whether each misreading was shown by one of the two calls.
+/// The page over all its buffers.
+fn pages((texts, rooms): &(Texts, Vec<usize>), lengths: [usize; 4]) -> Vec<second::Written> {
+    let judged = page::second(texts, lengths);
+    rooms.iter().map(|&room| judged.written(room)).collect()
+}
+
+/// The table, and whether each misreading was shown by one of the three calls.
 pub fn print(n: usize, seed: u64, out: &mut impl Write) -> std::io::Result<bool> {
-    let release = shown::<Release>(n, seed);
-    let rulebook = shown::<RulebookAlone>(n, seed);
+    let calls = [
+        shown(n, seed, Release::draw, Release::second),
+        shown(n, seed, RulebookAlone::draw, RulebookAlone::second),
+        shown(n, seed, page::draw, pages),
+    ];
     let written = |first: Option<usize>| first.map_or("-".into(), |i| i.to_string());
-    let mut rows: Vec<_> = (0..second::COUNT).map(|m| (release[m], rulebook[m], second::name(m))).collect();
-    // Unseen first, then by the smaller of the two.
-    rows.sort_by_key(|(a, b, _)| std::cmp::Reverse(a.unwrap_or(usize::MAX).min(b.unwrap_or(usize::MAX))));
-    writeln!(out, "release\trulebook\tmisreading")?;
-    for (a, b, name) in &rows {
-        writeln!(out, "{}\t{}\t{name}", written(*a), written(*b))?;
+    let mut rows: Vec<_> = (0..second::COUNT).map(|m| (calls.each_ref().map(|c| c[m]), second::name(m))).collect();
+    // Unseen first, then by the smallest of the three.
+    let least = |firsts: &[Option<usize>; 3]| firsts.iter().flatten().min().copied();
+    rows.sort_by_key(|(firsts, _)| std::cmp::Reverse(least(firsts).unwrap_or(usize::MAX)));
+    writeln!(out, "release\trulebook\tpage\tmisreading")?;
+    for (firsts, name) in &rows {
+        writeln!(out, "{}\t{name}", firsts.map(written).join("\t"))?;
     }
-    let unseen = rows.iter().filter(|(a, b, _)| a.is_none() && b.is_none()).count();
+    let unseen = rows.iter().filter(|(firsts, _)| least(firsts).is_none()).count();
     for most in [10, 100, 1_000, 10_000, 100_000] {
-        let within = |first: &[Option<usize>]| first.iter().flatten().filter(|&&i| i <= most).count();
-        writeln!(out, "within {most}\t{}\t{}", within(&release), within(&rulebook))?;
+        let within = |first: &Vec<Option<usize>>| first.iter().flatten().filter(|&&i| i <= most).count().to_string();
+        writeln!(out, "within {most}\t{}", calls.each_ref().map(within).join("\t"))?;
     }
     writeln!(out, "misreadings\t{}\tseed {seed}\tcases {n} of each call\tunseen {unseen}", rows.len())?;
     Ok(unseen == 0)
 }
 
-/// The misreadings that no case of a list shows. A case is a line as `compare/paper/listed` writes it.
+/// The misreadings that no case of a list shows. A case is a line as `compare/paper/listed` writes it; none writes a page, so the page's
+/// misreadings are left out.
 pub fn unseen(list: &str, out: &mut impl Write) -> std::io::Result<()> {
     let mut took = vec![false; second::COUNT];
     for line in list.lines() {
@@ -66,7 +84,8 @@ pub fn unseen(list: &str, out: &mut impl Write) -> std::io::Result<()> {
         }
     }
     second::plant(None);
-    let names = (0..second::COUNT).filter(|&m| !took[m]).map(second::name);
+    let asked = (0..second::COUNT).filter(|&m| !second::of_page(m));
+    let names = asked.clone().filter(|&m| !took[m]).map(second::name);
     names.clone().try_for_each(|name| writeln!(out, "unseen\t{name}"))?;
-    writeln!(out, "misreadings\t{}\tcalls {}\tunseen {}", second::COUNT, list.lines().count(), names.count())
+    writeln!(out, "misreadings\t{}\tcalls {}\tunseen {}", asked.count(), list.lines().count(), names.count())
 }

@@ -1,4 +1,5 @@
-//! The two calls of `libkernel.a`: a rulebook judged alone, and a certificate checked against rulebook and goals.
+//! The calls of `libkernel.a`: a rulebook judged alone, a certificate checked against rulebook and goals, and the release page of one
+//! that is accepted.
 //!
 //! ```
 //! let mut areas = sambjoek::WorkAreas::new();
@@ -6,15 +7,17 @@
 //! let report = areas.release(rulebook, b"(goal g (hold z))", b"(step 0 base ())(result g 0)");
 //! let report = report.unwrap();
 //! assert_eq!((report.steps, report.terms, report.requested), (1, 2, 4));
+//! let page = areas.page_text(rulebook, b"(goal g (hold z))", b"(step 0 base ())(result g 0)").unwrap();
+//! assert!(page.lines().all(|line| line.len() == 64) && page.contains("used 100%"));
 //! ```
 //!
-//! The library is code for any x86-64 processor and needs `memset` of C. A call takes at most [`STACK_BYTES`] of stack.
+//! The library is code for any x86-64 processor and needs `memset` and `memcpy` of C. A call takes at most [`STACK_BYTES`] of stack.
 #![no_std]
 extern crate alloc;
 
 mod refusal;
 
-use alloc::{boxed::Box, vec};
+use alloc::{boxed::Box, string::String, vec};
 pub use refusal::Refusal;
 
 /// Words of a work area.
@@ -25,6 +28,10 @@ pub const RULEBOOK_BYTES: usize = 8_192;
 pub const GOALS_BYTES: usize = 8_192;
 /// The longest certificate, in bytes.
 pub const CERTIFICATE_BYTES: usize = 32_768;
+/// The bytes of a line of a release page. It has one for each goal, and one more.
+pub const PAGE_LINE_BYTES: usize = 65;
+/// A buffer of so many bytes is long enough for the page of any release: a goal takes 11 bytes of the goals text or more.
+pub const PAGE_BYTES: usize = PAGE_LINE_BYTES * (GOALS_BYTES / 11 + 1);
 /// The most stack that a call takes on any texts, in bytes, as `bindings/c/horn.h` says.
 pub const STACK_BYTES: usize = 98_304;
 
@@ -51,7 +58,14 @@ pub struct Report {
     pub requested: u32,
 }
 
-/// A report as a call returns it to C: 4 counts of the rulebook alone, 5 of three texts.
+/// What a call has written into a buffer that it was lent.
+#[derive(Clone, Copy, Debug, PartialEq, Eq)]
+pub struct Written {
+    /// How many bytes, from the buffer's first on. Those behind them are as they were.
+    pub length: usize,
+}
+
+/// An answer as a call returns it to C: 4 counts of the rulebook alone, 5 of three texts; of a page its length.
 #[repr(C)]
 struct Answer<const COUNTS: usize> {
     number: u32,
@@ -90,13 +104,32 @@ unsafe extern "C" {
         d: *mut u32,
         d_words: usize,
     ) -> Answer<5>;
+    #[rustfmt::skip]
+    fn horn_page(
+        rulebook: *const u8,
+        rulebook_bytes: usize,
+        goals: *const u8,
+        goals_bytes: usize,
+        certificate: *const u8,
+        certificate_bytes: usize,
+        a: *mut u32,
+        a_words: usize,
+        b: *mut u32,
+        b_words: usize,
+        c: *mut u32,
+        c_words: usize,
+        d: *mut u32,
+        d_words: usize,
+        out: *mut u8,
+        out_bytes: usize,
+    ) -> Answer<1>;
 }
 
 impl<const COUNTS: usize> Answer<COUNTS> {
     fn counts(self) -> Result<[u32; COUNTS], Refusal> {
         match self.number {
             0 => Ok(self.counts),
-            n => Err(Refusal::from_number(n).expect("the calls give 0 or a number of document 01")),
+            n => Err(Refusal::from_number(n).expect("the calls give 0 or a number of documents 01 and 02")),
         }
     }
 }
@@ -144,6 +177,36 @@ impl WorkAreas {
         let [steps, goals, terms, bytes, requested] = answer.counts()?;
         Ok(Report { steps, goals, terms, bytes, requested })
     }
+
+    /// Judges as [`WorkAreas::release`] does and writes the release page at the front of `out`: a line for each goal, in the order of
+    /// the goals text, with its name, its result's step and that step's rule, then one with the percentage of the steps that are used.
+    /// A refusal writes nothing; [`Refusal::OutputLong`], if the page is longer than `out`, comes behind all others.
+    pub fn page(
+        &mut self,
+        rulebook: &[u8],
+        goals: &[u8],
+        certificate: &[u8],
+        out: &mut [u8],
+    ) -> Result<Written, Refusal> {
+        let [a, b, c, d] = self.pointers();
+        const N: usize = AREA_WORDS;
+        let (r, g, p) = (rulebook.as_ptr(), goals.as_ptr(), certificate.as_ptr());
+        let (o, room) = (out.as_mut_ptr(), out.len());
+        // SAFETY: as above; `out` is borrowed for this call alone, so it overlaps neither a text nor an area.
+        let answer = unsafe {
+            horn_page(r, rulebook.len(), g, goals.len(), p, certificate.len(), a, N, b, N, c, N, d, N, o, room)
+        };
+        let [length] = answer.counts()?;
+        Ok(Written { length: length as usize })
+    }
+
+    /// The same in a buffer of its own, which is long enough for every page.
+    pub fn page_text(&mut self, rulebook: &[u8], goals: &[u8], certificate: &[u8]) -> Result<String, Refusal> {
+        let mut out = vec![0; PAGE_BYTES];
+        let written = self.page(rulebook, goals, certificate, &mut out)?;
+        out.truncate(written.length);
+        Ok(String::from_utf8(out).expect("names are UTF-8 and are cut behind whole characters"))
+    }
 }
 
 #[cfg(test)]
@@ -159,6 +222,12 @@ mod tests {
         areas.words.fill(0xDEAD_BEEF);
         assert_eq!(areas.release(b"", b"", b""), Err(Refusal::NoGoal));
         assert!(areas.words.iter().all(|&w| w == 0));
+        let (rulebook, goals, certificate) = (b"(pred p())(rule r()(p))", b"(goal g(p))", b"(step 0 r())(result g 0)");
+        for (room, answer) in [(129, Err(Refusal::OutputLong)), (130, Ok(Written { length: 130 }))] {
+            areas.words.fill(0xDEAD_BEEF);
+            assert_eq!(areas.page(rulebook, goals, certificate, &mut vec![0; room]), answer);
+            assert!(areas.words.iter().all(|&w| w == 0));
+        }
     }
 
     #[test]
@@ -168,6 +237,7 @@ mod tests {
         assert_eq!(areas.rulebook(&[b' '; RULEBOOK_BYTES + 1]), Err(Refusal::TextLong));
         assert_eq!(areas.release(b"", &[b' '; GOALS_BYTES + 1], b""), Err(Refusal::TextLong));
         assert_eq!(areas.release(b"", b"", &[b' '; CERTIFICATE_BYTES + 1]), Err(Refusal::TextLong));
+        assert_eq!(areas.page(b"", b"", &[b' '; CERTIFICATE_BYTES + 1], &mut []), Err(Refusal::TextLong));
         assert!(areas.words.iter().all(|&w| w == 0xDEAD_BEEF));
     }
 }

@@ -1,7 +1,7 @@
-//! The refusals of document 01. Its number 30, a file that is not opened, comes from a program only.
+//! The refusals of documents 01 and 02. Number 30, a file that is not opened, comes from a program only.
 use core::fmt;
 
-/// Why a call did not accept, with document 01's number as its value.
+/// Why a call did not accept, with its number as its value.
 #[derive(Clone, Copy, Debug, PartialEq, Eq, Hash, PartialOrd, Ord)]
 #[repr(u32)]
 pub enum Refusal {
@@ -34,10 +34,12 @@ pub enum Refusal {
     OtherJudgment = 27,
     StoreFull = 28,
     GoalOpen = 29,
+    /// From calls that write a text only, behind all others.
+    OutputLong = 31,
 }
 
 /// Each refusal with its sentence, in the order of the numbers.
-const SENTENCES: [(Refusal, &str); 29] = [
+const SENTENCES: [(Refusal, &str); 30] = [
     (Refusal::AreaShort, "a work area has fewer than 16,384 words"),
     (Refusal::TextLong, "a text is longer than it may be"),
     (Refusal::NotUtf8, "a line is not UTF-8"),
@@ -67,15 +69,16 @@ const SENTENCES: [(Refusal, &str); 29] = [
     (Refusal::OtherJudgment, "the step concludes another judgment than the goal asks for"),
     (Refusal::StoreFull, "the terms do not fit into the store"),
     (Refusal::GoalOpen, "a goal is left without a result"),
+    (Refusal::OutputLong, "the text to be written is longer than the buffer"),
 ];
 
 impl Refusal {
-    /// Document 01's number.
+    /// Its number in document 01 or 02.
     pub fn number(self) -> u32 {
         self as u32
     }
 
-    /// The refusal with this number, from 1 to 29.
+    /// The refusal with this number: from 1 to 29, or 31.
     pub fn from_number(number: u32) -> Option<Self> {
         SENTENCES.iter().map(|&(refusal, _)| refusal).find(|refusal| refusal.number() == number)
     }
@@ -106,7 +109,7 @@ mod tests {
             last = refusal.number();
             assert_eq!(Refusal::from_number(last), Some(refusal));
         }
-        assert_eq!((SENTENCES.len(), last), (29, 29));
-        assert_eq!([0, 30, u32::MAX].map(Refusal::from_number), [None; 3]);
+        assert_eq!((SENTENCES.len(), last), (30, 31));
+        assert_eq!([0, 30, 32, u32::MAX].map(Refusal::from_number), [None; 4]);
     }
 }

@@ -133,6 +133,8 @@ fn deepest_texts() {
         assert_eq!(number(areas.rulebook(rulebook.as_bytes())), 0);
         let report = areas.release(rulebook.as_bytes(), goals.as_bytes(), certificate.as_bytes());
         assert_eq!(report.unwrap().steps, 2);
+        let page = areas.page_text(rulebook.as_bytes(), goals.as_bytes(), certificate.as_bytes());
+        assert!(page.unwrap().contains("used  50%"));
         let refused = areas.release(rulebook.as_bytes(), goals.as_bytes(), too_deep.as_bytes());
         assert_eq!(refused, Err(Refusal::Nesting));
     };

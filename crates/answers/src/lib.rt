@@ -1,6 +1,7 @@
-// Answers of either call, and how programs write and compare them.
+// Answers of the calls, and how programs write and compare them.
 
-// A report of either call, or one that is stated. The call with the rulebook alone has four counts: its fifth is 0, and is not written.
+// A report of a call, or one that is stated. The call with the rulebook alone has four counts: its fifth is 0, and is not written. The call that
+// writes the page has one, the length.
 pub struct Answer {
     pub number: u32,
     pub first: u32,
@@ -8,6 +9,18 @@ pub struct Answer {
     pub third: u32,
     pub fourth: u32,
     pub fifth: u32,
+}
+
+// An answer of a call that writes one text.
+pub fn written(number: u32, length: u32) -> Answer {
+    Answer {
+        number,
+        first: length,
+        second: 0,
+        third: 0,
+        fourth: 0,
+        fifth: 0,
+    }
 }
 
 // How many words of each area are 0 after an answer.
@@ -62,7 +75,13 @@ pub fn show(x: Answer) {
     number(x.fifth);
 }
 
-// Writes an answer of either call.
+// Writes an answer of a call that writes one text.
+pub fn show_written(x: Answer) {
+    number(x.number);
+    number(x.first);
+}
+
+// Writes an answer of either of these two.
 pub fn show_either(alone: bool, x: Answer) {
     if alone {
         show_alone(x);

@@ -16,6 +16,7 @@ use Rattle.horn.specs.Checker as definition
 use Rattle.words.specs.Parts.{part}
 use Rattle.lex.specs.Answers as lexed
 use Rattle.lex.specs.declared.Token.the-variants.{Opening, Closing, Atom}
+use Rattle.lex.specs.declared.Ahead.the-variants.{Nothing}
 use Rattle.lex.specs.declared.Reader.{Reader}
 use Rattle.lex.proofs.Standing.{Stands}
 use Rattle.lex.proofs.Readers.{Takes, take-opening, take-closing, take-atom, takes, taken-end, taken-bad, Sees, see-end, see-bad}
@@ -47,7 +48,7 @@ bind-answers f g (both-ok q) k = k _ _ q
 module _ (text : List ℕ) where
   -- A token that comes was taken: the reader stands behind it. An atom spends two bytes at least.
   data Got (K : Stream Token → Type 0) (n : ℕ) : Token → lexed.Answer → Type 0 where
-    got-opening : {q : Reader} → At text K n q → Got K n opening (lexed.token Opening q)
+    got-opening : {q : Reader} → At text K n q → q .ahead ≡ Nothing → Got K n opening (lexed.token Opening q)
     got-closing : {q : Reader} → At text K n q → Got K n closing (lexed.token Closing q)
     got-atom : {a b : ℕ} {q : Reader} {bytes : List ℕ} → part a b text ≡ bytes → a < b → b ≤ length text → At text K (n + 2) q
         → Got K n (atom bytes) (lexed.token (Atom a b) q)
@@ -55,7 +56,7 @@ module _ (text : List ℕ) where
   got : {K : Stream Token → Type 0} {n : ℕ} (t : Token) (u : Stream Token) (a : lexed.Answer) → K u
       → n + weight (t ▹ u) ≤ suc (length text) → Takes text (t ▹ u) a → Got K n t a
   unfolding weight
-  got opening u a k l (take-opening st) = got-opening record { coming = u; stands = st; here = k; light = l }
+  got opening u a k l (take-opening st bare) = got-opening record { coming = u; stands = st; here = k; light = l } bare
   got closing u a k l (take-closing st) = got-closing record { coming = u; stands = st; here = k; light = l }
   got (atom bytes) u a k l (take-atom {a = s} {b = t} st e g h) =
       let z : length bytes ≡ length (part s t text) = ap length (sym e) in
@@ -75,18 +76,21 @@ module _ (text : List ℕ) where
   bad-taken {n} {r} a = taken-bad text (rw (a .here) at (takes text r (a .coming) (a .stands)))
 
   module _ (K : Stream Token → Type 0) (n : ℕ) where
-    -- An item that was asked for: an atom by its bounds, or a list, its opening taken; what is left of the list around it stays.
+    -- An item that was asked for: an atom by its bounds, or a list, its opening taken and nothing held ahead; what is left of the list around
+    -- it stays.
     pub data ItemMet : Met → Item × Items → Type 0 where
       atom-met : {s t : ℕ} {r : Reader} {name : Name} {rest : Items} → part s t text ≡ name → s < t → t ≤ length text → At text (RestComes rest K) (n + 2) r
           → ItemMet (asked.atom s t r) (word name, rest)
-      list-met : {r : Reader} {inner rest : Items} → At text (RestComes inner (RestComes rest K)) n r → ItemMet (asked.list r) (group inner, rest)
+      list-met : {r : Reader} {inner rest : Items} → At text (RestComes inner (RestComes rest K)) n r → r .ahead ≡ Nothing
+          → ItemMet (asked.list r) (group inner, rest)
 
     pub data WordMet : ℕ × ℕ × Reader → Name × Items → Type 0 where
       word-met : {s t : ℕ} {r : Reader} {name : Name} {rest : Items} → part s t text ≡ name → s < t → t ≤ length text → At text (RestComes rest K) (n + 2) r
           → WordMet (s, t, r) (name, rest)
 
     pub data GroupMet : Reader → Items × Items → Type 0 where
-      group-met : {r : Reader} {inner rest : Items} → At text (RestComes inner (RestComes rest K)) n r → GroupMet r (inner, rest)
+      group-met : {r : Reader} {inner rest : Items} → At text (RestComes inner (RestComes rest K)) n r → r .ahead ≡ Nothing
+          → GroupMet r (inner, rest)
 
     -- The next item.
     pub item-law : (is : Items) (left depth : ℕ) {r : Reader} → depth + left ≡ 257 → At text (RestComes is K) n r
@@ -102,7 +106,7 @@ module _ (text : List ℕ) where
       by (got-atom p l u h) = both-ok (atom-met p l u h)
     item-law (group inner then rest) left depth {r} e a = asked-at left depth e (by (token-got opening a)) where
       by : {b : lexed.Answer} → Got (RestComes inner (RestComes rest K)) n opening b → Answers ItemMet (asked.itemFrom b) (refusals.ok (group inner, rest))
-      by (got-opening h) = both-ok (list-met h)
+      by (got-opening h bare) = both-ok (list-met h bare)
 
     -- Where an atom is due, and where a list is.
     pub word-law : (is : Items) (left depth : ℕ) {r : Reader} → depth + left ≡ 257 → At text (RestComes is K) n r
@@ -112,7 +116,7 @@ module _ (text : List ℕ) where
       by : {x : Met} {y : Item × Items} → ItemMet x y
           → Answers WordMet (asked.atomOnly x) (refusals._>>=_ (definition.wordDue (y .0)) λ name. refusals.ok (name, y .1))
       by (atom-met p l u h) = both-ok (word-met p l u h)
-      by (list-met h) = both-refuse refl
+      by (list-met h bare) = both-refuse refl
 
     pub group-law : (is : Items) (left depth : ℕ) {r : Reader} → depth + left ≡ 257 → At text (RestComes is K) n r
         → Answers GroupMet (listDue text left r) (definition.askGroup depth is)
@@ -121,7 +125,7 @@ module _ (text : List ℕ) where
       by : {x : Met} {y : Item × Items} → ItemMet x y
           → Answers GroupMet (asked.listOnly x) (refusals._>>=_ (definition.groupDue (y .0)) λ inner. refusals.ok (inner, y .1))
       by (atom-met p l u h) = both-refuse refl
-      by (list-met h) = both-ok (group-met h)
+      by (list-met h bare) = both-ok (group-met h bare)
 
     -- Where a closing is due.
     pub closing-law : (is : Items) {r : Reader} → At text (RestComes is K) n r
@@ -139,7 +143,7 @@ module _ (text : List ℕ) where
     closing-law (group inner then rest) a = by (token-got opening a) where
       by : {b : lexed.Answer} → Got (RestComes inner (RestComes rest K)) n opening b
           → Answers (λ (q : Reader) (x : Unit {0}). At text K n q) (asked.closedFrom b) (refusals.refused excess)
-      by (got-opening h) = both-refuse refl
+      by (got-opening h bare) = both-refuse refl
 
     -- The look ahead for members.
     pub data Looked : Items → Outcome Ahead → Type 0 where
@@ -208,4 +212,4 @@ module _ (text : List ℕ) where
       by (got-atom p l u h) = form-atom
     form-law (group inner then rest) a = by (token-got opening a) where
       by : {b : lexed.Answer} → Got (RestComes inner (RestComes rest K)) n opening b → FormMet (group inner then rest) (asked.formFrom b)
-      by (got-opening h) = form-list h
+      by (got-opening h bare) = form-list h

@@ -17,7 +17,7 @@ fn held_before(own: u32) -> Before {
 }
 
 // One case over as many words of each area as it lends.
-fn judge(h: Head, label: &[u8], rulebook: &[u8], goals: &[u8], certificate: &[u8]) {
+fn judge<'a>(h: Head, label: &[u8], rulebook: &'a [u8], goals: &'a [u8], certificate: &[u8]) {
     let lengths = Lengths {
         first: h.first,
         second: h.second,

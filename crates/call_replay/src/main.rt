@@ -18,7 +18,13 @@ fn number_of(own: u32) -> u32 {
 }
 
 // One case beside what was kept of it.
-fn judge(h: Head, label: &[u8], rulebook: &[u8], goals: &[u8], certificate: &[u8]) -> Case {
+fn judge<'a>(
+    h: Head,
+    label: &[u8],
+    rulebook: &'a [u8],
+    goals: &'a [u8],
+    certificate: &[u8],
+) -> Case {
     let alone = 128 <= h.own;
     let kept = Answer {
         number: number_of(h.own),

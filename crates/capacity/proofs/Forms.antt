@@ -211,7 +211,7 @@ module _ (limits : Setting) (th : Theory) where
       let c = references-some limits th (p₂ .0) f in
       let d = items-some limits th (now .defs) r (p₂ .1) (given [] none) s f₃ in (
         ap (λ (x : Progress). length (x .defs)) (sym same),
-        ap (λ (x : Progress). length (x .steps)) (sym same) ∙ length-append (now .steps) (step j r ∷ []),
+        ap (λ (x : Progress). length (x .steps)) (sym same) ∙ length-append (now .steps) (step j r refs ∷ []),
         rw (i₁, is-asked-word 1 (p .1) e₄, is-asked-group 1 (p₁ .1) e₈) (omega arith),
       )
 

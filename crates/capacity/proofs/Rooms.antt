@@ -25,7 +25,7 @@ pub goals-start : (text : List ℕ) (limit : ℕ) → length text ≤ limit → 
 goals-start text limit h = record { bound = let a = items-bytes text in omega arith }
 
 pub certificate-start : (text : List ℕ) (limit : ℕ) (goals : List Goal) → length text ≤ limit
-    → Budget limit (record { defs = []; openGoals = goals; steps = [] }) (items (tokens text))
+    → Budget limit (certificate.begun goals) (items (tokens text))
 certificate-start text limit goals h = record { bound = let a = items-bytes text in omega arith }
 
 -- All goals of a goals text.
@@ -49,13 +49,13 @@ goals-fit r g = let h = g .bound in let k = r .fits in omega arith
 pub tables-fit : {base goalsBytes certificateBytes words : ℕ} {now : Progress} {left : Items} (goals : ℕ) → Roomy base goalsBytes certificateBytes words
     → 11 * goals ≤ goalsBytes
     → Budget certificateBytes now left
-    → base + 4 * goals + 4 * length (now .defs) + 3 * length (now .steps) ≤ words
+    → base + 4 * goals + 4 * length (now .defs) + 4 * length (now .steps) ≤ words
 tables-fit goals r g b = let h = b .bound in let k = r .fits in omega arith
 
 -- The states that the definition comes to between two forms of a certificate.
 pub data Reached (limits : Setting) (th : Theory) (goals : List Goal) (text : List ℕ) : Progress → Items → Store → Type 0 where
   at-start : {left : Items} {s : Store} → left ≡ items (tokens text)
-      → Reached limits th goals text (record { defs = []; openGoals = goals; steps = [] }) left s
+      → Reached limits th goals text (certificate.begun goals) left s
   by-form : {now next : Progress} {item : Item} {rest : Items} {s s′ : Store} → Reached limits th goals text now (item then rest) s
       → certificate.certificateForm limits th now item s ≡ ok (next, s′)
       → Reached limits th goals text next rest s′
@@ -77,7 +77,7 @@ pub never-full : {limits : Setting} {th : Theory} {goals : List Goal} (goalsText
     → checker.goalForms limits th [] (items (tokens goalsText)) s ≡ ok (goals, s₁)
     → length text ≤ certificateBytes
     → Reached limits th goals text now left s₂
-    → base + 4 * length goals + 4 * length (now .defs) + 3 * length (now .steps) ≤ words
+    → base + 4 * length goals + 4 * length (now .defs) + 4 * length (now .steps) ≤ words
 never-full {limits} {th} {goals} goalsText s {goalsBytes} {certificateBytes} r g e h reached =
     tables-fit (length goals) r
     (goals-few limits th (items (tokens goalsText)) [] s e (goals-start goalsText goalsBytes g))

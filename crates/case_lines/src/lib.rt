@@ -1,4 +1,4 @@
-// The lines of the paper's list of cases (docs/paper/cases.md has their form), all but the calls themselves: the case at hand as its lines
+// The lines of the paper's lists of cases (docs/paper/cases.md has their form), all but the calls themselves: the case at hand as its lines
 // make it, and what was counted.
 use answers::Answer;
 use answers::number;
@@ -6,11 +6,12 @@ use answers::same;
 use answers::show_either;
 use areas::Lengths;
 
-// The case at hand: the lengths of its three texts and of its four areas; and what was counted so far.
+// The case at hand: the lengths of its three texts, of its page and of its four areas; and what was counted so far.
 pub struct State {
     pub rulebook: u32,
     pub goals: u32,
     pub certificate: u32,
+    pub page: u32,
     pub areas: Lengths,
     pub cases: u32,
     pub runs: u32,
@@ -23,6 +24,7 @@ pub fn none() -> State {
         rulebook: 0,
         goals: 0,
         certificate: 0,
+        page: 0,
         areas: Lengths {
             first: 0,
             second: 0,
@@ -58,17 +60,25 @@ fn wrong(s: State) -> State {
     }
 }
 
-// One run more, and a difference more where another answer was stated.
-pub fn ran(alone: bool, s: State, stated: Answer, x: Answer) -> State {
+// One run more, and a difference more where it was not as stated.
+pub fn counted(s: State, as_stated: bool) -> State {
     let after = State {
         runs: words::plus(s.runs, 1),
         ..s
     };
-    if same(stated, x) {
+    if as_stated {
         return after;
     }
-    show_difference(alone, s, stated, x);
     wrong(after)
+}
+
+// A run of either call that answers numbers alone, and its answer beside the one that is stated.
+pub fn ran(alone: bool, s: State, stated: Answer, x: Answer) -> State {
+    if same(stated, x) {
+        return counted(s, true);
+    }
+    show_difference(alone, s, stated, x);
+    counted(s, false)
 }
 
 // The number behind a space, or 0 at the end of the line.
@@ -118,6 +128,7 @@ fn fresh(s: State, r: &mut [u8], g: &mut [u8], c: &mut [u8]) -> State {
         rulebook: case_text::make(rulebook, 0, 110, r, 0),
         goals: case_text::make(goals, 0, 21, g, 0),
         certificate: case_text::make(certificate, 0, 48, c, 0),
+        page: 0,
         areas: Lengths {
             first: 16384,
             second: 16384,
@@ -169,6 +180,7 @@ enum Kind {
     Rulebook,
     Goals,
     Certificate,
+    Page,
     Answer,
 }
 
@@ -184,6 +196,7 @@ fn kind_at(list: &[u8], from: u32, to: u32) -> Kind {
         82 => Kind::Rulebook,
         71 => Kind::Goals,
         67 => Kind::Certificate,
+        80 => Kind::Page,
         _ => Kind::Answer,
     }
 }
@@ -196,7 +209,18 @@ pub fn is_answer(list: &[u8], from: u32, to: u32) -> bool {
     }
 }
 
-// The case at hand after a line that states no answer.
+// The case at hand after a line of the page that is due, and the same after any other line.
+pub fn page_line(s: State, list: &[u8], from: u32, to: u32, page: &mut [u8]) -> State {
+    match kind_at(list, from, to) {
+        Kind::Page => State {
+            page: replaced(list, from, to, page, s.page),
+            ..s
+        },
+        _ => s,
+    }
+}
+
+// The case at hand after a line that states no answer and nothing of a page.
 pub fn line(
     s: State,
     list: &[u8],

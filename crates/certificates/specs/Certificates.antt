@@ -25,8 +25,8 @@ AllAreas = Worked × List ℕ
 -- "`(step I R (I...) item...)`": the step that was read and judged, recorded.
 unfoldable pub stepForm : List ℕ → List ℕ → Tally → Reader → List ℕ → List ℕ → List ℕ → List ℕ → Did AllAreas (Tally × Reader)
 stepForm text rules tally r store stack heap table = do
-  ((j, e, place, r), (areas, table)) ← before table (steps.step text rules table (tally .steps) r store stack heap)
-  ok (stepCounted tally, r) leaving (areas, stepAdded j e place tally table)
+  ((j, e, place, tested, r), (areas, table)) ← before table (steps.step text rules table (tally .steps) r store stack heap)
+  ok (stepCounted tally, r) leaving (areas, stepAdded j e place tested tally table)
 
 -- What leaves the store, the stack and the table, beside the theory's area that it only reads.
 abbrev pub around : {A : Type 0} → List ℕ → Did (Areas × List ℕ) A → Did AllAreas A

@@ -33,8 +33,8 @@ pub fn step_form(
     let s = steps::step(text, rules, table, store, stack, heap, tally.steps, reader);
     match s {
         Stepped::Refused(n) => Form::Refused(n),
-        Stepped::Judged(j, e, place, q) => {
-            Form::Next(tables::add_step(table, j, e, place, tally), q)
+        Stepped::Judged(j, e, place, tested, q) => {
+            Form::Next(tables::add_step(table, j, e, place, tested, tally), q)
         }
     }
 }

@@ -2,7 +2,7 @@
 use Prim.Native.Nat.{ℕ, _≤_, _<_}
 use mathlib.Core.Path.{_≡_, refl, ap, _∙_}
 use mathlib.Core.Bool.{false, not, _&&_}
-use mathlib.Core.List.{List, [], _∷_, _++_}
+use mathlib.Core.List.{List}
 use native.Mathlib.Omega.{arith}
 use lib.ListN.{length}
 use Rattle.horn.specs.Refusals.{Result, number, variableName, duplicate, ok}
@@ -16,7 +16,7 @@ use Rattle.horn.specs.Checker as checker
 use Rattle.horn.specs.Checker.{Goal, Def, def, isDef, askWord}
 use Rattle.horn.specs.Matching.{Step}
 use Rattle.horn.specs.Certificate as definition
-use Rattle.horn.specs.Certificate.{Progress}
+use Rattle.horn.specs.Certificate.{Progress, Witness, withDef}
 use borrow.Author.Tests.{not-true}
 use Rattle.words.specs.Parts.{part}
 use Rattle.lex.specs.declared.Reader.{Reader}
@@ -46,10 +46,6 @@ use Rattle.terms_laws.proofs.Following.{tested, bind-before}
 use Rattle.certificates_laws.proofs.Asked.{lifted-tested, def-named}
 use Rattle.certificates_laws.proofs.Standing.{SoFar, Standing, StepRecorded, between-longer}
 
--- The progress with one abbreviation more.
-abbrev defined : Progress → Name → Term → Progress
-defined now name u = record { defs = now .defs ++ (def name u ∷ []); openGoals = now .openGoals; steps = now .steps }
-
 -- What was read of an abbreviation, and where it was written.
 data DefRead (es : Entries) (th : Theory) (certificate table : List ℕ) (tally : Tally) (now : Progress) (K : Stream Token → Type 0) (ts : Store) :
     Tally × Reader → Areas × List ℕ → Progress × Store → Type 0 where
@@ -63,12 +59,12 @@ data DefRead (es : Entries) (th : Theory) (certificate table : List ℕ) (tally 
       → Longer ts us
       → length stack ≡ 16384
       → DefRead es th certificate table tally now K ts (defCounted tally, r) ((store, stack), defAdded defBuckets certificate s t k tally table)
-      (defined now (part s t certificate) u, us)
+      (withDef now (def (part s t certificate) u), us)
 
 -- "Duplicate 13".
-def-present : {goalsText certificate table : List ℕ} {Means : ℕ → Term → Type 0} {Recorded : ℕ → ℕ → ℕ → Step → Type 0} {tally : Tally}
-    {goals openGoals : List Goal} {defs : List Def} {steps : List Step} {key name : Name}
-    → Tables goalsText certificate table defBuckets Means Recorded tally goals openGoals defs steps → key ≡ name
+def-present : {goalsText certificate table : List ℕ} {Means : ℕ → Term → Type 0} {Recorded : ℕ → ℕ → ℕ → ℕ → Step → Type 0} {tally : Tally}
+    {goals openGoals : List Goal} {defs : List Def} {steps : List Step} {results : List Witness} {key name : Name}
+    → Tables goalsText certificate table defBuckets Means Recorded tally goals openGoals defs steps results → key ≡ name
     → present (defFound defBuckets certificate key table) ≡ someOf (isDef name) defs
 def-present {name} t e = rw e (known-def t name)
 
@@ -86,8 +82,8 @@ module _ {rules heap : List ℕ} {es : Entries} {bound : ℕ} {th : Theory} (h :
     {ts : Store} {store live table : List ℕ} (stack : List ℕ) (stored : Stored es th document01 indexPlaces store ts) (long : length stack ≡ 16384)
     (keep : Keeps places.bindings heap live) where
   -- The form is read whole before the table is written.
-  def-reads : {Recorded : ℕ → ℕ → ℕ → Step → Type 0} (K : Stream Token → Type 0) (is : Items) (r : Reader)
-      → Tables goalsText certificate table defBuckets (Means es th ts) Recorded tally goals (now .openGoals) (now .defs) (now .steps)
+  def-reads : {Recorded : ℕ → ℕ → ℕ → ℕ → Step → Type 0} (K : Stream Token → Type 0) (is : Items) (r : Reader)
+      → Tables goalsText certificate table defBuckets (Means es th ts) Recorded tally goals (now .openGoals) (now .defs) (now .steps) (now .results)
       → At certificate (RestComes is K) 0 r
       → Simulates (DefRead es th certificate table tally now K ts) (walk.defForm certificate rules live tally r store stack table)
       (definition.defForm document01 th now is ts)
@@ -122,7 +118,7 @@ module _ {rules heap : List ℕ} {es : Entries} {bound : ℕ} {th : Theory} (h :
             record {
               reader = there;
               between =
-                  next-def goalsText certificate 8192 32768 defBuckets (Means es th us) (StepRecorded rules heap es bound th us) document01 th ts
+                  next-def goalsText certificate 8192 32768 defBuckets (Means es th us) (StepRecorded rules heap es bound th certificate us) document01 th ts
                   (between-longer g so-far) s t k u (same ∙ e) a b m fresh;
               stored = st;
               long = l;

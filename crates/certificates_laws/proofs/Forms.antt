@@ -63,7 +63,7 @@ module _ {rules heap : List ℕ} {es : Entries} {bound : ℕ} {th : Theory} (h :
     unfolding definition.headedForm checker.lift refusals._>>=_ number
     by-head is q is-step e at-items =
         step-form-law goalsText certificate now (areas .0 .0 .0) (areas .0 .0 .1) (areas .0 .1) (group inner) rest is q (s .between) e
-        (step-law h high w goalsText certificate short now (StepRecorded rules heap es bound th ts) (λ j e p c k. k .means) (s .between .tables)
+        (step-law h high w goalsText certificate short now (StepRecorded rules heap es bound th certificate ts) (λ j e p q c k. k .means) (s .between .tables)
         (RestComes rest Any) is q
         (areas .0 .0 .1) (s .stored) (s .long) (s .keeps) at-items)
     by-head is q is-result e at-items =
@@ -94,7 +94,9 @@ module _ {rules heap : List ℕ} {es : Entries} {bound : ℕ} {th : Theory} (h :
       (areas .0 .1) (areas .1)))
       (definition.certificateForms document01 th now is ts)
   unfolding definition.certificateForms checker._>>=_ checker.lift checker.give checker.groupDue definition.certificateForm refusals._>>=_ number itemCount
-  one-turn fuel on tally r areas now ts l s form-over = leave record { tables = s .between .tables; stored = s .stored }
+  one-turn fuel on tally r areas now ts l s form-over =
+      let b = s .between .budget .bound in
+      leave record { tables = s .between .tables; stored = s .stored; long = s .long; keeps = s .keeps; few-goals = s .between .few; few-steps = omega arith }
   one-turn fuel on tally r areas now ts l s form-bad = refuse refl
   one-turn fuel on tally r areas now ts l s form-closing = refuse refl
   one-turn fuel on tally r areas now ts l s form-atom = refuse refl

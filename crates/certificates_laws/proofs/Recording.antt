@@ -1,16 +1,16 @@
 -- "(step I R (I...) item...)": the step that was read and judged is recorded. Assumes nothing.
 use Prim.Native.Nat.{ℕ}
 use mathlib.Core.Path.{_≡_, ap, _∙_}
-use mathlib.Core.List.{List, [], _∷_, _++_}
+use mathlib.Core.List.{List}
 use Rattle.horn.specs.Refusals.{ok}
 use Rattle.horn.specs.Setting.{document01}
 use Rattle.horn.specs.NestedLists.{Item, Items, _then_}
 use Rattle.horn.specs.Rulebook.{Theory}
 use Rattle.horn.specs.StoredTerms.{Store}
 use Rattle.horn.specs.Checker.{Goal}
-use Rattle.horn.specs.Matching.{step, judgmentOf, ruleOf}
+use Rattle.horn.specs.Matching.{step, judgmentOf, ruleOf, referencesOf}
 use Rattle.horn.specs.Certificate as definition
-use Rattle.horn.specs.Certificate.{Progress}
+use Rattle.horn.specs.Certificate.{Progress, withStep}
 use Rattle.lex.specs.declared.Reader.{Reader}
 use Rattle.outcomes.specs.Simulation.{Simulates, leave, knowing}
 use Rattle.theory_laws.specs.Representation.{Entries}
@@ -36,20 +36,21 @@ module _ {rules heap : List ℕ} {es : Entries} {bound : ℕ} {th : Theory} (goa
       (definition.stepForm document01 th now is ts)
       → Simulates (Standing rules heap es bound th goalsText certificate goals rest) (walk.stepForm certificate rules tally r store stack live table)
       (definition.stepForm document01 th now is ts)
-  unfolding walk.stepForm judgmentOf ruleOf
+  unfolding walk.stepForm judgmentOf ruleOf referencesOf
   step-form-law item rest is r so-far same read =
       giving-before table _ (knowing read) (λ x areas y p.
       let k = p .0 in
       let e : definition.certificateForm document01 th now item ts
-      ≡ ok (record { defs = now .defs; openGoals = now .openGoals; steps = now .steps ++ (step (k .judgment) (k .rule) ∷ []) }, y .1)
+      ≡ ok (withStep now (step (k .judgment) (k .rule) (k .references)), y .1)
       = same ∙ p .1 ∙ ap (λ (n : Progress). ok (n, y .1)) (k .progress) in
       leave record {
         reader = k .reader;
         between =
             rw (k .progress)
-            (next-step goalsText certificate 8192 32768 defBuckets (Means es th (y .1)) (StepRecorded rules heap es bound th (y .1)) document01 th ts
-            (between-longer (k .grown) so-far) (x .0) (x .1) (x .2) (step (k .judgment) (k .rule)) e (k .small)
-            record { means = k .means; by-rule = k .by-rule });
+            (next-step goalsText certificate 8192 32768 defBuckets (Means es th (y .1)) (StepRecorded rules heap es bound th certificate (y .1)) document01 th
+            ts
+            (between-longer (k .grown) so-far) (x .0) (x .1) (x .2) (x .3) (step (k .judgment) (k .rule) (k .references)) e (k .small) (k .small-tested)
+            record { means = k .means; by-rule = k .by-rule; listed = k .listed });
         stored = k .stored;
         long = k .long;
         keeps = k .keeps;

@@ -1,7 +1,7 @@
 -- The certificate: its forms, and that no goal is left open. Assumes nothing.
 use Prim.Native.Nat.{ℕ, _+_, _≤_}
 use mathlib.Core.Path.{_≡_, refl, sym}
-use mathlib.Core.List.{List, []}
+use mathlib.Core.List.{List}
 use native.Mathlib.Omega.{arith}
 use lib.Dec.{eqb}
 use lib.ListN.{length}
@@ -13,7 +13,6 @@ use Rattle.horn.specs.Rulebook.{Theory}
 use Rattle.horn.specs.StoredTerms.{Store}
 use Rattle.horn.specs.Checker as checker
 use Rattle.horn.specs.Checker.{Goal}
-use Rattle.horn.specs.Matching.{Step}
 use Rattle.horn.specs.Certificate as definition
 use Rattle.horn.proofs.Counts.{few-items}
 use Rattle.horn.proofs.SoundnessWords.{WellFormed}
@@ -31,24 +30,17 @@ use Rattle.asking_laws.proofs.Places.{at-start}
 use Rattle.nodes.specs.Limits.{indexPlaces, defBuckets}
 use Rattle.terms_laws.proofs.Judgments.{lifted}
 use Rattle.certificates.specs.Certificates as walk
-use Rattle.certificates.specs.Certificates.{AllAreas}
 use Rattle.terms_laws.proofs.Following.{tested}
-use Rattle.certificates_laws.proofs.Standing.{StepRecorded}
+use Rattle.certificates_laws.proofs.Standing.{StepRecorded, Finished}
 use Rattle.certificates_laws.proofs.Forms.{forms-law}
-
--- The certificate was read: how many steps and goals there are, and the terms that the store holds.
-pub record CertificateRead (es : Entries) (th : Theory) (goals : List Goal) (tally : Tally) (areas : AllAreas) (y : List Step × Store) : Type 0 where
-  pub steps-are : tally .steps ≡ length (y .0)
-  pub goals-are : tally .goals ≡ length goals
-  pub stored : Stored es th document01 indexPlaces (areas .0 .0 .0) (y .1)
 
 -- From where the goals were read.
 pub certificate-law : {rules heap : List ℕ} {es : Entries} {bound : ℕ} {th : Theory} → Holds rules heap es bound th → bound ≤ places.theoryEnd → WellFormed th
     → (goalsText certificate : List ℕ) → length certificate ≤ 32768
     → {table : List ℕ} {tally : Tally} {goals : List Goal} {left : Items} {ts : Store}
-    → Gathering goalsText certificate 8192 32768 defBuckets (Means es th ts) (StepRecorded rules heap es bound th ts) table tally goals left
+    → Gathering goalsText certificate 8192 32768 defBuckets (Means es th ts) (StepRecorded rules heap es bound th certificate ts) table tally goals left
     → {store live : List ℕ} (stack : List ℕ) → Stored es th document01 indexPlaces store ts → length stack ≡ 16384 → Keeps places.bindings heap live
-    → Simulates (CertificateRead es th goals) (walk.certificate certificate goalsText rules tally store stack live table)
+    → Simulates (Finished rules heap es bound th goalsText certificate goals) (walk.certificate certificate goalsText rules tally store stack live table)
     (definition.certificateOf document01 th goals certificate ts)
 unfolding walk.certificate definition.certificateOf checker._>>=_ checker.lift checker.give number
 certificate-law {rules} {heap} {es} {bound} {th} h high w goalsText certificate short {table} {tally} {goals} {ts} gathered {store}
@@ -56,14 +48,13 @@ certificate-law {rules} {heap} {es} {bound} {th} h high w goalsText certificate 
     let few = few-items certificate in
     bind _ _
     (forms-law h high w goalsText certificate short (length certificate + 1) (items (tokens certificate)) tally start (((store, stack), live), table)
-    (record { defs = []; openGoals = goals; steps = [] }) ts (omega arith)
+    (definition.begun goals) ts (omega arith)
     record {
       reader = at-start certificate;
-      between = first-form goalsText certificate 8192 32768 defBuckets (Means es th ts) (StepRecorded rules heap es bound th ts) document01 th short gathered;
+      between = first-form goalsText certificate 8192 32768 defBuckets (Means es th ts) (StepRecorded rules heap es bound th certificate ts) document01 th short gathered;
       stored = stored;
       long = long;
       keeps = keep;
     })
     (λ final areas y f.
-    lifted (y .1) _ _ (tested (eqb (final .left) 0) 29 goalOpen (sym (none-left (f .tables))) refl) (λ a b none.
-    leave record { steps-are = f .tables .steps-is; goals-are = f .tables .goals-is; stored = f .stored }))
+    lifted (y .1) _ _ (tested (eqb (final .left) 0) 29 goalOpen (sym (none-left (f .tables))) refl) (λ a b none. leave f))

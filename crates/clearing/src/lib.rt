@@ -1,4 +1,4 @@
-// The lengths that both calls ask for, and the areas cleared.
+// The lengths that all calls ask for, and the areas cleared.
 ghost use mathlib.Core.Path.{_≡_};
 ghost use lib.ListN.{length, replicate};
 ghost use Rattle.clearing.specs.Lengths.{longEnough};

@@ -6,6 +6,7 @@ use lib.Dec.{eqb}
 use Rattle.words.specs.Parts.{part, sameBytes}
 use Rattle.lex.specs.declared.Reader.{Reader}
 use Rattle.names.specs.Tables.{present}
+use Rattle.numerals.specs.Numbers.{saturated}
 use Rattle.outcomes.specs.Outcomes.{Outcome, ok, need, orElse, pick}
 use Rattle.outcomes.specs.Outcomes as outcomes
 use Rattle.outcomes.specs.Leaving.{Did, _leaving_, _>>=_}
@@ -62,4 +63,4 @@ resultForm text goals tally r table = do
   (k, _) ← orElse (stepWord n 0 tally table) 24 leaving table
   _ ← need (eqb k j) 27 leaving table
   (r, _) ← closingDue text r leaving table
-  ok (goalDone tally, r) leaving goalClosed e table
+  ok (goalDone tally, r) leaving goalClosed e (saturated n) table

@@ -138,7 +138,10 @@ pub fn result_form(
             let Passed::To(o) = c else {
                 return Form::Refused(asking::passed_refusal(c));
             };
-            Form::Next(tables::close_goal(table, e, tally), o)
+            Form::Next(
+                tables::close_goal(table, e, numerals::saturate(n), tally),
+                o,
+            )
         }
     }
 }

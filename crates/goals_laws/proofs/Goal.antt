@@ -41,7 +41,7 @@ use Rattle.terms_laws.proofs.Following.{tested, bind-before, first-of}
 use Rattle.goals_laws.proofs.Following.{word-first}
 
 -- A goal was read: the reader stands behind it, the store and the table hold what the definition has, the stack is as long as before.
-pub record GoalRead (es : Entries) (th : Theory) (goalsText certificate : List ℕ) (Recorded : Store → ℕ → ℕ → ℕ → Step → Type 0)
+pub record GoalRead (es : Entries) (th : Theory) (goalsText certificate : List ℕ) (Recorded : Store → ℕ → ℕ → ℕ → ℕ → Step → Type 0)
     (K : Stream Token → Type 0) (rest : Items) (ts : Store) (x : Tally × Reader) (left : Gathered) (y : List Goal × Store) : Type 0 where
   pub reader : At goalsText K 0 (x .1)
   pub stored : Stored es th document01 indexPlaces (left .0 .0) (y .1)
@@ -70,8 +70,8 @@ record GoalMet (es : Entries) (th : Theory) (goalsText : List ℕ) (K : Stream T
   pub one-more : y .0 ≡ goals ++ (definition.goal (part s t goalsText) j ∷ [])
 
 module _ {rules heap : List ℕ} {es : Entries} {bound : ℕ} {th : Theory} (h : Holds rules heap es bound th) (goalsText certificate : List ℕ)
-    (Recorded : Store → ℕ → ℕ → ℕ → Step → Type 0)
-    (survives : (ts us : Store) (j r p : ℕ) (s : Step) → Longer ts us → Recorded ts j r p s → Recorded us j r p s)
+    (Recorded : Store → ℕ → ℕ → ℕ → ℕ → Step → Type 0)
+    (survives : (ts us : Store) (j r p q : ℕ) (s : Step) → Longer ts us → Recorded ts j r p q s → Recorded us j r p q s)
     (short : length goalsText ≤ 8192)
     {ts : Store} {goals : List Goal} {tally : Tally} {table : List ℕ} (store stack : List ℕ) {inner rest : Items}
     (g : Gathering goalsText certificate 8192 32768 defBuckets (Means es th ts) (Recorded ts) table tally goals (group inner then rest))
@@ -125,7 +125,7 @@ module _ {rules heap : List ℕ} {es : Entries} {bound : ℕ} {th : Theory} (h :
         gathering = rw (m .counted, m .entered, m .one-more)
             (next-goal goalsText certificate 8192 32768 defBuckets (Means es th (y .1)) (Recorded (y .1)) document01 th ts (m .s) (m .t) (m .w) (m .j)
             (gathering-more (Means es th (y .1)) (Recorded (y .1)) (λ w t d. means-longer (m .grown) d)
-            (λ j r p s d. survives ts (y .1) j r p s (m .grown) d) g)
+            (λ j r p q s d. survives ts (y .1) j r p q s (m .grown) d) g)
             (k .1 ∙ ap (λ (gs : List Goal). refusals.ok (gs, y .1)) (m .one-more))
             (omega arith) (omega arith) (omega arith) (m .means) (m .fresh));
       })

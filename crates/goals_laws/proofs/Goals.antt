@@ -44,7 +44,7 @@ use Rattle.terms_laws.proofs.Following.{tested}
 use Rattle.goals_laws.proofs.Goal.{goal-law}
 
 -- The goals were read: the store and the table hold what the definition has, the stack is as long as before.
-pub record GoalsRead (es : Entries) (th : Theory) (goalsText certificate : List ℕ) (Recorded : Store → ℕ → ℕ → ℕ → Step → Type 0)
+pub record GoalsRead (es : Entries) (th : Theory) (goalsText certificate : List ℕ) (Recorded : Store → ℕ → ℕ → ℕ → ℕ → Step → Type 0)
     (tally : Tally) (left : Gathered) (y : List Goal × Store) : Type 0 where
   pub behind : Items
   pub gathering : Gathering goalsText certificate 8192 32768 defBuckets (Means es th (y .1)) (Recorded (y .1)) (left .1) tally (y .0) behind
@@ -58,8 +58,8 @@ unfolding definition.goalForm definition._>>=_ definition.lift definition.groupD
 atom-form th goals name ts = refl
 
 module _ {rules heap : List ℕ} {es : Entries} {bound : ℕ} {th : Theory} (h : Holds rules heap es bound th) (goalsText certificate : List ℕ)
-    (Recorded : Store → ℕ → ℕ → ℕ → Step → Type 0)
-    (survives : (ts us : Store) (j r p : ℕ) (s : Step) → Longer ts us → Recorded ts j r p s → Recorded us j r p s)
+    (Recorded : Store → ℕ → ℕ → ℕ → ℕ → Step → Type 0)
+    (survives : (ts us : Store) (j r p q : ℕ) (s : Step) → Longer ts us → Recorded ts j r p q s → Recorded us j r p q s)
     (short : length goalsText ≤ 8192) where
   -- What so much fuel reads, from any goals on.
   abbrev Reads : ℕ → Type 0

@@ -1,7 +1,7 @@
 -- What acceptance means for the definition. A rulebook is accepted exactly if it is short enough and gives a theory, and one answer 0,
 -- on areas of whatever lengths, is enough for it. A release with number 0 has met a theory, goals and steps on its way.
 use Prim.Native.Nat.{ℕ, _≤_, _<_}
-use mathlib.Core.Path.{_≡_, refl, ap, _∙_}
+use mathlib.Core.Path.{_≡_, refl, ap, subst, _∙_}
 use mathlib.Core.List.{List}
 use native.Mathlib.Omega.{arith}
 use lib.ListN.{length}
@@ -10,10 +10,10 @@ use Rattle.horn.specs.Refusals.{Refusal, number, Result, ok, refused}
 use Rattle.horn.specs.Setting.{Setting}
 use Rattle.horn.specs.Rulebook.{Theory, theory}
 use Rattle.horn.specs.StoredTerms.{Store, emptyStore}
-use Rattle.horn.specs.Checker.{Goal, goalsOf}
-use Rattle.horn.specs.Matching.{Step}
+use Rattle.horn.specs.Checker.{goalsOf}
 use Rattle.horn.specs.Certificate.{certificateOf}
-use Rattle.horn.specs.Calls.{areasLong, rulebookJudged, rulebookAnswer, rulebookCall, Report, report, releaseJudged, releaseAnswer, releaseCall}
+use Rattle.horn.specs.Calls.{areasLong, rulebookJudged, rulebookAnswer, rulebookCall, Report, Release, reportOf, releaseRead, releaseJudged}
+use Rattle.horn.specs.Calls.{releaseAnswer, releaseCall}
 use Rattle.horn.specs.Forced.{LongEnough, Accepted}
 use Rattle.horn.proofs.Inversion.{ok-equal, afterᵣ, after-needᵣ, onᵣ, need-on}
 
@@ -50,6 +50,7 @@ number-positive Refusal.otherJudgment = omega arith
 number-positive Refusal.storeFull = omega arith
 number-positive Refusal.goalOpen = omega arith
 number-positive Refusal.notOpened = omega arith
+number-positive Refusal.outputLong = omega arith
 
 -- The rulebook is short enough, and this is its theory.
 pub record Gives (limits : Setting) (rulebook : List ℕ) (th : Theory) : Type 0 where
@@ -98,26 +99,22 @@ accepted-gives {limits} {rulebook} acc =
     answer-gives limits (limits .areaWords) (limits .areaWords) (limits .areaWords) (limits .lastAreaWords) rulebook
     (acc .answers-zero _ _ _ _ record { first-area = omega arith; second-area = omega arith; third-area = omega arith; fourth-area = omega arith })
 
--- What the call with three texts has met on its way to an answer that is no refusal.
-pub record AcceptedRun (limits : Setting) (rulebook text certificate : List ℕ) (answer : Report) : Type 0 where
+-- What a call with three texts has met on its way to a release that is not refused.
+pub record ReadRun (limits : Setting) (rulebook text certificate : List ℕ) (r : Release) : Type 0 where
   pub th : Theory
-  pub goals : List Goal
   pub store : Store
-  pub steps : List Step
-  pub final : Store
   pub short : length rulebook ≤ limits .rulebookBytes
   pub short-text : length text ≤ limits .goalsBytes
   pub short-certificate : length certificate ≤ limits .certificateBytes
   pub gives : theory rulebook ≡ ok th
-  pub read : goalsOf limits th text emptyStore ≡ ok (goals, store)
-  pub taken : certificateOf limits th goals certificate store ≡ ok (steps, final)
-  pub answers : report 0 (length steps) (length goals) (length (final .terms)) (length certificate) (length (final .requests)) ≡ answer
+  pub read : goalsOf limits th text emptyStore ≡ ok (r .goals, store)
+  pub taken : certificateOf limits th (r .goals) certificate store ≡ ok (r .progress, r .store)
 
-pub judged-run : (limits : Setting) (a b c d : ℕ) (rulebook text certificate : List ℕ) {answer : Report}
-    → releaseJudged limits a b c d rulebook text certificate ≡ ok answer
-    → AcceptedRun limits rulebook text certificate answer
-unfolding releaseJudged
-judged-run limits a b c d rulebook text certificate e =
+pub read-run : (limits : Setting) (a b c d : ℕ) (rulebook text certificate : List ℕ) {r : Release}
+    → releaseRead limits a b c d rulebook text certificate ≡ ok r
+    → ReadRun limits rulebook text certificate r
+unfolding releaseRead
+read-run limits a b c d rulebook text certificate e =
     afterᵣ _ e λ u e₁ e₂.
     after-needᵣ _ _ _ e₂ λ short e₃.
     after-needᵣ _ _ _ e₃ λ short-text e₄.
@@ -125,20 +122,30 @@ judged-run limits a b c d rulebook text certificate e =
     afterᵣ _ e₅ λ th e₆ e₇.
     afterᵣ _ e₇ λ p e₈ e₉.
     afterᵣ _ e₉ λ q f f₁.
+    subst (ReadRun limits rulebook text certificate) (ok-equal f₁)
     record {
       th = th;
-      goals = p .0;
       store = p .1;
-      steps = q .0;
-      final = q .1;
       short = leb-true _ _ short;
       short-text = leb-true _ _ short-text;
       short-certificate = leb-true _ _ short-certificate;
       gives = e₆;
       read = e₈;
       taken = f;
-      answers = ok-equal f₁;
     }
+
+-- The same of a report.
+pub record AcceptedRun (limits : Setting) (rulebook text certificate : List ℕ) (answer : Report) : Type 0 where
+  pub release : Release
+  pub met : ReadRun limits rulebook text certificate release
+  pub answers : reportOf (length certificate) release ≡ answer
+
+pub judged-run : (limits : Setting) (a b c d : ℕ) (rulebook text certificate : List ℕ) {answer : Report}
+    → releaseJudged limits a b c d rulebook text certificate ≡ ok answer
+    → AcceptedRun limits rulebook text certificate answer
+unfolding releaseJudged
+judged-run limits a b c d rulebook text certificate e =
+    afterᵣ _ e λ r e₁ e₂. record { release = r; met = read-run limits a b c d rulebook text certificate e₁; answers = ok-equal e₂ }
 
 accepted-answer : (r : Result Report) → (releaseAnswer r) .number ≡ 0 → r ≡ ok (releaseAnswer r)
 unfolding releaseAnswer

@@ -15,14 +15,14 @@ use Rattle.horn.specs.Tokens.{tokens}
 use Rattle.horn.specs.Rulebook.{symbol, Theory, count, emptyTheory, theory}
 use Rattle.horn.specs.StoredTerms.{Term, Store, emptyStore, withinLimits, intern, request, holds}
 use Rattle.horn.specs.Checker.{Reading, stored, Goal, goalsOf}
-use Rattle.horn.specs.Matching.{Step, step}
-use Rattle.horn.specs.Certificate.{Progress, begun, certificateOf}
+use Rattle.horn.specs.Matching.{step}
+use Rattle.horn.specs.Certificate.{Progress, certificateOf}
 use Rattle.horn.specs.Arising.{Declares, declares-none, declares-next, TheoryArises, Made, made-give, made-lift, made-stored, made-after, Passes}
 use Rattle.horn.specs.Arising.{Proceeds, proceeds-none, proceeds-next, StoreArises, in-goals, in-certificate, ProgressArises}
 use Rattle.horn.proofs.Equality.{case}
-use Rattle.horn.proofs.Inversion.{not-ok, ok-equal, afterᵣ, after-needᵣ, after, given-is, lifted, after-need}
+use Rattle.horn.proofs.Inversion.{not-ok, ok-equal, afterᵣ, after-needᵣ, after, given-is, lifted}
 use Rattle.horn.proofs.Declaring.{Declared, sort-declared, symbol-declared, rule-declared, declaration-by, declares-last}
-use Rattle.horn.proofs.Taken.{Taken, def-taken, step-taken, result-taken, form-taken, proceeds-last}
+use Rattle.horn.proofs.Taken.{Taken, def-taken, step-taken, result-taken, form-taken, certificate-proceeds}
 use Rattle.horn.proofs.Counts.{itemCount, few-items}
 use Rattle.horn.proofs.Readings.{reads-made, reads-goalsOf, reads-form, reads-forms, reads-certificateOf}
 
@@ -120,9 +120,9 @@ module _ (limits : Setting) where
       passes-keep (λ s. Small (s .terms)) small-request p (passes-keep (λ s. Small (s .terms)) small-request q (omega arith) (passes-last q e₁)) h
 
   -- The store in which the reading of the certificate ends arises.
-  pub last-store : (rulebook text certificate : List ℕ) {th : Theory} {goals : List Goal} {steps : List Step} {s u : Store} → theory rulebook ≡ ok th
+  pub last-store : (rulebook text certificate : List ℕ) {th : Theory} {goals : List Goal} {last : Progress} {s u : Store} → theory rulebook ≡ ok th
       → goalsOf limits th text emptyStore ≡ ok (goals, s)
-      → certificateOf limits th goals certificate s ≡ ok (steps, u)
+      → certificateOf limits th goals certificate s ≡ ok (last, u)
       → StoreArises limits rulebook text certificate u
   last-store rulebook text certificate {th} {goals} e e₁ e₂ =
       let p = reads-made limits (reads-certificateOf limits th goals certificate) in in-certificate e e₁ p (passes-last p e₂)
@@ -134,7 +134,7 @@ module _ (limits : Setting) where
 
     longer-taken : {now next : Progress} {s : Store} → Taken limits th now s next → Longer now next
     longer-taken (def-taken name is e) = omega arith
-    longer-taken {now} (step-taken name is refs {r = r} {j = j} e e₁ e₂) = omega (arith, length-append (now .steps) (step j r ∷ []))
+    longer-taken {now} (step-taken name is refs {r = r} {j = j} e e₁ e₂) = omega (arith, length-append (now .steps) (step j r refs ∷ []))
     longer-taken (result-taken name n e e₁ e₂) = omega arith
 
     proceeds-few : {now later : Progress} {is : Items} {s u : Store} → Proceeds limits th now is s later u
@@ -165,20 +165,16 @@ module _ (limits : Setting) where
       let s = a .short in
       omega arith
 
-  -- The steps of an accepted release arise.
-  pub last-steps : (rulebook text certificate : List ℕ) {th : Theory} {goals : List Goal} {steps : List Step} {s u : Store}
+  -- What the certificate of an accepted release has come to arises.
+  pub last-progress : (rulebook text certificate : List ℕ) {th : Theory} {goals : List Goal} {last : Progress} {s u : Store}
       → length certificate ≤ limits .certificateBytes
       → theory rulebook ≡ ok th
       → goalsOf limits th text emptyStore ≡ ok (goals, s)
-      → certificateOf limits th goals certificate s ≡ ok (steps, u)
-      → (now : Progress) × (now .steps ≡ steps) × ProgressArises limits rulebook text certificate now
-  unfolding certificateOf
-  last-steps rulebook text certificate {th} {goals} {s} short e e₁ e₂ =
-      after _ e₂ λ final t f f₁.
-      after-need _ _ _ _ f₁ λ h f₂.
-      given-is f₂ λ same q.
-      let p = proceeds-last limits th (items (tokens certificate)) (begun goals) s f in
-      (final, same, record { short = short; th = th; gives = e; goals = goals; store = s; read = e₁; thenStore = t; proceeds = p })
+      → certificateOf limits th goals certificate s ≡ ok (last, u)
+      → ProgressArises limits rulebook text certificate last
+  last-progress rulebook text certificate {th} {goals} {s} {u} short e e₁ e₂ =
+      let p = (certificate-proceeds limits th goals certificate s e₂) .0 in
+      record { short = short; th = th; gives = e; goals = goals; store = s; read = e₁; thenStore = u; proceeds = p }
 
   -- The stores between the forms of a certificate arise, whatever comes of later forms.
   pub between-forms : {rulebook text certificate : List ℕ} {now : Progress} (a : ProgressArises limits rulebook text certificate now)

@@ -14,9 +14,9 @@ use Rattle.horn.specs.NestedLists.{Sexp, asItem, topItems}
 use Rattle.horn.specs.Rulebook.{Theory, theory}
 use Rattle.horn.specs.StoredTerms.{Term, Store, emptyStore, withinLimits}
 use Rattle.horn.specs.Checker.{Goal, goalJudgment, goalsOf, give}
-use Rattle.horn.specs.Matching.{Step, step, judgmentOf}
-use Rattle.horn.specs.Certificate.{certificateForm, certificateForms, certificateOf}
-use Rattle.horn.specs.Calls.{report, releaseJudged, releaseAnswer, releaseCall}
+use Rattle.horn.specs.Matching.{Step, judgmentOf}
+use Rattle.horn.specs.Certificate.{Witness, certificateForm, certificateForms, certificateOf}
+use Rattle.horn.specs.Calls.{report, reportOf, releaseRead, releaseJudged, releaseAnswer, releaseCall}
 use Rattle.horn.specs.Forced.{Instance, premises, conclusion, Each, judgments}
 use Rattle.horn.specs.Layout
 use Rattle.horn.specs.Layout.{stepSexps, layoutForms, laidOut, height, depth}
@@ -35,23 +35,23 @@ use Rattle.horn.proofs.CompleteCount.{_⊆_, to-distinct}
 use Rattle.horn.proofs.CompleteStore.{withinLimits-holds, withTerm, withAll, withAll-append, DrawnFrom, drawn-none, drawn-term, drawn-all, stored-count, requests-all}
 use Rattle.horn.proofs.CompleteTerms.{on-lift}
 use Rattle.horn.proofs.CompleteGoals.{Known, read-known}
-use Rattle.horn.proofs.CompleteSteps.{progress, result-back, step-back}
+use Rattle.horn.proofs.CompleteSteps.{progress, stepMade, resultMade, result-back, step-back}
 use Rattle.horn.proofs.CompleteLayout.{forms-words, layout-long}
 
 -- The steps that the forms laid out for instances come to, after some steps.
 stepsMade : List Step → List Instance → List Step
 stepsMade steps [] = steps
-stepsMade steps (i ∷ is) = stepsMade (steps ++ (step (conclusion i) (i .byRule) ∷ [])) is
+stepsMade steps (i ∷ is) = stepsMade (steps ++ (stepMade steps i ∷ [])) is
 
 stepsMade-length : (steps : List Step) (is : List Instance) → length (stepsMade steps is) ≡ length steps + length is
 unfolding stepsMade
 stepsMade-length steps [] = omega arith
 stepsMade-length steps (i ∷ is) =
-    let h = stepsMade-length (steps ++ (step (conclusion i) (i .byRule) ∷ [])) is in
-    omega (arith, length-append steps (step (conclusion i) (i .byRule) ∷ []))
+    let h = stepsMade-length (steps ++ (stepMade steps i ∷ [])) is in
+    omega (arith, length-append steps (stepMade steps i ∷ []))
 
 conclusions-more : (steps : List Step) (i : Instance) {earlier : List Term} → map judgmentOf steps ≡ earlier
-    → map judgmentOf (steps ++ (step (conclusion i) (i .byRule) ∷ [])) ≡ earlier ++ (conclusion i ∷ [])
+    → map judgmentOf (steps ++ (stepMade steps i ∷ [])) ≡ earlier ++ (conclusion i ∷ [])
 unfolding judgmentOf
 conclusions-more steps i e = map-append judgmentOf steps _ ∙ ap (_++ (conclusion i ∷ [])) e
 
@@ -60,7 +60,7 @@ stepsMade-conclusions : (steps : List Step) (is : List Instance) (earlier : List
 unfolding stepsMade
 stepsMade-conclusions steps [] earlier e = e ∙ sym (append-nil earlier)
 stepsMade-conclusions steps (i ∷ is) earlier e =
-    stepsMade-conclusions (steps ++ (step (conclusion i) (i .byRule) ∷ [])) is (earlier ++ (conclusion i ∷ [])) (conclusions-more steps i e)
+    stepsMade-conclusions (steps ++ (stepMade steps i ∷ [])) is (earlier ++ (conclusion i ∷ [])) (conclusions-more steps i e)
     ∙ append-assoc earlier (conclusion i ∷ []) (map conclusion is)
 
 module _ (limits : Setting) (th : Theory) (l : Lookups th) (formed : WellFormed th) (us : List Term)
@@ -72,33 +72,36 @@ module _ (limits : Setting) (th : Theory) (l : Lookups th) (formed : WellFormed 
       → depth (stepSexps earlier is ++ rest) ≤ 256
       → allSubterms (map conclusion is) ⊆ us
       → DrawnFrom us store
-      → certificateForms limits th (progress goals steps) (topItems (stepSexps earlier is ++ rest)) store
-      ≡ certificateForms limits th (progress goals (stepsMade steps is)) (topItems rest) (withAll (map conclusion is) store)
+      → certificateForms limits th (progress goals steps []) (topItems (stepSexps earlier is ++ rest)) store
+      ≡ certificateForms limits th (progress goals (stepsMade steps is) []) (topItems rest) (withAll (map conclusion is) store)
   unfolding stepSexps stepsMade withAll topItems certificateForms depth allSubterms
   steps-back no-instance goals steps rest store e n d sub f = refl
   steps-back (instance-then {earlier = earlier} {i = i} {is = is} inst prem s) goals steps rest store e n d sub f =
       let j = conclusion i in
       let sub-here : subterms j ⊆ us = λ u m. sub u (Memᴰ·append-left (allSubterms (map conclusion is)) m) in
-      let form = step-back limits th l us within i goals steps store inst (conclusion-well-sorted formed i inst) (omega arith) sub-here f in
-      let next = steps ++ (step j (i .byRule) ∷ []) in
+      let form = step-back limits th l us within i goals steps [] store inst (conclusion-well-sorted formed i inst) (omega arith) sub-here f in
+      let next = steps ++ (stepMade steps i ∷ []) in
       on _ _ _
       (subst
       (λ x. Each (λ k. List·Memᴰ k x) (premises i) → height (Layout.stepSexp x i) ≤ 256
-      → certificateForm limits th (progress goals steps) (asItem (Layout.stepSexp x i)) store
-      ≡ ok (progress goals next, withTerm j store))
+      → certificateForm limits th (progress goals steps []) (asItem (Layout.stepSexp x i)) store
+      ≡ ok (progress goals next [], withTerm j store))
       e form prem (omega arith))
       ∙ steps-back s goals next rest (withTerm j store) (conclusions-more steps i e)
-      (omega (arith, length-append steps (step j (i .byRule) ∷ []))) (omega arith)
+      (omega (arith, length-append steps (stepMade steps i ∷ []))) (omega arith)
       (λ u m. sub u (Memᴰ·append-right (subterms j) m)) (drawn-term us j store f sub-here)
 
-  results-back : (goals : List Goal) (steps : List Step) (store : Store) → GoalsApart goals → length steps ≤ 2 ^ 64
+  results-back : (goals : List Goal) (steps : List Step) (results : List Witness) (store : Store) → GoalsApart goals → length steps ≤ 2 ^ 64
       → Each (λ j. List·Memᴰ j (map judgmentOf steps)) (map goalJudgment goals)
-      → certificateForms limits th (progress goals steps) (topItems (map (Layout.resultSexp (map judgmentOf steps)) goals)) store
-      ≡ ok (progress [] steps, store)
+      → certificateForms limits th (progress goals steps results) (topItems (map (Layout.resultSexp (map judgmentOf steps)) goals)) store
+      ≡ ok (progress [] steps (results ++ map (resultMade (map judgmentOf steps)) goals), store)
   unfolding certificateForms topItems give
-  results-back [] steps store a n e = refl
-  results-back (g ∷ gs) steps store a n e =
-      on _ _ _ (result-back limits th g gs steps store a n (e .0)) ∙ results-back gs steps store (a .1) n (e .1)
+  results-back [] steps results store a n e = ap (λ x. ok (progress [] steps x, store)) (sym (append-nil results))
+  results-back (g ∷ gs) steps results store a n e =
+      let w = resultMade (map judgmentOf steps) g in
+      on _ _ _ (result-back limits th g gs steps results store a n (e .0))
+      ∙ results-back gs steps (results ++ (w ∷ [])) store (a .1) n (e .1)
+      ∙ ap (λ x. ok (progress [] steps x, store)) (append-assoc results (w ∷ []) (map (resultMade (map judgmentOf steps)) gs))
 
   -- The whole certificate is read, after goals whose judgments are among the instances' conclusions.
   certificate-back : (goals : List Goal) (is : List Instance) (store : Store) → Proves th goals is → Known goals store
@@ -107,7 +110,7 @@ module _ (limits : Setting) (th : Theory) (l : Lookups th) (formed : WellFormed 
       → depth (layoutForms goals is) ≤ 256
       → allSubterms (map conclusion is) ⊆ us
       → DrawnFrom us store
-      → certificateOf limits th goals (laidOut goals is) store ≡ ok (stepsMade [] is, withAll (map conclusion is) store)
+      → certificateOf limits th goals (laidOut goals is) store ≡ ok (progress [] (stepsMade [] is) (map (resultMade (map conclusion is)) goals), withAll (map conclusion is) store)
   unfolding certificateOf laidOut layoutForms judgments isZero give
   certificate-back goals is store p k apart n d sub f =
       let cs = map conclusion is in
@@ -118,11 +121,11 @@ module _ (limits : Setting) (th : Theory) (l : Lookups th) (formed : WellFormed 
       let closing =
       subst
       (λ x. Each (λ j. List·Memᴰ j x) (map goalJudgment goals)
-      → certificateForms limits th (progress goals (stepsMade [] is)) (topItems (map (Layout.resultSexp x) goals)) final
-      ≡ ok (progress [] (stepsMade [] is), final))
-      concluded (results-back goals (stepsMade [] is) final apart (omega arith)) (p .reached) in
+      → certificateForms limits th (progress goals (stepsMade [] is) []) (topItems (map (Layout.resultSexp x) goals)) final
+      ≡ ok (progress [] (stepsMade [] is) (map (resultMade x) goals), final))
+      concluded (results-back goals (stepsMade [] is) [] final apart (omega arith)) (p .reached) in
       on _ _ _
-      (ap (λ x. certificateForms limits th (progress goals []) x store)
+      (ap (λ x. certificateForms limits th (progress goals [] []) x store)
       (items-printed (layoutForms goals is) (forms-words th l formed goals (p .supported) (k .words)))
       ∙ steps-back (p .supported) goals [] results store refl (omega arith) d sub f
       ∙ closing)
@@ -152,7 +155,7 @@ module _ (limits : Setting) (a b c d : ℕ) (rulebook text : List ℕ) {th : The
       → WithinLimits limits a b c d goals is
       → releaseCall limits a b c d rulebook text (laidOut goals is)
       ≡ report 0 (length is) (length goals) (length (distinctTerms goals is)) (length (laidOut goals is)) (requestedNodes goals is)
-  unfolding releaseCall releaseJudged releaseAnswer distinctTerms requestedNodes
+  unfolding releaseCall releaseJudged releaseRead reportOf releaseAnswer distinctTerms requestedNodes
   complete-read bound short-text read p w =
       let js = judgments goals ++ map conclusion is in
       let us = distinct (allSubterms js) in
@@ -169,13 +172,14 @@ module _ (limits : Setting) (a b c d : ℕ) (rulebook text : List ℕ) {th : The
       let final = ap (withAll (map conclusion is)) (k .has) ∙ sym (withAll-append (judgments goals) (map conclusion is) emptyStore) in
       let count : length (stepsMade [] is) ≡ length is = let h = stepsMade-length [] is in omega arith in
       ap releaseAnswer
+      (onᵣ _
       (onᵣ _ (areasLong-ok (w .areas))
       ∙ onᵣ _ (need-on _ (le-leb (length rulebook) (limits .rulebookBytes) short))
       ∙ onᵣ _ (need-on _ (le-leb (length text) (limits .goalsBytes) short-text))
       ∙ onᵣ _ (need-on _ (le-leb (length (laidOut goals is)) (limits .certificateBytes) (w .short)))
       ∙ onᵣ _ e
       ∙ onᵣ _ read
-      ∙ onᵣ _ certificate)
+      ∙ onᵣ _ certificate))
       ∙ ap
       (λ x. report 0 x (length goals) (length ((withAll (map conclusion is) store) .terms)) (length (laidOut goals is))
       (length ((withAll (map conclusion is) store) .requests)))

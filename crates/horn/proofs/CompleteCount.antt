@@ -11,16 +11,16 @@ use Rattle.horn.specs.StoredTerms.{Term, nodeSize, size, sameTerm}
 use Rattle.horn.specs.Layout.{distinct}
 use Rattle.horn.proofs.Equality.{case, sameTerm-decides, some-of-true, some-of-false, differ, in-cons, in-or-last}
 
-abbrev pub _⊆_ : List Term → List Term → Type 0
-xs ⊆ ys = (t : Term) → List·Memᴰ t xs → List·Memᴰ t ys
+abbrev pub _⊆_ : {A : Type 0} → List A → List A → Type 0
+_⊆_ {A} xs ys = (t : A) → List·Memᴰ t xs → List·Memᴰ t ys
 
 infixl 20 _⊆_
 -- No entry twice.
-abbrev pub Distinct : List Term → Type 0
+abbrev pub Distinct : {A : Type 0} → List A → Type 0
 Distinct [] = Unit
 Distinct (x ∷ xs) = (List·Memᴰ x xs → ⊥) × Distinct xs
 
-pub distinct-more : (xs : List Term) (t : Term) → Distinct xs → (List·Memᴰ t xs → ⊥) → Distinct (xs ++ (t ∷ []))
+pub distinct-more : {A : Type 0} (xs : List A) (t : A) → Distinct xs → (List·Memᴰ t xs → ⊥) → Distinct (xs ++ (t ∷ []))
 distinct-more [] t d n = (λ m. elim m [ ], tt)
 distinct-more (x ∷ xs) t d n = (
   λ m. in-or-last xs m (d .0) (λ e. n (List·Memᴰ·head (sym e))),
@@ -28,28 +28,28 @@ distinct-more (x ∷ xs) t d n = (
 )
 
 -- A sum over a list, by what each entry counts.
-module _ (w : Term → ℕ) where
-  total : List Term → ℕ
+module _ {A : Type 0} (w : A → ℕ) where
+  total : List A → ℕ
   total [] = 0
   total (x ∷ xs) = w x + total xs
 
-  rest : {t : Term} {xs : List Term} → List·Memᴰ t xs → List Term
+  rest : {t : A} {xs : List A} → List·Memᴰ t xs → List A
   rest (List·Memᴰ·head {x} {xs} e) = xs
   rest (List·Memᴰ·tail {x} {xs} m) = x ∷ rest m
 
-  rest-total : {t : Term} {xs : List Term} (m : List·Memᴰ t xs) → total xs ≡ w t + total (rest m)
+  rest-total : {t : A} {xs : List A} (m : List·Memᴰ t xs) → total xs ≡ w t + total (rest m)
   unfolding total rest
   rest-total (List·Memᴰ·head {x} {xs} e) = ap (λ u. w u + total xs) (sym e)
   rest-total (List·Memᴰ·tail {x} {xs} m) = let h = rest-total m in omega arith
 
-  rest-keeps : {t u : Term} {xs : List Term} (m : List·Memᴰ t xs) → (u ≡ t → ⊥) → List·Memᴰ u xs → List·Memᴰ u (rest m)
+  rest-keeps : {t u : A} {xs : List A} (m : List·Memᴰ t xs) → (u ≡ t → ⊥) → List·Memᴰ u xs → List·Memᴰ u (rest m)
   unfolding rest
   rest-keeps (List·Memᴰ·head e) n (List·Memᴰ·head f) = absurd (n (f ∙ sym e))
   rest-keeps (List·Memᴰ·head e) n (List·Memᴰ·tail k) = k
   rest-keeps (List·Memᴰ·tail m) n (List·Memᴰ·head f) = List·Memᴰ·head f
   rest-keeps (List·Memᴰ·tail m) n (List·Memᴰ·tail k) = List·Memᴰ·tail (rest-keeps m n k)
 
-  total-below : (xs ys : List Term) → Distinct xs → xs ⊆ ys → total xs ≤ total ys
+  total-below : (xs ys : List A) → Distinct xs → xs ⊆ ys → total xs ≤ total ys
   unfolding total
   total-below [] ys d s = omega arith
   total-below (x ∷ xs) ys d s =
@@ -59,10 +59,10 @@ module _ (w : Term → ℕ) where
       (λ t k. rest-keeps m (λ e. d .0 (subst (λ z. List·Memᴰ z xs) e k)) (s t (List·Memᴰ·tail k))) in
       omega arith
 
-one : Term → ℕ
+one : {A : Type 0} → A → ℕ
 one t = 1
 
-length-total : (xs : List Term) → length xs ≡ total one xs
+length-total : {A : Type 0} (xs : List A) → length xs ≡ total one xs
 unfolding total one
 length-total [] = refl
 length-total (x ∷ xs) = let h = length-total xs in omega arith
@@ -72,13 +72,13 @@ unfolding total size
 size-total [] = refl
 size-total (x ∷ xs) = ap (nodeSize x +_) (size-total xs)
 
-pub length-below : (xs ys : List Term) → Distinct xs → xs ⊆ ys → length xs ≤ length ys
+pub length-below : {A : Type 0} (xs ys : List A) → Distinct xs → xs ⊆ ys → length xs ≤ length ys
 length-below xs ys d s = rw (length-total xs, length-total ys) (total-below one xs ys d s)
 
 pub size-below : (xs ys : List Term) → Distinct xs → xs ⊆ ys → size xs ≤ size ys
 size-below xs ys d s = rw (size-total xs, size-total ys) (total-below nodeSize xs ys d s)
 
-pub length-same : (xs ys : List Term) → Distinct xs → Distinct ys → xs ⊆ ys → ys ⊆ xs → length xs ≡ length ys
+pub length-same : {A : Type 0} (xs ys : List A) → Distinct xs → Distinct ys → xs ⊆ ys → ys ⊆ xs → length xs ≡ length ys
 length-same xs ys d e s t = let h = length-below xs ys d s in let k = length-below ys xs e t in omega arith
 
 -- What the test for a member says.

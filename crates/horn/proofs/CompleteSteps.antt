@@ -17,7 +17,7 @@ use Rattle.horn.specs.Checker.{Reading, give, wordDue, groupDue, ask, as
 use Rattle.horn.specs.Checker.{Goal, goal, goalJudgment, isGoal}
 use Rattle.horn.specs.Matching.{Step, step, judgmentOf}
 use Rattle.horn.specs.Certificate
-use Rattle.horn.specs.Certificate.{Progress, Given, given, stepWord, resultWord, formWord, isStated, without}
+use Rattle.horn.specs.Certificate.{Progress, Witness, witness, Given, given, stepWord, resultWord, formWord, isStated, without}
 use Rattle.horn.specs.Forced.{WellSorted, well-sorted, Instance, IsInstance, premises, conclusion, Each, substitute}
 use Rattle.horn.specs.Layout
 use Rattle.horn.specs.Written.{symbolName, termSexps, judgmentSexp}
@@ -57,8 +57,17 @@ formWord-result : formWord (codes "result") ≡ resultWord
 unfolding formWord named sameList codes
 formWord-result = refl
 
-abbrev pub progress : List Goal → List Step → Progress
-progress goals steps = record { defs = []; openGoals = goals; steps = steps }
+-- Progress without an abbreviation.
+abbrev pub progress : List Goal → List Step → List Witness → Progress
+progress goals steps results = record { defs = []; openGoals = goals; steps = steps; results = results }
+
+-- The step that the form of an instance comes to, after some steps.
+abbrev pub stepMade : List Step → Instance → Step
+stepMade steps i = step (conclusion i) (i .byRule) (map (lowest (map judgmentOf steps)) (premises i))
+
+-- The result that the form of a goal comes to, after steps with these conclusions.
+unfoldable pub resultMade : List Term → Goal → Witness
+resultMade conclusions (goal n j) = witness n (lowest conclusions j)
 
 module _ (limits : Setting) (th : Theory) where
   form-headed : (head : Name) (now : Progress) (rest : Items) (store : Store)
@@ -79,25 +88,25 @@ module _ (limits : Setting) (th : Theory) where
   unfolding isGoal
   own-name n j = named-decides .same n
 
-  pub result-back : (g : Goal) (gs : List Goal) (steps : List Step) (store : Store) → GoalsApart (g ∷ gs) → length steps ≤ 2 ^ 64
+  pub result-back : (g : Goal) (gs : List Goal) (steps : List Step) (results : List Witness) (store : Store) → GoalsApart (g ∷ gs) → length steps ≤ 2 ^ 64
       → List·Memᴰ (goalJudgment g) (map judgmentOf steps)
-      → Certificate.certificateForm limits th (progress (g ∷ gs) steps) (asItem (Layout.resultSexp (map judgmentOf steps) g)) store
-      ≡ ok (progress gs steps, store)
-  unfolding Layout.resultSexp asItem Certificate.headedForm Certificate.resultForm first without goalJudgment closingDue give
-  result-back (goal n j) gs steps store a b m =
+      → Certificate.certificateForm limits th (progress (g ∷ gs) steps results) (asItem (Layout.resultSexp (map judgmentOf steps) g)) store
+      ≡ ok (progress gs steps (results ++ (resultMade (map judgmentOf steps) g ∷ [])), store)
+  unfolding Layout.resultSexp asItem Certificate.headedForm Certificate.resultForm resultMade first without goalJudgment closingDue give
+  result-back (goal n j) gs steps results store a b m =
       let k = lowest (map judgmentOf steps) j in
       let h = lowest-below (map judgmentOf steps) j m in
       let l = length-map steps judgmentOf in
       let c = lowest-step steps j m in
-      form-headed (codes "result") (progress (goal n j ∷ gs) steps) _ store
-      ∙ ap (λ w. Certificate.headedForm limits th w (progress (goal n j ∷ gs) steps) (word n then word (plain k) then closed) store) formWord-result
+      form-headed (codes "result") (progress (goal n j ∷ gs) steps results) _ store
+      ∙ ap (λ w. Certificate.headedForm limits th w (progress (goal n j ∷ gs) steps results) (word n then word (plain k) then closed) store) formWord-result
       ∙ on-lift _ _ _ (asked-name 1 n (word (plain k) then closed) (omega arith))
       ∙ on-lift _ _ _ (found-on _ (chose-true _ _ (own-name n j)))
       ∙ on-lift _ _ _ (asked-number 1 k closed (omega arith) (omega arith))
       ∙ on-lift _ _ _ (found-on _ (c .there))
       ∙ on-lift _ _ _ (need-on _ (ap (λ x. sameTerm x j) (c .concludes) ∙ sameTerm-decides .same j))
       ∙ on-lift _ _ _ refl
-      ∙ ap (λ x. ok (progress x steps, store)) (chose-true _ _ (own-name n j) ∙ without-others n gs (λ h m. a .0 h m n (own-name n j)))
+      ∙ ap (λ x. ok (progress x steps (results ++ (witness n k ∷ [])), store)) (chose-true _ _ (own-name n j) ∙ without-others n gs (λ h m. a .0 h m n (own-name n j)))
 
   -- A stated conclusion matches, and then the premises do.
   conclude-back : (i : Instance) (steps : List Step) (store : Store)
@@ -145,17 +154,17 @@ module _ (limits : Setting) (th : Theory) where
         length-map (map (substitute (i .assignment)) (premisesOf (i .byRule))) (lowest cs)
         ∙ length-map (premisesOf (i .byRule)) (substitute (i .assignment))
 
-    pub step-back : (i : Instance) (goals : List Goal) (steps : List Step) (store : Store) → IsInstance th i
+    pub step-back : (i : Instance) (goals : List Goal) (steps : List Step) (results : List Witness) (store : Store) → IsInstance th i
         → WellSorted th (conclusion i)
         → length steps < 2 ^ 64
         → subterms (conclusion i) ⊆ us
         → DrawnFrom us store
         → Each (λ j. List·Memᴰ j (map judgmentOf steps)) (premises i)
         → height (Layout.stepSexp (map judgmentOf steps) i) ≤ 256
-        → Certificate.certificateForm limits th (progress goals steps) (asItem (Layout.stepSexp (map judgmentOf steps) i)) store
-        ≡ ok (progress goals (steps ++ (step (conclusion i) (i .byRule) ∷ [])), withTerm (conclusion i) store)
+        → Certificate.certificateForm limits th (progress goals steps results) (asItem (Layout.stepSexp (map judgmentOf steps) i)) store
+        ≡ ok (progress goals (steps ++ (stepMade steps i ∷ [])) results, withTerm (conclusion i) store)
     unfolding Layout.stepSexp asItem Certificate.headedForm Certificate.stepForm height give
-    step-back i goals steps store is w b sub f e h =
+    step-back i goals steps results store is w b sub f e h =
         let cs = map judgmentOf steps in
         let n = length cs in
         let r = i .byRule in
@@ -164,8 +173,8 @@ module _ (limits : Setting) (th : Theory) where
         let item = asItem (judgmentSexp (conclusion i)) in
         let is₂ = group (asItems (plainAll refs)) then item then closed in
         let is₁ = word (ruleName r) then is₂ in
-        form-headed (codes "step") (progress goals steps) _ store
-        ∙ ap (λ x. Certificate.headedForm limits th x (progress goals steps) (word (plain n) then is₁) store) formWord-step
+        form-headed (codes "step") (progress goals steps results) _ store
+        ∙ ap (λ x. Certificate.headedForm limits th x (progress goals steps results) (word (plain n) then is₁) store) formWord-step
         ∙ on-lift _ _ _ (asked-number 1 n is₁ (omega arith) (omega arith))
         ∙ on-lift _ _ _ (need-on _ (eq-eqb n (length steps) k))
         ∙ on-lift _ _ _ (asked-name 1 (ruleName r) is₂ (omega arith))

@@ -1,10 +1,11 @@
 -- Each Boolean test of equality is true exactly where the two are equal; what is found in a list, and what is a member of it.
-use Prim.Native.Nat.{ℕ, zero, suc}
+use Prim.Native.Nat.{ℕ, zero, suc, _<_}
 use mathlib.Core.Path.{_≡_, refl, sym, ap, ap₂, subst, _∙_}
 use mathlib.Core.Bool.{Bool, true, false, not, _&&_, true≢false}
 use mathlib.Core.List.{List, [], _∷_, _++_, List·Memᴰ, List·Memᴰ·head, List·Memᴰ·tail}
 use mathlib.Core.Option.{none, some}
-use lib.ListN.{getElem?}
+use native.Mathlib.Omega.{arith}
+use lib.ListN.{length, getElem?}
 use lib.Dec.{T, eqb, eqb→eq, eqb-refl}
 use Rattle.horn.specs.Names.{named, sameList, first, someOf}
 use Rattle.horn.specs.Rulebook.{Output, sort, judgment, sameOutput, Symbol, symbol, sameSymbol}
@@ -198,3 +199,28 @@ pub at-member : {A : Type 0} (xs : List A) (n : ℕ) {a : A} → getElem? xs n �
 at-member [] n e = let z : _≡_ {A = Bool} true false = cc in absurd (true≢false z)
 at-member (x ∷ xs) zero {a} e = let h : a ≡ x = cc in List·Memᴰ·head h
 at-member (x ∷ xs) (suc n) e = List·Memᴰ·tail (at-member xs n e)
+
+-- Places of a list: which are there, and what they hold once there is one more.
+pub at-below : {A : Type 0} (xs : List A) (n : ℕ) {a : A} → getElem? xs n ≡ some a → n < length xs
+at-below [] n e = let z : _≡_ {A = Bool} true false = cc in absurd (true≢false z)
+at-below (x ∷ xs) zero e = omega arith
+at-below (x ∷ xs) (suc n) e = let h = at-below xs n e in omega arith
+
+pub at-there : {A : Type 0} (xs : List A) (n : ℕ) → n < length xs → (a : A) × (getElem? xs n ≡ some a)
+at-there [] n h = absurd (omega arith)
+at-there (x ∷ xs) zero h = (x, refl)
+at-there (x ∷ xs) (suc n) h = at-there xs n (omega arith)
+
+pub at-longer : {A : Type 0} (xs ys : List A) (n : ℕ) {a : A} → getElem? xs n ≡ some a → getElem? (xs ++ ys) n ≡ some a
+at-longer [] ys n e = let z : _≡_ {A = Bool} true false = cc in absurd (true≢false z)
+at-longer (x ∷ xs) ys zero e = e
+at-longer (x ∷ xs) ys (suc n) e = at-longer xs ys n e
+
+pub at-or-last {ℓ} : {A : Type 0} {C : Type ℓ} (xs : List A) {a b : A} (n : ℕ) → getElem? (xs ++ (b ∷ [])) n ≡ some a
+    → (getElem? xs n ≡ some a → C)
+    → (n ≡ length xs → a ≡ b → C)
+    → C
+at-or-last [] zero e f g = g refl cc
+at-or-last [] (suc n) e f g = let z : _≡_ {A = Bool} true false = cc in absurd (true≢false z)
+at-or-last (x ∷ xs) zero e f g = f e
+at-or-last (x ∷ xs) (suc n) e f g = at-or-last xs n e f (λ p q. g (omega arith) q)

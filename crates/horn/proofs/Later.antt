@@ -1,5 +1,5 @@
--- Refusals 1 and 2 come from the lengths alone: reading and judging a rulebook gives later ones, and so does all that reads goals
--- and certificate.
+-- Refusals 1 and 2 come from the lengths alone: reading and judging a rulebook gives later ones, 3 to 29, and so does all that reads goals
+-- and certificate. 30 and 31 are those of callers and writers.
 use Prim.Native.Nat.{ℕ, suc, _≤_}
 use mathlib.Core.List.{List, [], _∷_}
 use native.Mathlib.Omega.{arith}
@@ -18,10 +18,10 @@ use Rattle.horn.specs.Matching.{Step, Bind, match, judgmentOf}
 use Rattle.horn.specs.Certificate
 use Rattle.horn.proofs.Post.{either}
 use Rattle.horn.proofs.Refusing.{Refuses, refuses-none, refuses, refuses-bind, refuses-need, refuses-found}
-use Rattle.horn.proofs.Refusing.{Judges, judging-number, judges-declarations}
+use Rattle.horn.proofs.Refusing.{Judges, judging-number, judging-last, judges-declarations}
 
 abbrev pub Later : {A : Type 0} → Result A → Type 0
-Later = Refuses (λ r. 3 ≤ number r)
+Later = Refuses (λ r. (3 ≤ number r) × (number r ≤ 29))
 
 pub later-asked : (depth : ℕ) → Later (askedAt depth)
 unfolding askedAt number
@@ -51,15 +51,15 @@ later-sexps (item then rest) = refuses-bind _ (later-sexp 0 item) λ x. refuses-
 
 pub later-judges : {A : Type 0} {m : Result A} → Judges m → Later m
 later-judges refuses-none = refuses-none
-later-judges (refuses r j) = let h = judging-number j in refuses r (omega arith)
+later-judges (refuses r j) = let h = judging-number j in let k = judging-last j in refuses r (omega arith)
 
--- Reading a rulebook whole and judging it gives no refusal below 3.
+-- Reading a rulebook whole and judging it gives only refusals 3 to 29.
 pub later-theory : (text : List ℕ) → Later (theory text)
 unfolding theory
 later-theory text = refuses-bind _ (later-sexps (items (tokens text))) λ xs. later-judges (judges-declarations emptyTheory xs)
 
 -- The parts that goals and certificate are read by and that do not touch the store.
-pub later-absent : {A : Type 0} (depth : ℕ) (r : Refusal) → 3 ≤ number r → Later (absent {A = A} depth r)
+pub later-absent : {A : Type 0} (depth : ℕ) (r : Refusal) → (3 ≤ number r) × (number r ≤ 29) → Later (absent {A = A} depth r)
 unfolding absent
 later-absent depth r h = refuses-bind _ (later-asked depth) λ _. refuses r h
 

@@ -17,6 +17,8 @@ pub mod RequestsBench
 pub mod Limits
 pub mod Equality
 pub mod Inversion
+pub mod Output
+pub mod OutputCharacters
 pub mod WasRead
 pub mod Declaring
 pub mod Taken
@@ -28,6 +30,11 @@ pub mod SoundnessReading
 pub mod GoalsWritten
 pub mod SoundnessSteps
 pub mod SoundnessCertificate
+pub mod Progressing
+pub mod Used
+pub mod Page
+pub mod PageCall
+pub mod PageBench
 pub mod Soundness
 pub mod SoundnessOfSteps
 pub mod CompleteUtf8

@@ -7,11 +7,10 @@ use lib.ListN.{length}
 use Rattle.horn.specs.Refusals.{Result, ok, refused}
 use Rattle.horn.specs.Setting.{document01}
 use Rattle.horn.specs.Rulebook.{Symbol, symbol, sort, judgment, Theory}
-use Rattle.horn.specs.Matching.{Step}
-use Rattle.horn.specs.Calls.{Report, constructorCount, predicateCount, rulebookAnswer, releaseAnswer, rulebookJudged, releaseJudged}
+use Rattle.horn.specs.Calls.{Report, reportOf, constructorCount, predicateCount, rulebookAnswer, releaseAnswer, rulebookJudged, releaseJudged}
 use Rattle.horn.specs.Calls.{rulebookCall, releaseCall}
 use Rattle.horn.proofs.Accepting.{judged-gives, judged-run}
-use Rattle.horn.proofs.Arising.{last-theory, last-store, last-steps, sixteen-bits-symbols, sixteen-bits-terms, sixteen-bits-steps}
+use Rattle.horn.proofs.Arising.{last-theory, last-store, last-progress, sixteen-bits-symbols, sixteen-bits-terms, sixteen-bits-steps}
 
 -- 01's limits: bytes of the three texts, words of the areas, nodes of the store and their words.
 pub document01-values :
@@ -26,16 +25,16 @@ abbrev Counted : Report → Type 0
 Counted r = (r .steps < 2 ^ 16) × (r .terms < 2 ^ 16)
 
 pub sixteen-bits : (a b c d : ℕ) (rulebook goals certificate : List ℕ) → Counted (releaseCall document01 a b c d rulebook goals certificate)
-unfolding releaseCall releaseAnswer
+unfolding releaseCall releaseAnswer reportOf
 sixteen-bits a b c d rulebook goals certificate = go (releaseJudged document01 a b c d rulebook goals certificate) refl
   where
     go : (m : Result Report) → releaseJudged document01 a b c d rulebook goals certificate ≡ m → Counted (releaseAnswer m)
     go (refused r) e = (omega arith, omega arith)
     go (ok r) e =
-        let x = judged-run document01 a b c d rulebook goals certificate e in
-        let (now, same, steps) = last-steps document01 rulebook goals certificate (x .short-certificate) (x .gives) (x .read) (x .taken) in
-        subst Counted (x .answers) (
-          subst (λ (y : List Step). length y < 2 ^ 16) same (sixteen-bits-steps steps),
+        let run = judged-run document01 a b c d rulebook goals certificate e in
+        let x = run .met in
+        subst Counted (run .answers) (
+          sixteen-bits-steps (last-progress document01 rulebook goals certificate (x .short-certificate) (x .gives) (x .read) (x .taken)),
           sixteen-bits-terms (last-store document01 rulebook goals certificate (x .gives) (x .read) (x .taken)),
         )
 

@@ -1,5 +1,5 @@
--- All reading of goals and certificate is put together of giving, lifting and storing: nothing else touches the store, and no
--- part of it gives a refusal below 3.
+-- All reading of goals and certificate is put together of giving, lifting and storing: nothing else touches the store, and all
+-- refusals that it gives are 3 to 29.
 use Prim.Native.Nat.{ℕ, suc, _≤_}
 use mathlib.Core.Bool.{Bool}
 use mathlib.Core.List.{List, []}
@@ -26,7 +26,7 @@ use Rattle.horn.proofs.Later.{later-askNumber, later-closing, later-con
 use Rattle.horn.proofs.Later.{later-premises, later-request}
 
 module _ (limits : Setting) where
-  -- How a reading is put together, as `Made` says it, where each result that does not touch the store gives no refusal below 3.
+  -- How a reading is put together, as `Made` says it, where each result that does not touch the store gives only refusals 3 to 29.
   pub data ReadsOf : (A : Type 0) → Reading A → Type 1 where
     reads-give : {A : Type 0} (a : A) → ReadsOf A (give a)
     reads-lift : {A : Type 0} {r : Result A} → Later r → ReadsOf A (lift r)
@@ -55,7 +55,7 @@ module _ (limits : Setting) where
   reads-then : {A B : Type 0} {r : Result A} (f : A → Reading B) → Later r → ((a : A) → Reads (f a)) → Reads (lift r >>= f)
   reads-then f h k = reads-after (reads-lift h) k
 
-  pub reads-need : {B : Type 0} (b : Bool) (f : Unit {0} → Reading B) (r : Refusal) → 3 ≤ number r → ((u : Unit {0}) → Reads (f u))
+  pub reads-need : {B : Type 0} (b : Bool) (f : Unit {0} → Reading B) (r : Refusal) → (3 ≤ number r) × (number r ≤ 29) → ((u : Unit {0}) → Reads (f u))
       → Reads (lift (need b r) >>= f)
   reads-need b f r h k = reads-then f (refuses-need b r h) k
 
@@ -240,7 +240,7 @@ module _ (limits : Setting) where
     reads-certificateOf goals text =
         reads-after (reads-forms (begun goals) (items (tokens text))) λ final. reads-need _ _ Refusal.goalOpen (omega arith) λ _. reads-give _
 
-    -- Neither reading the goals nor reading the certificate gives a refusal below 3.
+    -- Reading the goals and reading the certificate give only refusals 3 to 29.
     pub later-goals : (text : List ℕ) (store : Store) → Later (Checker.goalsOf limits th text store)
     later-goals text = reads-later (reads-goalsOf text)
 

@@ -63,6 +63,18 @@ judging-number fourteen = (omega arith, λ e. omega arith)
 judging-number fifteen = (omega arith, λ e. omega arith)
 judging-number sixteen = (omega arith, λ e. omega arith)
 
+pub judging-last : {r : Refusal} → Judging r → number r ≤ 16
+unfolding number
+judging-last seven = omega arith
+judging-last eight = omega arith
+judging-last nine = omega arith
+judging-last eleven = omega arith
+judging-last twelve = omega arith
+judging-last thirteen = omega arith
+judging-last fourteen = omega arith
+judging-last fifteen = omega arith
+judging-last sixteen = omega arith
+
 abbrev pub Judges : {A : Type 0} → Result A → Type 0
 Judges = Refuses Judging
 

@@ -8,7 +8,7 @@ use lib.ListN.{length, length-append}
 use Rattle.horn.specs.Refusals.{ok}
 use Rattle.horn.specs.Setting.{Setting}
 use Rattle.horn.specs.StoredTerms.{Term, Met, wasFound, wasMade, foundIn, madeIn, metBy, holds, intern, Store, request}
-use Rattle.horn.specs.Calls.{Report, releaseCall}
+use Rattle.horn.specs.Calls.{Report, reportOf, releaseCall}
 use Rattle.horn.specs.Arising.{StoreArises, in-goals, in-certificate}
 use Rattle.horn.proofs.Equality.{case}
 use Rattle.horn.proofs.Inversion.{ok-equal, afterᵣ, after-needᵣ}
@@ -59,10 +59,11 @@ pub record Shares (answer : Report) (ms : List Met) : Type 0 where
   pub made-terms : madeIn ms ≡ answer .terms
 
 pub run-shares : {limits : Setting} {rulebook text certificate : List ℕ} {answer : Report} (run : AcceptedRun limits rulebook text certificate answer)
-    → Shares answer (run .final .requests)
+    → Shares answer (run .release .store .requests)
+unfolding reportOf
 run-shares {limits} {rulebook} {text} {certificate} run =
-    let m = arising-made (last-store limits rulebook text certificate (run .gives) (run .read) (run .taken)) in
-    let f = found-or-made (run .final .requests) in
+    let m = arising-made (last-store limits rulebook text certificate (run .met .gives) (run .met .read) (run .met .taken)) in
+    let f = found-or-made (run .release .store .requests) in
     let t = ap (λ (r : Report). r .terms) (run .answers) in
     let q = ap (λ (r : Report). r .requested) (run .answers) in
     record { found-and-made = omega arith; made-terms = omega arith }
@@ -71,6 +72,6 @@ run-shares {limits} {rulebook} {text} {certificate} run =
 pub release-shares : (limits : Setting) (a b c d : ℕ) (rulebook text certificate : List ℕ)
     → (releaseCall limits a b c d rulebook text certificate) .number ≡ 0
     → (run : AcceptedRun limits rulebook text certificate (releaseCall limits a b c d rulebook text certificate))
-    × Shares (releaseCall limits a b c d rulebook text certificate) (run .final .requests)
+    × Shares (releaseCall limits a b c d rulebook text certificate) (run .release .store .requests)
 release-shares limits a b c d rulebook text certificate e =
     let run = accepted-run limits a b c d rulebook text certificate e in (run, run-shares run)

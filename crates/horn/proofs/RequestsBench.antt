@@ -14,24 +14,25 @@ use Rattle.horn.proofs.Firings.{released}
 use Rattle.horn.proofs.Accepting.{AcceptedRun}
 use Rattle.horn.proofs.Requests.{Shares, run-shares}
 use Rattle.horn.proofs.RequestsBound.{thirty-two-bits-requests}
-use Rattle.horn.proofs.SoundnessBench.{bench-taken}
+use Rattle.horn.proofs.SoundnessBench.{benchProgress, bench-taken}
 
 -- The run of the bench set.
-bench-run : AcceptedRun document01 R G C (report 0 2 1 4 48 7)
+unfoldable pub bench-run : AcceptedRun document01 R G C (report 0 2 1 4 48 7)
 unfolding openAll R G C
 bench-run =
     record {
-      th = benchTheory;
-      goals = benchGoals;
-      store = benchStore;
-      steps = _;
-      final = benchFinal;
-      short = omega arith;
-      short-text = omega arith;
-      short-certificate = omega arith;
-      gives = bench-gives;
-      read = bench-read;
-      taken = bench-taken;
+      release = record { goals = benchGoals; progress = benchProgress; store = benchFinal };
+      met =
+          record {
+            th = benchTheory;
+            store = benchStore;
+            short = omega arith;
+            short-text = omega arith;
+            short-certificate = omega arith;
+            gives = bench-gives;
+            read = bench-read;
+            taken = bench-taken;
+          };
       answers = refl;
     }
 

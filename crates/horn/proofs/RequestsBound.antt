@@ -19,14 +19,14 @@ use Rattle.horn.specs.Checker.{Reading, _>>=_, give, lift, stored, Def, 
 use Rattle.horn.specs.Matching
 use Rattle.horn.specs.Matching.{Step, step, Bind}
 use Rattle.horn.specs.Certificate
-use Rattle.horn.specs.Certificate.{Progress, begun, Given, given, FormWord, stepWord, resultWord, defWord, otherForm, certificateOf}
-use Rattle.horn.specs.Calls.{Report, releaseJudged, releaseAnswer, releaseCall}
+use Rattle.horn.specs.Certificate.{Progress, Given, given, FormWord, stepWord, resultWord, defWord, otherForm, certificateOf}
+use Rattle.horn.specs.Calls.{Report, reportOf, releaseJudged, releaseAnswer, releaseCall}
 use Rattle.horn.specs.Arising.{Proceeds, proceeds-none, proceeds-next}
 use Rattle.horn.proofs.Post.{either}
 use Rattle.horn.proofs.Inversion.{ok-equal, afterᵣ, after, given-is, lifted, afterₗ, after-need, after-found, lift-refused}
 use Rattle.horn.proofs.WasRead.{after-stored}
-use Rattle.horn.proofs.Taken.{proceeds-last}
-use Rattle.horn.proofs.Arising.{few-steps, last-steps}
+use Rattle.horn.proofs.Taken.{certificate-proceeds}
+use Rattle.horn.proofs.Arising.{few-steps, last-progress}
 use Rattle.horn.proofs.Accepting.{AcceptedRun, judged-run}
 use Rattle.horn.proofs.RequestsBoundAtoms.{atoms, atomsOf, few-atoms, word-atoms, group-atoms, asked-atoms, asked-word-atoms}
 use Rattle.horn.proofs.RequestsBoundAtoms.{asked-group-atoms, asked-number-atoms}
@@ -277,7 +277,7 @@ module _ (limits : Setting) where
           let c₁ = (costs-conclude (now .steps) r refs g) .costs t f₅ in
           let b = small (p₁ .0) r e₆ in
           let k = ap (λ (x : Progress). length (x .steps) * n) same in
-          let k₁ = ap (_* n) (length-append (now .steps) (step j r ∷ [])) in
+          let k₁ = ap (_* n) (length-append (now .steps) (step j r refs ∷ [])) in
           let l = ap (λ (x : Store). length (x .requests)) z in
           omega arith
 
@@ -312,43 +312,36 @@ module _ (limits : Setting) where
           omega arith
 
       -- A certificate costs at most its bytes, and `n` for each step.
-      paid-certificate : (goals : List Goal) (text : List ℕ) (s : Store) {u : Store} {steps : List Step} → certificateOf limits th goals text s ≡ ok (steps, u)
-          → length (u .requests) ≤ length text + length steps * n + length (s .requests)
-      unfolding certificateOf
+      paid-certificate : (goals : List Goal) (text : List ℕ) (s : Store) {u : Store} {last : Progress} → certificateOf limits th goals text s ≡ ok (last, u)
+          → length (u .requests) ≤ length text + length (last .steps) * n + length (s .requests)
       paid-certificate goals text s e =
-          after _ e λ final t e₁ e₂.
-          after-need _ _ _ _ e₂ λ h e₃.
-          given-is e₃ λ same z.
-          let p = paid-forms (proceeds-last limits th (items (tokens text)) (begun goals) s e₁) in
+          let p = paid-forms ((certificate-proceeds limits th goals text s e) .0) in
           let w = few-atoms text in
-          let k = ap (λ (x : List Step). length x * n) same in
-          let l = ap (λ (x : Store). length (x .requests)) z in
           omega arith
 
 -- In an accepted run at most one request for each byte of the goals text and of the certificate, and for each step one for each byte of
 -- the rulebook.
-pub requests-paid : (limits : Setting) (rulebook text certificate : List ℕ) {th : Theory} {goals : List Goal} {steps : List Step} {s u : Store}
+pub requests-paid : (limits : Setting) (rulebook text certificate : List ℕ) {th : Theory} {goals : List Goal} {last : Progress} {s u : Store}
     → theory rulebook ≡ ok th
     → goalsOf limits th text emptyStore ≡ ok (goals, s)
-    → certificateOf limits th goals certificate s ≡ ok (steps, u)
-    → length (u .requests) ≤ length text + length certificate + length steps * length rulebook
+    → certificateOf limits th goals certificate s ≡ ok (last, u)
+    → length (u .requests) ≤ length text + length certificate + length (last .steps) * length rulebook
 requests-paid limits rulebook text certificate {th} {goals} {s} e e₁ e₂ =
     let g = (costs-text limits th text) .costs emptyStore e₁ in
     let c = paid-certificate limits th (length rulebook) (rule-nodes rulebook e) goals certificate s e₂ in
     omega arith
 
 -- The same by the limits alone, as there are at most as many steps as the certificate has bytes.
-pub few-requests : (limits : Setting) (rulebook text certificate : List ℕ) {th : Theory} {goals : List Goal} {steps : List Step} {s u : Store}
+pub few-requests : (limits : Setting) (rulebook text certificate : List ℕ) {th : Theory} {goals : List Goal} {last : Progress} {s u : Store}
     → length rulebook ≤ limits .rulebookBytes
     → length text ≤ limits .goalsBytes
     → length certificate ≤ limits .certificateBytes
     → theory rulebook ≡ ok th
     → goalsOf limits th text emptyStore ≡ ok (goals, s)
-    → certificateOf limits th goals certificate s ≡ ok (steps, u)
+    → certificateOf limits th goals certificate s ≡ ok (last, u)
     → length (u .requests) ≤ limits .goalsBytes + limits .certificateBytes * (1 + limits .rulebookBytes)
 few-requests limits rulebook text certificate short short-text short-certificate e e₁ e₂ =
-    let (now, same, arises) = last-steps limits rulebook text certificate short-certificate e e₁ e₂ in
-    let few = subst (λ (x : List Step). length x ≤ limits .certificateBytes) same (few-steps limits arises) in
+    let few = few-steps limits (last-progress limits rulebook text certificate short-certificate e e₁ e₂) in
     let p = requests-paid limits rulebook text certificate e e₁ e₂ in
     let m = mul-le-mul few short in
     let d = mul-add (limits .certificateBytes) 1 (limits .rulebookBytes) in
@@ -357,8 +350,10 @@ few-requests limits rulebook text certificate short short-text short-certificate
 -- The same of the report.
 pub few-requests-run : {limits : Setting} {rulebook text certificate : List ℕ} {answer : Report} → AcceptedRun limits rulebook text certificate answer
     → answer .requested ≤ limits .goalsBytes + limits .certificateBytes * (1 + limits .rulebookBytes)
+unfolding reportOf
 few-requests-run {limits} {rulebook} {text} {certificate} run =
-    let h = few-requests limits rulebook text certificate (run .short) (run .short-text) (run .short-certificate) (run .gives) (run .read) (run .taken) in
+    let m = run .met in
+    let h = few-requests limits rulebook text certificate (m .short) (m .short-text) (m .short-certificate) (m .gives) (m .read) (m .taken) in
     let q = ap (λ (r : Report). r .requested) (run .answers) in
     subst (λ n. n ≤ limits .goalsBytes + limits .certificateBytes * (1 + limits .rulebookBytes)) q h
 

@@ -1,4 +1,4 @@
--- What the two calls compute by, to be unfolded: an example is proved by `unfolding openAll` and `refl`.
+-- What the calls compute by, to be unfolded: an example is proved by `unfolding openAll` and `refl`.
 use Prim.Native.Nat.{ℕ}
 use Rattle.horn.specs.Refusals
 use Rattle.horn.specs.Setting
@@ -12,6 +12,10 @@ use Rattle.horn.specs.Checker
 use Rattle.horn.specs.Matching
 use Rattle.horn.specs.Certificate
 use Rattle.horn.specs.Calls
+use Rattle.horn.specs.Layout
+use Rattle.horn.specs.Output
+use Rattle.horn.specs.Used
+use Rattle.horn.specs.Page
 use Rattle.horn.specs.Setting.{Setting, document01}
 
 -- To unfold one of these is to unfold those definitions of the module that it is named after by which the calls compute.
@@ -64,7 +68,7 @@ unfolding Checker._>>=_ Checker.give Checker.lift Checker.wordDue Checker.groupD
 openChecker = tt
 
 unfoldable pub openMatching : Unit {0}
-unfolding Matching.judgmentOf Matching.lookup Matching.matchVar Matching.matchPremises Matching.match Matching.build
+unfolding Matching.judgmentOf Matching.ruleOf Matching.referencesOf Matching.lookup Matching.matchVar Matching.matchPremises Matching.match Matching.build
 openMatching = tt
 
 unfoldable pub openCertificate : Unit {0}
@@ -75,9 +79,22 @@ unfolding Certificate.references Certificate.isBound Certificate.isStated Certif
 openCertificate = tt
 
 unfoldable pub openCalls : Unit {0}
-unfolding Calls.constructorCount Calls.predicateCount Calls.areasLong Calls.rulebookJudged Calls.releaseJudged Calls.rulebookAnswer
+unfolding Calls.constructorCount Calls.predicateCount Calls.areasLong Calls.rulebookJudged Calls.releaseRead Calls.reportOf Calls.releaseJudged Calls.rulebookAnswer
     Calls.releaseAnswer Calls.rulebookCall Calls.releaseCall Calls.areaAfter Calls.leaving Calls.rulebookLeft Calls.releaseLeft
 openCalls = tt
+
+unfoldable pub openOutput : Unit {0}
+unfolding Layout.next Layout.countedTo Layout.plain Layout.ruleName Output.fitting Output.written Output.outputOf Output.spaces Output.padded
+    Output.rightAligned Output.goesOn Output.cut Output.nameField
+openOutput = tt
+
+unfoldable pub openUsed : Unit {0}
+unfolding Used.resultStep Used.referencesAt Used.usedBelow Used.usedSteps
+openUsed = tt
+
+unfoldable pub openPage : Unit {0}
+unfolding Page.goalLine Page.isResultOf Page.lineOf Page.goalLines Page.percentage Page.lastLine Page.pageOf Page.pageJudged Page.pageCall Page.pageLeft
+openPage = tt
 
 -- 01's limits, but for those of the store.
 unfoldable pub storeOf : ℕ → ℕ → Setting
@@ -92,8 +109,8 @@ storeOf nodes words =
       nodeWords = words;
     }
 
--- To unfold this is to unfold all that the two calls compute by, and `storeOf`.
+-- To unfold this is to unfold all that the calls compute by, and `storeOf`.
 unfoldable pub openAll : Unit {0}
 unfolding storeOf openRefusals openSetting openUtf8 openTokens openNestedLists openNames openRulebook openStoredTerms openChecker openMatching
-    openCertificate openCalls
+    openCertificate openCalls openOutput openUsed openPage
 openAll = tt

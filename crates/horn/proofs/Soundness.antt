@@ -33,17 +33,19 @@ pub soundness : (limits : Setting) (a b c d : ℕ) (rulebook text certificate : 
     → (releaseCall limits a b c d rulebook text certificate) .number ≡ 0
     → Established limits rulebook text Derivable
 soundness limits a b c d rulebook text certificate zero-number =
-    let x = accepted-run limits a b c d rulebook text certificate zero-number in
-    let one = apart-one-each (x .goals) (text-apart limits (x .th) text (x .read)) in
+    let run = accepted-run limits a b c d rulebook text certificate zero-number in
+    let x = run .met in
+    let gs = run .release .goals in
+    let one = apart-one-each (gs) (text-apart limits (x .th) text (x .read)) in
     record {
       th = x .th;
       gives = x .gives;
       accepted = gives-accepted record { short = x .short; gives = x .gives };
       without-refusal = given-reading limits (x .th) text (x .short-text) (x .read);
-      goals = x .goals;
+      goals = gs;
       has = read-has limits (x .th) text (x .read);
-      some-goal = not-empty (x .goals) ((text-read limits (x .th) text (x .read)) .0);
-      each = certificate-sound limits (x .th) (theory-formed rulebook (x .gives)) (x .goals) certificate (x .store) one (x .taken);
+      some-goal = not-empty (gs) ((text-read limits (x .th) text (x .read)) .0);
+      each = certificate-sound limits (x .th) (theory-formed rulebook (x .gives)) (gs) certificate (x .store) one (x .taken);
     }
 
 -- The same, as the contract of the call says it.

@@ -11,7 +11,7 @@ use Rattle.horn.specs.Rulebook.{Theory, premisesOf, conclusionOf}
 use Rattle.horn.specs.StoredTerms.{Term, node, []ₜ, _∷ₜ_, Store, emptyStore}
 use Rattle.horn.specs.Checker.{Goal, goal, goalJudgment, goalsOf}
 use Rattle.horn.specs.Matching.{Step, step, judgmentOf, ruleOf}
-use Rattle.horn.specs.Certificate.{certificateOf}
+use Rattle.horn.specs.Certificate.{Progress, witness, certificateOf}
 use Rattle.horn.specs.Calls.{releaseCall}
 use Rattle.horn.specs.Written.{symbolName, constantOr, termSexp, judgmentSexp, goalSexp}
 use Rattle.horn.specs.Forced.{substitute, Instance, premises, conclusion, Derivable, Derivables, Forced, ForcedAmongSorted, Concluded, HasGoals}
@@ -65,32 +65,41 @@ bench-forced = said Forced (soundness-forced document01 16_384 16_384 16_384 16_
 pub bench-among-sorted {ℓ} : ForcedAmongSorted {ℓ} benchTheory benchJudgment
 bench-among-sorted = said ForcedAmongSorted (soundness-among-sorted document01 16_384 16_384 16_384 16_384 R G C bench-zero)
 
--- The second step: an instance of `more` concludes it, from derivable premises.
-pub bench-taken :
-    certificateOf document01 benchTheory benchGoals C benchStore
-    ≡ ok (step (node hold (zeroTerm ∷ₜ []ₜ)) base ∷ step benchJudgment more ∷ [], benchFinal)
+-- What the certificate comes to.
+abbrev pub benchProgress : Progress
+benchProgress =
+    record {
+      defs = [];
+      openGoals = [];
+      steps = step (node hold (zeroTerm ∷ₜ []ₜ)) base [] ∷ step benchJudgment more (0 ∷ []) ∷ [];
+      results = witness (codes "g") 1 ∷ [];
+    }
+
+pub bench-taken : certificateOf document01 benchTheory benchGoals C benchStore ≡ ok (benchProgress, benchFinal)
 unfolding openAll R G C
 bench-taken = refl
 
+-- The second step: an instance of `more` concludes it, from derivable premises.
 of-run : (th : Theory) → benchTheory ≡ th → (goals : List Goal) (store : Store) → goalsOf document01 th G emptyStore ≡ ok (goals, store)
-    → (steps : List Step) (final : Store) → certificateOf document01 th goals C store ≡ ok (steps, final)
-    → ((t : Step) → List·Memᴰ t steps → Concluded th (judgmentOf t) (ruleOf t))
+    → (last : Progress) (final : Store) → certificateOf document01 th goals C store ≡ ok (last, final)
+    → ((t : Step) → List·Memᴰ t (last .steps) → Concluded th (judgmentOf t) (ruleOf t))
     → Concluded benchTheory benchJudgment more
 unfolding judgmentOf ruleOf
-of-run th e goals store r steps final c each =
+of-run th e goals store r last final c each =
     let r′ = subst (λ x. goalsOf document01 x G emptyStore ≡ ok (goals, store)) (sym e) r in
-    let c′ = subst (λ x. certificateOf document01 x goals C store ≡ ok (steps, final)) (sym e) c in
+    let c′ = subst (λ x. certificateOf document01 x goals C store ≡ ok (last, final)) (sym e) c in
     let read = ok-equal (sym bench-read ∙ r′) in
-    let c″ = subst (λ q. certificateOf document01 benchTheory (q .0) C (q .1) ≡ ok (steps, final)) (sym read) c′ in
-    let taken = ap (λ q. q .0) (ok-equal (sym bench-taken ∙ c″)) in
+    let c″ = subst (λ q. certificateOf document01 benchTheory (q .0) C (q .1) ≡ ok (last, final)) (sym read) c′ in
+    let taken = ap (λ (q : Progress × Store). q .0 .steps) (ok-equal (sym bench-taken ∙ c″)) in
     subst (λ x. Concluded x benchJudgment more) (sym e)
-    (each (step benchJudgment more) (subst (List·Memᴰ _) taken (List·Memᴰ·tail (List·Memᴰ·head refl))))
+    (each (step benchJudgment more (0 ∷ [])) (subst (List·Memᴰ _) taken (List·Memᴰ·tail (List·Memᴰ·head refl))))
 
 pub bench-step : Concluded benchTheory benchJudgment more
 bench-step =
     let x = release-steps document01 16_384 16_384 16_384 16_384 R G C bench-zero in
-    of-run (x .run .th) (ok-equal (sym bench-gives ∙ x .run .gives))
-    (x .run .goals) (x .run .store) (x .run .read) (x .run .steps) (x .run .final) (x .run .taken)
+    let m = x .run .met in
+    of-run (m .th) (ok-equal (sym bench-gives ∙ m .gives)) (x .run .release .goals) (m .store) (m .read) (x .run .release .progress) (x .run .release .store)
+    (m .taken)
     (x .each)
 
 -- The only premise of the instance that concludes the second step is `(hold z)`.

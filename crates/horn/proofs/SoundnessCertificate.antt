@@ -8,26 +8,23 @@ use lib.ListN.{length}
 use Rattle.horn.specs.Refusals.{ok}
 use Rattle.horn.specs.Setting.{Setting}
 use Rattle.horn.specs.Names.{Name, isZero}
-use Rattle.horn.specs.Tokens.{tokens}
-use Rattle.horn.specs.NestedLists.{Items, items}
+use Rattle.horn.specs.NestedLists.{Items}
 use Rattle.horn.specs.Rulebook.{Rule, Theory}
 use Rattle.horn.specs.StoredTerms.{Term, Store}
 use Rattle.horn.specs.Checker.{Def, def, meaning, Goal, isGoal, goalJudgment}
 use Rattle.horn.specs.Matching.{Step, step, judgmentOf, ruleOf}
-use Rattle.horn.specs.Certificate
-use Rattle.horn.specs.Certificate.{Progress, without}
+use Rattle.horn.specs.Certificate.{Progress, begun, without, certificateOf}
 use Rattle.horn.specs.Arising.{Proceeds, proceeds-none, proceeds-next}
 use Rattle.horn.specs.Forced.{Derivable, Concluded}
 use Rattle.horn.proofs.Equality.{case, chose-true, chose-false, sameTerm-decides, first-some, in-cons, in-or-last, at-member}
-use Rattle.horn.proofs.Inversion.{after, given-is, after-need}
-use Rattle.horn.proofs.Taken.{Taken, def-taken, step-taken, result-taken, form-taken, proceeds-last}
+use Rattle.horn.proofs.Taken.{Taken, def-taken, step-taken, result-taken, form-taken, certificate-proceeds}
 use Rattle.horn.proofs.SoundnessWords.{WellFormed}
 use Rattle.horn.proofs.SoundnessReading.{SomeSort, GroundDefs, term-sorted, OneEach}
 use Rattle.horn.proofs.WasRead.{asked-term-read}
 use Rattle.horn.proofs.SoundnessSteps.{concluded-derivable, SoundSteps, step-concluded}
 
 -- Where the goals of a name are taken out, a goal has that name or stays; and a goal that stays was there.
-named-or-kept {ℓ} : {C : Type ℓ} (name : Name) (gs : List Goal) {g : Goal} → List·Memᴰ g gs → (isGoal name g ≡ true → C)
+pub named-or-kept {ℓ} : {C : Type ℓ} (name : Name) (gs : List Goal) {g : Goal} → List·Memᴰ g gs → (isGoal name g ≡ true → C)
     → (List·Memᴰ g (without name gs) → C)
     → C
 unfolding without
@@ -41,13 +38,17 @@ named-or-kept name (x ∷ gs) (List·Memᴰ·tail m) f k =
     (λ p. k (subst (List·Memᴰ _) (sym (chose-true _ _ p)) n))
     (λ p. k (subst (List·Memᴰ _) (sym (chose-false _ _ p)) (List·Memᴰ·tail n)))
 
-was-there : (name : Name) (gs : List Goal) {g : Goal} → List·Memᴰ g (without name gs) → List·Memᴰ g gs
+pub was-there : (name : Name) (gs : List Goal) {g : Goal} → List·Memᴰ g (without name gs) → List·Memᴰ g gs
 unfolding without
 was-there name [] m = m
 was-there name (x ∷ gs) {g} m =
     case (isGoal name x)
     (λ p. List·Memᴰ·tail (was-there name gs (subst (List·Memᴰ g) (chose-true _ _ p) m)))
     (λ p. in-cons (λ n. was-there name gs n) (subst (List·Memᴰ g) (chose-false _ _ p) m))
+
+pub none-open : {C : Type 0} (gs : List Goal) {g : Goal} → isZero (length gs) ≡ true → List·Memᴰ g gs → C
+unfolding isZero
+none-open (x ∷ gs) e m = absurd (true≢false (sym e))
 
 -- What holds between the forms: each of the goals is still open, or its judgment is derivable.
 pub record SoundProgress (th : Theory) (goals : List Goal) (now : Progress) : Type 0 where
@@ -60,9 +61,10 @@ def-more : {th : Theory} (defs : List Def) (name : Name) (t : Term) → GroundDe
 unfolding meaning
 def-more {th} defs name t ds g d m = in-or-last defs m (ds d) (λ e. subst (λ z. SomeSort th (meaning z)) (sym e) g)
 
-step-more : {th : Theory} (steps : List Step) (j : Term) (r : Rule) → SoundSteps th steps → Concluded th j r → SoundSteps th (steps ++ (step j r ∷ []))
+step-more : {th : Theory} (steps : List Step) (j : Term) (r : Rule) (refs : List ℕ) → SoundSteps th steps → Concluded th j r
+    → SoundSteps th (steps ++ (step j r refs ∷ []))
 unfolding judgmentOf ruleOf
-step-more {th} steps j r ss c s m =
+step-more {th} steps j r refs ss c s m =
     in-or-last steps m (ss s) (λ e. subst (λ z. Concluded th (judgmentOf z) (ruleOf z)) (sym e) c)
 
 module _ (limits : Setting) (th : Theory) (w : WellFormed th) (goals : List Goal) where
@@ -80,7 +82,7 @@ module _ (limits : Setting) (th : Theory) (w : WellFormed th) (goals : List Goal
       record {
         ground-defs = sp .ground-defs;
         sound-steps =
-            step-more (now .steps) j r (sp .sound-steps)
+            step-more (now .steps) j r refs (sp .sound-steps)
             (step-concluded limits th w (now .defs) (sp .ground-defs) (now .steps) (sp .sound-steps) name e refs is g s e₁ e₂);
         one-each = sp .one-each;
         open-or-derived = sp .open-or-derived;
@@ -107,38 +109,29 @@ module _ (limits : Setting) (th : Theory) (w : WellFormed th) (goals : List Goal
   sound-proceeds sp proceeds-none = sp
   sound-proceeds {now} sp (proceeds-next {item = item} {s = s} e p) = sound-proceeds (sound-taken sp (form-taken limits th now item s e)) p
 
-  none-open : {C : Type 0} (gs : List Goal) {g : Goal} → isZero (length gs) ≡ true → List·Memᴰ g gs → C
-  unfolding isZero
-  none-open (x ∷ gs) e m = absurd (true≢false (sym e))
-
-  sound-begun : OneEach goals → SoundProgress th goals (record { defs = []; openGoals = goals; steps = [] })
+  sound-begun : OneEach goals → SoundProgress th goals (begun goals)
   sound-begun one = record { ground-defs = λ d m. elim m [ ]; sound-steps = λ t m. elim m [ ]; one-each = one; open-or-derived = λ x m. inl m }
 
   -- A certificate that is not refused ends in progress that is sound and has no open goal.
-  sound-end : (text : List ℕ) (s : Store) {s′ : Store} {steps : List Step} → OneEach goals
-      → Certificate.certificateOf limits th goals text s ≡ ok (steps, s′)
-      → (final : Progress) × SoundProgress th goals final × (isZero (length (final .openGoals)) ≡ true) × (final .steps ≡ steps)
-  unfolding Certificate.certificateOf
+  sound-end : (text : List ℕ) (s : Store) {s′ : Store} {last : Progress} → OneEach goals
+      → certificateOf limits th goals text s ≡ ok (last, s′)
+      → SoundProgress th goals last × (isZero (length (last .openGoals)) ≡ true)
   sound-end text s one e =
-      after _ e λ final s₁ e₁ e₂.
-      after-need _ _ _ _ e₂ λ h e₃.
-      given-is e₃ λ same q.
-      (final, sound-proceeds (sound-begun one) (proceeds-last limits th (items (tokens text)) _ s e₁), h, same)
+      let (p, none) = certificate-proceeds limits th goals text s e in
+      (sound-proceeds (sound-begun one) p, none)
 
   -- If a certificate is not refused, the judgment of each goal is derivable.
-  pub certificate-sound : (text : List ℕ) (s : Store) {s′ : Store} {steps : List Step} → OneEach goals
-      → Certificate.certificateOf limits th goals text s ≡ ok (steps, s′)
+  pub certificate-sound : (text : List ℕ) (s : Store) {s′ : Store} {last : Progress} → OneEach goals
+      → certificateOf limits th goals text s ≡ ok (last, s′)
       → (g : Goal)
       → List·Memᴰ g goals
       → Derivable th (goalJudgment g)
   certificate-sound text s one e g m =
-      let (final, sp, none, same) = sound-end text s one e in
-      ⊎-elim (λ o. none-open (final .openGoals) none o) (λ d. d) (sp .open-or-derived g m)
+      let (sp, none) = sound-end text s one e in
+      ⊎-elim (λ o. none-open _ none o) (λ d. d) (sp .open-or-derived g m)
 
   -- If a certificate is not refused, an instance of its own rule concludes each step, from derivable premises.
-  pub steps-sound : (text : List ℕ) (s : Store) {s′ : Store} {steps : List Step} → OneEach goals
-      → Certificate.certificateOf limits th goals text s ≡ ok (steps, s′)
-      → SoundSteps th steps
-  steps-sound text s one e =
-      let (final, sp, none, same) = sound-end text s one e in
-      subst (SoundSteps th) same (sp .sound-steps)
+  pub steps-sound : (text : List ℕ) (s : Store) {s′ : Store} {last : Progress} → OneEach goals
+      → certificateOf limits th goals text s ≡ ok (last, s′)
+      → SoundSteps th (last .steps)
+  steps-sound text s one e = (sound-end text s one e) .0 .sound-steps

@@ -14,15 +14,17 @@ use Rattle.horn.proofs.Accepting.{AcceptedRun, accepted-run}
 -- The run of an accepted release, with what is said of its steps.
 pub record Stepwise (limits : Setting) (rulebook text certificate : List ℕ) (answer : Report) : Type 0 where
   pub run : AcceptedRun limits rulebook text certificate answer
-  pub each : (s : Step) → List·Memᴰ s (run .steps) → Concluded (run .th) (judgmentOf s) (ruleOf s)
+  pub each : (s : Step) → List·Memᴰ s (run .release .progress .steps) → Concluded (run .met .th) (judgmentOf s) (ruleOf s)
 
 pub release-steps : (limits : Setting) (a b c d : ℕ) (rulebook text certificate : List ℕ)
     → (releaseCall limits a b c d rulebook text certificate) .number ≡ 0
     → Stepwise limits rulebook text certificate (releaseCall limits a b c d rulebook text certificate)
 release-steps limits a b c d rulebook text certificate zero-number =
-    let x = accepted-run limits a b c d rulebook text certificate zero-number in
-    let one = apart-one-each (x .goals) (text-apart limits (x .th) text (x .read)) in
+    let run = accepted-run limits a b c d rulebook text certificate zero-number in
+    let x = run .met in
+    let gs = run .release .goals in
+    let one = apart-one-each gs (text-apart limits (x .th) text (x .read)) in
     record {
-      run = x;
-      each = steps-sound limits (x .th) (theory-formed rulebook (x .gives)) (x .goals) certificate (x .store) one (x .taken);
+      run = run;
+      each = steps-sound limits (x .th) (theory-formed rulebook (x .gives)) gs certificate (x .store) one (x .taken);
     }

@@ -3,19 +3,21 @@
 use Prim.Native.Nat.{ℕ}
 use mathlib.Core.Path.{_≡_, subst}
 use mathlib.Core.Bool.{true}
-use mathlib.Core.List.{List, [], _∷_, _++_}
+use mathlib.Core.List.{List, []}
 use mathlib.Core.Option.{none, some}
-use lib.ListN.{getElem?}
+use lib.ListN.{length, getElem?}
 use Rattle.horn.specs.Refusals.{ok}
 use Rattle.horn.specs.Setting.{Setting}
-use Rattle.horn.specs.Names.{Name, first}
-use Rattle.horn.specs.NestedLists.{Item, Items, closed, ended, badLine, _then_}
+use Rattle.horn.specs.Names.{Name, first, isZero}
+use Rattle.horn.specs.Tokens.{tokens}
+use Rattle.horn.specs.NestedLists.{Item, Items, closed, ended, badLine, _then_, items}
 use Rattle.horn.specs.Rulebook.{Rule, Theory, ruleNamed}
 use Rattle.horn.specs.StoredTerms.{Term, sameTerm, Store}
 use Rattle.horn.specs.Checker.{def, Goal, isGoal, goalJudgment, askTerm}
 use Rattle.horn.specs.Matching.{Step, step, judgmentOf}
 use Rattle.horn.specs.Certificate
-use Rattle.horn.specs.Certificate.{Progress, Given, given, without, stepItems, conclude, certificateForm, certificateForms}
+use Rattle.horn.specs.Certificate.{Progress, begun, withDef, withStep, withResult, Given, given, stepItems, conclude, certificateForm, certificateForms}
+use Rattle.horn.specs.Certificate.{certificateOf}
 use Rattle.horn.specs.Certificate.{FormWord, stepWord, resultWord, defWord, otherForm}
 use Rattle.horn.specs.Arising.{Proceeds, proceeds-none, proceeds-next}
 use Rattle.horn.proofs.Inversion.{after, given-is, afterₗ, after-need, after-found, lift-refused}
@@ -23,15 +25,15 @@ use Rattle.horn.proofs.Inversion.{after, given-is, afterₗ, after-need
 module _ (limits : Setting) (th : Theory) where
   pub data Taken (now : Progress) (s : Store) : Progress → Type 0 where
     def-taken : (name : Name) (is : Items) {q : Term × Items} {s₁ : Store} → askTerm limits th (now .defs) 1 is s ≡ ok (q, s₁)
-        → Taken now s record { defs = now .defs ++ (def name (q .0) ∷ []); openGoals = now .openGoals; steps = now .steps }
+        → Taken now s (withDef now (def name (q .0)))
     step-taken : (name : Name) (is : Items) (refs : List ℕ) {r : Rule} {g : Given} {j : Term} {s₁ s₂ : Store} → ruleNamed th name ≡ ok r
         → stepItems limits th (now .defs) r is (given [] none) s ≡ ok (g, s₁)
         → conclude limits th (now .steps) r refs g s₁ ≡ ok (j, s₂)
-        → Taken now s record { defs = now .defs; openGoals = now .openGoals; steps = now .steps ++ (step j r ∷ []) }
+        → Taken now s (withStep now (step j r refs))
     result-taken : (name : Name) (n : ℕ) {g : Goal} {t : Step} → first (isGoal name) (now .openGoals) ≡ some g
         → getElem? (now .steps) n ≡ some t
         → sameTerm (judgmentOf t) (goalJudgment g) ≡ true
-        → Taken now s record { defs = now .defs; openGoals = without name (now .openGoals); steps = now .steps }
+        → Taken now s (withResult now name n)
 
   def-is : (now : Progress) (is : Items) (s : Store) {s′ : Store} {next : Progress} → Certificate.defForm limits th now is s ≡ ok (next, s′)
       → Taken now s next
@@ -94,3 +96,15 @@ module _ (limits : Setting) (th : Theory) where
   proceeds-last badLine now s e = lift-refused _ _ e
   proceeds-last closed now s e = lift-refused _ _ e
   proceeds-last (item then rest) now s e = after _ e λ next t e₁ e₂. proceeds-next e₁ (proceeds-last rest next t e₂)
+
+  -- A certificate that is not refused: its forms proceed to the last, and no goal is open then.
+  pub certificate-proceeds : (goals : List Goal) (text : List ℕ) (s : Store) {t : Store} {last : Progress} → certificateOf limits th goals text s ≡ ok (last, t)
+      → Proceeds limits th (begun goals) (items (tokens text)) s last t × (isZero (length (last .openGoals)) ≡ true)
+  unfolding certificateOf
+  certificate-proceeds goals text s {t = u} {last = last} e =
+      after _ e λ final t e₁ e₂.
+      after-need _ _ _ _ e₂ λ h e₃.
+      given-is e₃ λ same q.
+      let is = items (tokens text) in
+      let p : Proceeds limits th (begun goals) is s final u = subst (Proceeds limits th (begun goals) is s final) q (proceeds-last is (begun goals) s e₁) in
+      (subst (λ (x : Progress). Proceeds limits th (begun goals) is s x u) same p, subst (λ (x : Progress). isZero (length (x .openGoals)) ≡ true) same h)

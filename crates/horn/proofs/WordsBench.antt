@@ -12,7 +12,7 @@ use Rattle.horn.specs.NestedLists.{Item, word, group, Items, closed, end
 use Rattle.horn.specs.Rulebook.{Theory}
 use Rattle.horn.specs.StoredTerms.{node, []ₜ, _∷ₜ_, wasFound, wasMade, Store}
 use Rattle.horn.specs.Matching.{Step, step}
-use Rattle.horn.specs.Certificate.{Progress, begun}
+use Rattle.horn.specs.Certificate.{Progress, witness, begun}
 use Rattle.horn.specs.Calls.{rulebookCall}
 use Rattle.horn.specs.Arising.{TheoryArises, declares-none, declares-next, Proceeds, proceeds-none, proceeds-next, StoreArises, ProgressArises}
 use Rattle.horn.specs.Forced.{Accepted}
@@ -85,10 +85,13 @@ unfolding openAll resultTwice
 twice-forms = refl
 
 abbrev firstStep : Step
-firstStep = step (node hold (zeroTerm ∷ₜ []ₜ)) base
+firstStep = step (node hold (zeroTerm ∷ₜ []ₜ)) base []
+
+abbrev secondStep : Step
+secondStep = step benchJudgment more (0 ∷ [])
 
 abbrev threeForms : Progress
-threeForms = progress [] (firstStep ∷ step benchJudgment more ∷ [])
+threeForms = progress [] (firstStep ∷ secondStep ∷ []) (witness (codes "g") 1 ∷ [])
 
 -- The store between the two steps.
 abbrev afterFirst : Store
@@ -97,8 +100,8 @@ afterFirst = record { terms = benchFinal .terms; requests = wasMade ∷ wasFound
 twice-proceeds : Proceeds document01 benchTheory (begun benchGoals) twiceItems benchStore threeForms benchFinal
 unfolding openAll
 twice-proceeds =
-    proceeds-next {next = progress benchGoals (firstStep ∷ [])} {t = afterFirst} refl
-    (proceeds-next {next = progress benchGoals (firstStep ∷ step benchJudgment more ∷ [])} {t = benchFinal} refl
+    proceeds-next {next = progress benchGoals (firstStep ∷ []) []} {t = afterFirst} refl
+    (proceeds-next {next = progress benchGoals (firstStep ∷ secondStep ∷ []) []} {t = benchFinal} refl
     (proceeds-next {next = threeForms} {t = benchFinal} refl proceeds-none))
 
 pub twice-arises : ProgressArises document01 R G resultTwice threeForms

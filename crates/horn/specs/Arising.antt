@@ -12,7 +12,6 @@ use Rattle.horn.specs.NestedLists.{Item, Items, _then_, items, Sexp, Sex
 use Rattle.horn.specs.Rulebook.{Theory, declaration, emptyTheory, theory}
 use Rattle.horn.specs.StoredTerms.{Term, Store, emptyStore, request}
 use Rattle.horn.specs.Checker.{Reading, _>>=_, give, lift, stored, Goal, goalsOf}
-use Rattle.horn.specs.Matching.{Step}
 use Rattle.horn.specs.Certificate.{Progress, begun, certificateForm, certificateOf}
 
 -- The theories between declarations: the one so far, and those after each declaration that is not refused.
@@ -59,7 +58,7 @@ module _ (limits : Setting) where
     in-goals : {th : Theory} {u : Store} → theory rulebook ≡ ok th → (p : Made (List Goal) (goalsOf limits th text)) → Passes p emptyStore u
         → StoreArises rulebook text certificate u
     in-certificate : {th : Theory} {goals : List Goal} {s u : Store} → theory rulebook ≡ ok th → goalsOf limits th text emptyStore ≡ ok (goals, s)
-        → (p : Made (List Step) (certificateOf limits th goals certificate)) → Passes p s u
+        → (p : Made Progress (certificateOf limits th goals certificate)) → Passes p s u
         → StoreArises rulebook text certificate u
 
   -- Progress that arises in reading the certificate. A certificate longer than the limits allow is refused before any arises.

@@ -7,9 +7,9 @@ use lib.ListN.{length, drop, replicate}
 use Rattle.horn.specs.Refusals.{number, Result, ok, refused, _>>=_, need, areaShort, textLong}
 use Rattle.horn.specs.Setting.{Setting}
 use Rattle.horn.specs.Rulebook.{Symbol, symbol, sort, judgment, Theory, theory}
-use Rattle.horn.specs.StoredTerms.{emptyStore}
-use Rattle.horn.specs.Checker.{goalsOf}
-use Rattle.horn.specs.Certificate.{certificateOf}
+use Rattle.horn.specs.StoredTerms.{Store, emptyStore}
+use Rattle.horn.specs.Checker.{Goal, goalsOf}
+use Rattle.horn.specs.Certificate.{Progress, certificateOf}
 
 -- "One call takes the rulebook alone and answers a number and the counts of sorts, constructors, predicates and rules".
 pub record RulebookReport : Type 0 where
@@ -35,6 +35,17 @@ pub record Report : Type 0 where
 -- A report by its values.
 abbrev pub report : ℕ → ℕ → ℕ → ℕ → ℕ → ℕ → Report
 report n s g t b r = record { number = n; steps = s; goals = g; terms = t; bytes = b; requested = r }
+
+-- What three texts that are not refused have come to: the goals in their order, what the certificate has come to, and the store at its end.
+pub record Release : Type 0 where
+  pub goals : List Goal
+  pub progress : Progress
+  pub store : Store
+
+-- The report of a release that is accepted, whose certificate has so many bytes.
+unfoldable pub reportOf : ℕ → Release → Report
+reportOf bytes r =
+    report 0 (length (r .progress .steps)) (length (r .goals)) (length (r .store .terms)) bytes (length (r .store .requests))
 
 -- How many symbols are constructors, for "the counts of sorts, constructors, predicates and rules".
 unfoldable pub constructorCount : List Symbol → ℕ
@@ -65,17 +76,23 @@ module _ (limits : Setting) where
     theory rulebook
 
   -- "The rulebook whole, the goals whole, the certificate. The first refusal met is given." The store begins empty.
-  -- "Bytes is the certificate's length." L1: "nodes requested, which is every request to the store that was met, found or made".
-  unfoldable pub releaseJudged : ℕ → ℕ → ℕ → ℕ → List ℕ → List ℕ → List ℕ → Result Report
-  releaseJudged a b c d rulebook goals certificate = do
+  unfoldable pub releaseRead : ℕ → ℕ → ℕ → ℕ → List ℕ → List ℕ → List ℕ → Result Release
+  releaseRead a b c d rulebook goals certificate = do
     _ ← areasLong a b c d
     _ ← need (leb (length rulebook) (limits .rulebookBytes)) textLong
     _ ← need (leb (length goals) (limits .goalsBytes)) textLong
     _ ← need (leb (length certificate) (limits .certificateBytes)) textLong
     th ← theory rulebook
     (gs, store) ← goalsOf limits th goals emptyStore
-    (steps, final) ← certificateOf limits th gs certificate store
-    ok (report 0 (length steps) (length gs) (length (final .terms)) (length certificate) (length (final .requests)))
+    (last, final) ← certificateOf limits th gs certificate store
+    ok record { goals = gs; progress = last; store = final }
+
+  -- "A number, steps, goals, terms, bytes." "Bytes is the certificate's length." L1: "nodes requested, which is every request to the store
+  -- that was met, found or made".
+  unfoldable pub releaseJudged : ℕ → ℕ → ℕ → ℕ → List ℕ → List ℕ → List ℕ → Result Report
+  releaseJudged a b c d rulebook goals certificate = do
+    r ← releaseRead a b c d rulebook goals certificate
+    ok (reportOf (length certificate) r)
 
 -- "Number 0 is accepted; a refusal has zero counts."
 unfoldable pub rulebookAnswer : Result Theory → RulebookReport

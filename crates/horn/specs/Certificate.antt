@@ -18,15 +18,28 @@ use Rattle.horn.specs.Checker.{Reading, _>>=_, give, lift, groupDue, ask
 use Rattle.horn.specs.Checker.{Def, def, isDef, Goal, isGoal, goalJudgment, hasSort, askTerm, headedJudgment}
 use Rattle.horn.specs.Matching.{Step, step, judgmentOf, Bind, bind, lookup, match, matchPremises, build}
 
--- What the forms so far have come to: the abbreviations, the goals still open and the steps.
+-- A result that was not refused: its goal's name, and the number of its step.
+pub data Witness : Type 0 where
+  witness : Name → ℕ → Witness
+
+-- What the forms so far have come to: the abbreviations, the goals still open, the steps and the results, each in the order of the forms.
 pub record Progress : Type 0 where
   pub defs : List Def
   pub openGoals : List Goal
   pub steps : List Step
+  pub results : List Witness
 
 -- Before the first form.
 abbrev pub begun : List Goal → Progress
-begun goals = record { defs = []; openGoals = goals; steps = [] }
+begun goals = record { defs = []; openGoals = goals; steps = []; results = [] }
+
+-- With one abbreviation more.
+abbrev pub withDef : Progress → Def → Progress
+withDef now d = record { defs = now .defs ++ (d ∷ []); openGoals = now .openGoals; steps = now .steps; results = now .results }
+
+-- With one step more.
+abbrev pub withStep : Progress → Step → Progress
+withStep now s = record { defs = now .defs; openGoals = now .openGoals; steps = now .steps ++ (s ∷ []); results = now .results }
 
 -- What the items of a step have given: bindings, and the conclusion, if one is stated.
 pub data Given : Type 0 where
@@ -57,6 +70,16 @@ unfoldable pub without : Name → List Goal → List Goal
 without name [] = []
 without name (g ∷ gs) = elim (isGoal name g) [ true ↦ without name gs | false ↦ g ∷ without name gs ]
 
+-- With the result of a goal, which then is open no longer.
+abbrev pub withResult : Progress → Name → ℕ → Progress
+withResult now name n =
+    record {
+      defs = now .defs;
+      openGoals = without name (now .openGoals);
+      steps = now .steps;
+      results = now .results ++ (witness name n ∷ []);
+    }
+
 -- The heads of the three forms of a certificate, and any other head.
 pub data FormWord : Type 0 where
   stepWord resultWord defWord otherForm : FormWord
@@ -81,7 +104,7 @@ module _ (limits : Setting) (th : Theory) where
     (t, is₂) ← askTerm limits th (now .defs) 1 is₁
     _ ← lift (need (not (someOf (isDef name) (now .defs))) duplicate)
     _ ← lift (closingDue is₂)
-    give record { defs = now .defs ++ (def name t ∷ []); openGoals = now .openGoals; steps = now .steps }
+    give (withDef now (def name t))
 
   -- "`(result N I)`: N not a goal still open, 12; I as a number, 18; no such step yet, 24; other judgment, 27; closing."
   unfoldable pub resultForm : Progress → Items → Reading Progress
@@ -92,7 +115,7 @@ module _ (limits : Setting) (th : Theory) where
     s ← lift (found (getElem? (now .steps) n) noSuchStep)
     _ ← lift (need (sameTerm (judgmentOf s) (goalJudgment g)) otherJudgment)
     _ ← lift (closingDue is₂)
-    give record { defs = now .defs; openGoals = without name (now .openGoals); steps = now .steps }
+    give (withResult now name n)
 
   -- "`(?v T)`: unknown v 12, T, closing 10, bound already or wrong sort 21."
   unfoldable pub bindingItem : List Def → Rule → Name → Items → Given → Reading Given
@@ -154,7 +177,7 @@ module _ (limits : Setting) (th : Theory) where
     _ ← lift (need (eqb (length refs) (length (premisesOf r))) referenceCount)
     g ← stepItems (now .defs) r is₃ (given [] none)
     j ← conclude (now .steps) r refs g
-    give record { defs = now .defs; openGoals = now .openGoals; steps = now .steps ++ (step j r ∷ []) }
+    give (withStep now (step j r refs))
 
   -- "Another head is 9."
   unfoldable pub headedForm : FormWord → Progress → Items → Reading Progress
@@ -180,8 +203,8 @@ module _ (limits : Setting) (th : Theory) where
     certificateForms next rest
 
   -- The certificate, for the goals that are open before it. "At the end an open goal is 29."
-  unfoldable pub certificateOf : List Goal → List ℕ → Reading (List Step)
+  unfoldable pub certificateOf : List Goal → List ℕ → Reading Progress
   certificateOf goals text = do
     final ← certificateForms (begun goals) (items (tokens text))
     _ ← lift (need (isZero (length (final .openGoals))) goalOpen)
-    give (final .steps)
+    give final

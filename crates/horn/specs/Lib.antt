@@ -15,3 +15,6 @@ pub mod Arising
 pub mod Forced
 pub mod Layout
 pub mod Demand3
+pub mod Output
+pub mod Used
+pub mod Page

@@ -12,18 +12,22 @@ use Rattle.horn.specs.Rulebook.{sameSymbol, Pattern, var, app, Patterns,
 use Rattle.horn.specs.StoredTerms.{Term, node, Terms, []ₜ, _∷ₜ_, sameTerm}
 use Rattle.horn.specs.Checker.{Reading, _>>=_, give, lift, stored}
 
--- A step: the judgment that it concludes, and the rule that its form names. No answer of a call depends on the rule. It is kept so
--- that a theorem can say: an instance of this rule concludes this judgment (`release-steps` in proofs/SoundnessOfSteps).
+-- A step: the judgment that it concludes, the rule that its form names, and the steps that it refers to, by their numbers. No report looks at
+-- the rule or the references that are kept here; the release page shows the rule and counts what the references lead to.
 pub data Step : Type 0 where
-  step : Term → Rule → Step
+  step : Term → Rule → List ℕ → Step
 
 -- The judgment that a step concludes.
 unfoldable pub judgmentOf : Step → Term
-judgmentOf (step j r) = j
+judgmentOf (step j r refs) = j
 
 -- The rule that a step names.
 unfoldable pub ruleOf : Step → Rule
-ruleOf (step j r) = r
+ruleOf (step j r refs) = r
+
+-- The steps that a step refers to.
+unfoldable pub referencesOf : Step → List ℕ
+referencesOf (step j r refs) = refs
 
 -- A variable with the term that it is bound to.
 pub data Bind : Type 0 where

@@ -1,4 +1,4 @@
--- "Refusals by example" in document 01: one constructor for each row of its table, and its number.
+-- "Refusals by example" in document 01: one constructor for each row of its table, and its number. Behind them the refusals of document 02.
 use Prim.Native.Nat.{ℕ}
 use mathlib.Core.Bool.{Bool, true, false}
 use mathlib.Core.Option.{Option, none, some}
@@ -8,8 +8,10 @@ pub data Refusal : Type 0 where
   areaShort textLong notUtf8 nesting textEnds strayClosing atomOrList emptyList form excess : Refusal
   variableName unknown duplicate twoSorts sortArity bracketedConstant noGoal notNumber stepOrder referenceCount : Refusal
   badBinding secondConclusion badConclusion noSuchStep badPremise unbound otherJudgment storeFull goalOpen notOpened : Refusal
+  -- L2: "31, output longer than the lent buffer, after all of 1 to 29, nothing written".
+  outputLong : Refusal
 
--- Column "No." of the table.
+-- Column "No." of the table, and 31 by L2.
 unfoldable pub number : Refusal → ℕ
 number areaShort = 1
 number textLong = 2
@@ -41,6 +43,7 @@ number otherJudgment = 27
 number storeFull = 28
 number goalOpen = 29
 number notOpened = 30
+number outputLong = 31
 
 -- "The first refusal met is given": a value, or the refusal that ends the call.
 pub data Result (A : Type 0) : Type 0 where

@@ -4,10 +4,13 @@ ghost use lib.ListN.{length};
 ghost use Rattle.horn.specs.Setting.{document01};
 ghost use Rattle.horn.specs.Calls.{called, rulebookLeft, releaseLeft};
 ghost use Rattle.horn.specs.Demand3.{Sound, Complete};
+ghost use Rattle.horn.specs.Page.{pageLeft};
 ghost use Rattle.rulebook_call.specs.Reports.{answered};
 ghost use Rattle.reports.specs.Release.{told};
+ghost use Rattle.writing.specs.Answers.{told as written};
 use reports::Report;
 use rulebook_call::RulebookReport;
+use writing::Written;
 
 // "One call takes the rulebook alone and answers a number and the counts of sorts, constructors, predicates and rules."
 pub fn rulebook(
@@ -41,6 +44,24 @@ pub fn release(
         (now (rulebook .entry)) (now (goals .entry)) (now (certificate .entry)) (told r) ⌝ }
 {
     release_call::release(rulebook, goals, certificate, a, b, c, d)
+}
+
+// L2: the page of an accepted release, to a lent buffer of bytes.
+pub fn page<'a>(
+    rulebook: &'a [u8],
+    goals: &'a [u8],
+    certificate: &[u8],
+    a: &mut [u32],
+    b: &mut [u32],
+    c: &mut [u32],
+    d: &mut [u32],
+    out: &mut [u8],
+) -> Written
+    ensures { λ r. ⌜ called (written r (now (out .exit))) (now (a .exit)) (now (b .exit)) (now (c .exit)) (now (d .exit))
+        ≡ pageLeft document01 (now (a .entry)) (now (b .entry)) (now (c .entry)) (now (d .entry)) (now (rulebook .entry)) (now (goals .entry))
+        (now (certificate .entry)) (now (out .entry)) ⌝ }
+{
+    page_call::page(rulebook, goals, certificate, a, b, c, d, out)
 }
 
 // The call with the rulebook alone, for C and Rust.
@@ -77,4 +98,23 @@ pub extern "C" fn horn_release(
         (now (rulebook .entry)) (now (goals .entry)) (now (certificate .entry)) (told r) ⌝ }
 {
     release(rulebook, goals, certificate, a, b, c, d)
+}
+
+// The call that writes the release page, for C and Rust.
+#[no_mangle]
+pub extern "C" fn horn_page<'a>(
+    rulebook: &'a [u8],
+    goals: &'a [u8],
+    certificate: &[u8],
+    a: &mut [u32],
+    b: &mut [u32],
+    c: &mut [u32],
+    d: &mut [u32],
+    out: &mut [u8],
+) -> Written
+    ensures { λ r. ⌜ called (written r (now (out .exit))) (now (a .exit)) (now (b .exit)) (now (c .exit)) (now (d .exit))
+        ≡ pageLeft document01 (now (a .entry)) (now (b .entry)) (now (c .entry)) (now (d .entry)) (now (rulebook .entry)) (now (goals .entry))
+        (now (certificate .entry)) (now (out .entry)) ⌝ }
+{
+    page(rulebook, goals, certificate, a, b, c, d, out)
 }

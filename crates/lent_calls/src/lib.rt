@@ -1,4 +1,4 @@
-// Either call over lent areas that held other words, and whether the areas are afterwards as the paper says.
+// A call over lent areas that held other words, and whether the areas are afterwards as the paper says.
 use answers::Answer;
 use areas::Before;
 use areas::Lengths;
@@ -27,95 +27,107 @@ fn release_answer(r: reports::Report) -> Answer {
     }
 }
 
-// Either call.
-fn call(
-    alone: bool,
-    rulebook: &[u8],
-    goals: &[u8],
-    certificate: &[u8],
-    a: &mut [u32],
-    b: &mut [u32],
-    c: &mut [u32],
-    d: &mut [u32],
-) -> Answer {
-    if alone {
-        return rulebook_answer(kernel::rulebook(rulebook, a, b, c, d));
-    }
-    release_answer(kernel::release(rulebook, goals, certificate, a, b, c, d))
+// Which call is made.
+enum Kind {
+    Rulebook,
+    Release,
+    Page,
 }
 
-// Either call, with its areas tested.
-fn tested(
-    p: Before,
-    alone: bool,
-    rulebook: &[u8],
-    goals: &[u8],
+// One of the calls. Only that of the page writes to the buffer.
+fn call<'a>(
+    kind: Kind,
+    rulebook: &'a [u8],
+    goals: &'a [u8],
     certificate: &[u8],
     a: &mut [u32],
     b: &mut [u32],
     c: &mut [u32],
     d: &mut [u32],
+    out: &mut [u8],
 ) -> Answer {
-    let x = call(alone, rulebook, goals, certificate, a, b, c, d);
+    match kind {
+        Kind::Rulebook => rulebook_answer(kernel::rulebook(rulebook, a, b, c, d)),
+        Kind::Release => release_answer(kernel::release(rulebook, goals, certificate, a, b, c, d)),
+        Kind::Page => {
+            let w = kernel::page(rulebook, goals, certificate, a, b, c, d, out);
+            answers::written(w.number, w.length)
+        }
+    }
+}
+
+// One of the calls, with its areas tested.
+fn tested<'a>(
+    p: Before,
+    kind: Kind,
+    rulebook: &'a [u8],
+    goals: &'a [u8],
+    certificate: &[u8],
+    a: &mut [u32],
+    b: &mut [u32],
+    c: &mut [u32],
+    d: &mut [u32],
+    out: &mut [u8],
+) -> Answer {
+    let x = call(kind, rulebook, goals, certificate, a, b, c, d, out);
     areas::with_areas(p, x, a, b, c, d)
 }
 
 // The same over areas that held other words.
-fn called(
+fn called<'a>(
     p: Before,
-    alone: bool,
-    rulebook: &[u8],
-    goals: &[u8],
+    kind: Kind,
+    rulebook: &'a [u8],
+    goals: &'a [u8],
     certificate: &[u8],
     a: &mut [u32],
     b: &mut [u32],
     c: &mut [u32],
     d: &mut [u32],
+    out: &mut [u8],
 ) -> Answer {
     areas::fill_all(p.first, p.step, a, b, c, d);
-    tested(p, alone, rulebook, goals, certificate, a, b, c, d)
+    tested(p, kind, rulebook, goals, certificate, a, b, c, d, out)
 }
 
-// As many words of each area as the case lends; 98 where it lends more than there are.
-fn lend(
+// Where a case lends more than there is.
+pub fn too_long() -> Answer {
+    answers::written(98, 0)
+}
+
+// As many words of each area as the case lends.
+fn lend<'a>(
     p: Before,
-    alone: bool,
+    kind: Kind,
     s: Lengths,
-    rulebook: &[u8],
-    goals: &[u8],
+    rulebook: &'a [u8],
+    goals: &'a [u8],
     certificate: &[u8],
     a: &mut [u32],
     b: &mut [u32],
     c: &mut [u32],
     d: &mut [u32],
+    out: &mut [u8],
 ) -> Answer {
     let i = s.first as usize;
     let j = s.second as usize;
     let k = s.third as usize;
     let l = s.fourth as usize;
-    let too_long = Answer {
-        number: 98,
-        first: 0,
-        second: 0,
-        third: 0,
-        fourth: 0,
-        fifth: 0,
-    };
     if a.len() < i {
-        return too_long;
+        return too_long();
     }
     if b.len() < j {
-        return too_long;
+        return too_long();
     }
     if c.len() < k {
-        return too_long;
+        return too_long();
     }
     if d.len() < l {
-        return too_long;
+        return too_long();
     }
     called(
         p,
-        alone,
+        kind,
         rulebook,
         goals,
         certificate,
@@ -123,17 +135,19 @@ fn lend(
         &mut b[..j],
         &mut c[..k],
         &mut d[..l],
+        out,
     )
 }
 
 // What a case answers on areas of its lengths.
-pub fn answered(
+fn lent<'a>(
     p: Before,
-    alone: bool,
+    kind: Kind,
     s: Lengths,
-    rulebook: &[u8],
-    goals: &[u8],
+    rulebook: &'a [u8],
+    goals: &'a [u8],
     certificate: &[u8],
+    out: &mut [u8],
 ) -> Answer {
     let mut a = [0u32; 40000];
     let mut b = [0u32; 40000];
@@ -141,7 +155,7 @@ pub fn answered(
     let mut d = [0u32; 40000];
     lend(
         p,
-        alone,
+        kind,
         s,
         rulebook,
         goals,
@@ -150,5 +164,42 @@ pub fn answered(
         &mut b,
         &mut c,
         &mut d,
+        out,
     )
+}
+
+// The same of either call that answers numbers alone.
+pub fn answered<'a>(
+    p: Before,
+    alone: bool,
+    s: Lengths,
+    rulebook: &'a [u8],
+    goals: &'a [u8],
+    certificate: &[u8],
+) -> Answer {
+    let mut none = [0u8; 1];
+    if alone {
+        return lent(
+            p,
+            Kind::Rulebook,
+            s,
+            rulebook,
+            goals,
+            certificate,
+            &mut none,
+        );
+    }
+    lent(p, Kind::Release, s, rulebook, goals, certificate, &mut none)
+}
+
+// The same of the call that writes the page, to this buffer.
+pub fn page<'a>(
+    p: Before,
+    s: Lengths,
+    rulebook: &'a [u8],
+    goals: &'a [u8],
+    certificate: &[u8],
+    out: &mut [u8],
+) -> Answer {
+    lent(p, Kind::Page, s, rulebook, goals, certificate, out)
 }

@@ -9,6 +9,7 @@ use Rattle.horn.specs.Tokens.{Stream, end, bad, _▹_, Token, opening, closing,
 use Rattle.words.specs.Parts.{part}
 use Rattle.lex.specs.Answers as lexed
 use Rattle.lex.specs.declared.Token.the-variants.{Opening, Closing, Atom}
+use Rattle.lex.specs.declared.Ahead.the-variants.{Nothing}
 use Rattle.lex.specs.declared.Reader.{Reader}
 use Rattle.lex.proofs.Standing as standing
 use Rattle.lex.proofs.Standing.{Stands}
@@ -18,7 +19,7 @@ use Rattle.lex.proofs.Positions.{never-past}
 pub data Takes (text : List ℕ) : Stream Token → lexed.Answer → Type 0 where
   take-end : Takes text end lexed.ended
   take-bad : Takes text bad (lexed.refused 3)
-  take-opening : {r : Reader} {s : Stream Token} → Stands text r s → Takes text (opening ▹ s) (lexed.token Opening r)
+  take-opening : {r : Reader} {s : Stream Token} → Stands text r s → r .ahead ≡ Nothing → Takes text (opening ▹ s) (lexed.token Opening r)
   take-closing : {r : Reader} {s : Stream Token} → Stands text r s → Takes text (closing ▹ s) (lexed.token Closing r)
   take-atom : {a b : ℕ} {r : Reader} {bytes : List ℕ} {s : Stream Token} → Stands text r s → part a b text ≡ bytes → a < b → b ≤ length text
       → Takes text (atom bytes ▹ s) (lexed.token (Atom a b) r)
@@ -39,7 +40,7 @@ module _ (text : List ℕ) where
     by : (a : lexed.Answer) → standing.TakenFrom text (standing.place r) a s → Takes text s a
     by lexed.ended k = rw k take-end
     by (lexed.refused n) k = rw (k .0, k .1) take-bad
-    by (lexed.token Opening q) k = rw (k .next) (take-opening (k .stands))
+    by (lexed.token Opening q) k = rw (k .next) (take-opening (k .stands) (k .cleared))
     by (lexed.token Closing q) k = rw (k .next) (take-closing (k .stands))
     by (lexed.token (Atom a b) q) k =
         let m = k .moved in

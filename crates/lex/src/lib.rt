@@ -95,7 +95,7 @@ impl Reader {
     }
 
     // A reader that has looked at nothing.
-    fn bare(at: usize, end: usize) -> Self
+    pub fn bare(at: usize, end: usize) -> Self
         ensures { λ r. ⌜ r ≡ after at end Nothing ⌝ }
     {
         Reader {

@@ -31,12 +31,12 @@ unfolding ruleNamed
 named-ready {th} w key {r} e = was-found _ _ e λ p. rule-ready (w .formed r (first-some (isRule key) (th .rules) p .0))
 
 -- The steps of the table, whatever else is recorded of them.
-pub steps-at : {es : Entries} {th : Theory} {ts : Store} {table : List ℕ} {steps : List Step} {Recorded : ℕ → ℕ → ℕ → Step → Type 0}
-    → ((j r p : ℕ) (s : Step) → Recorded j r p s → Means es th ts j (judgmentOf s))
+pub steps-at : {es : Entries} {th : Theory} {ts : Store} {table : List ℕ} {steps : List Step} {Recorded : ℕ → ℕ → ℕ → ℕ → Step → Type 0}
+    → ((j r p q : ℕ) (s : Step) → Recorded j r p q s → Means es th ts j (judgmentOf s))
     → length table < 4294967296
     → Steps table Recorded steps
     → StepsAt es th ts table steps
 unfolding StepAt stepJudgment
 steps-at f small s =
     let k = s .inside in
-    record { few = omega arith; each = λ i x e. f _ _ _ x (s .words i x e) }
+    record { few = omega arith; each = λ i x e. f _ _ _ _ x (s .words i x e) }

@@ -10,7 +10,7 @@ use Rattle.horn.specs.Rulebook.{Rule, Theory, premisesOf, variablesOf}
 use Rattle.horn.specs.StoredTerms.{Term, Store}
 use Rattle.horn.specs.Checker.{Def, Goal}
 use Rattle.horn.specs.Matching.{Bind, Step, judgmentOf}
-use Rattle.horn.specs.Certificate.{given, conclude}
+use Rattle.horn.specs.Certificate.{Witness, given, conclude}
 use Rattle.arena.proofs.Settings.{limits-01}
 use Rattle.items.specs.Places as layout
 use Rattle.theory_laws.specs.Representation.{Entries, RuleAt, Holds}
@@ -28,10 +28,10 @@ use Rattle.matching_laws.proofs.Concluding.{ConcludedTo, step-concluded
 
 -- `heap` is the theory's area as the rulebook left it, `now` the same with the bindings of the step.
 pub step-judged : {rules heap : List ℕ} {es : Entries} {top : ℕ} {th : Theory} → Holds rules heap es top th → top ≤ layout.theoryEnd
-    → {goalsText certificate table : List ℕ} {Recorded : ℕ → ℕ → ℕ → Step → Type 0} {tally : Tally} {goals openGoals : List Goal} {defs : List Def}
-    {steps : List Step} {ts : Store}
-    → Tables goalsText certificate table defBuckets (Means es th ts) Recorded tally goals openGoals defs steps
-    → ((j r p : ℕ) (s : Step) → Recorded j r p s → Means es th ts j (judgmentOf s))
+    → {goalsText certificate table : List ℕ} {Recorded : ℕ → ℕ → ℕ → ℕ → Step → Type 0} {tally : Tally} {goals openGoals : List Goal} {defs : List Def}
+    {steps : List Step} {results : List Witness} {ts : Store}
+    → Tables goalsText certificate table defBuckets (Means es th ts) Recorded tally goals openGoals defs steps results
+    → ((j r p q : ℕ) (s : Step) → Recorded j r p q s → Means es th ts j (judgmentOf s))
     → {store stack : List ℕ} → Stored es th document01 indexPlaces store ts → length stack ≡ 16384
     → {e : ℕ} {r : Rule} → RuleAt rules heap es top e r → RuleReady r
     → {refs : List ℕ} → ReferencesAt stack 0 refs → length refs ≡ length (premisesOf r)

@@ -60,7 +60,7 @@ module _ {area : List ℕ} {buckets count base : ℕ} {text : List ℕ} {entries
 
 module _ {A : Type 0} (test : A → Bool) (a : A) where
   -- A search goes on to what is declared last only where it has found nothing.
-  first-last : (xs : List A) → first test xs ≡ none → test a ≡ true → first test (xs ++ (a ∷ [])) ≡ some a
+  pub first-last : (xs : List A) → first test xs ≡ none → test a ≡ true → first test (xs ++ (a ∷ [])) ≡ some a
   unfolding first
   first-last [] n h = rw (h, first)
   first-last (x ∷ xs) n h =
@@ -68,7 +68,7 @@ module _ {A : Type 0} (test : A → Bool) (a : A) where
       (λ p. none-some {a = x} (sym n ∙ rw (p, first)))
       (λ p. rw (p, first) (first-last xs (rw (p, first) at n) h))
 
-  first-before : (xs : List A) → test a ≡ false → first test (xs ++ (a ∷ [])) ≡ first test xs
+  pub first-before : (xs : List A) → test a ≡ false → first test (xs ++ (a ∷ [])) ≡ first test xs
   unfolding first
   first-before [] h = rw (h, first)
   first-before (x ∷ xs) h = case (test x) (λ p. rw (p, first)) (λ p. rw (p, first) (first-before xs h))

@@ -5,7 +5,7 @@ use answers::Answer;
 use case_lines::State;
 
 // One call of a case against the answer that is stated.
-fn compare(alone: bool, s: State, stated: Answer, r: &[u8], g: &[u8], c: &[u8]) -> State {
+fn compare<'a>(alone: bool, s: State, stated: Answer, r: &'a [u8], g: &'a [u8], c: &[u8]) -> State {
     let x = lent_calls::answered(
         areas::garbage(),
         alone,
@@ -18,7 +18,15 @@ fn compare(alone: bool, s: State, stated: Answer, r: &[u8], g: &[u8], c: &[u8]) 
 }
 
 // `release ANSWER`, `rulebook ANSWER` or `both ANSWER`.
-fn answer_line(s: State, list: &[u8], from: u32, to: u32, r: &[u8], g: &[u8], c: &[u8]) -> State {
+fn answer_line<'a>(
+    s: State,
+    list: &[u8],
+    from: u32,
+    to: u32,
+    r: &'a [u8],
+    g: &'a [u8],
+    c: &[u8],
+) -> State {
     let x = case_lines::stated(list, words::plus(case_text::find(list, from, 32), 1), to);
     if case_text::byte_at(list, from) == 98 {
         return compare(true, compare(false, s, x, r, g, c), x, r, g, c);

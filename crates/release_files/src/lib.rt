@@ -117,6 +117,13 @@ pub fn release(rulebook: &[u8], goals: &[u8], certificate: &[u8]) -> Report
     answer(&r, x, &g, y, &c, z)
 }
 
+// Writes bytes to standard output.
+pub fn write(bytes: &[u8]) {
+    if !io::write_all(1, bytes) {
+        os::fail(b"standard output");
+    }
+}
+
 // Writes the line of a report to standard output.
 pub fn print(r: Report) {
     let mut line = [0u8; 66];
@@ -129,7 +136,5 @@ pub fn print(r: Report) {
         r.requested,
         &mut line,
     );
-    if !io::write_all(1, &line[..n]) {
-        os::fail(b"standard output");
-    }
+    write(&line[..n]);
 }

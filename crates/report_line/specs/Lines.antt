@@ -1,7 +1,6 @@
 -- The line that the program prints for a report.
-use Prim.Native.Nat.{ℕ, _+_}
+use Prim.Native.Nat.{ℕ}
 use mathlib.Core.List.{List, [], _∷_, _++_}
-use lib.ListN.{set}
 use Rattle.horn.specs.Calls.{Report}
 use Rattle.horn.specs.Layout.{plain}
 
@@ -18,8 +17,3 @@ line r =
     ++ field (r .terms) 0x09
     ++ field (r .bytes) 0x09
     ++ field (r .requested) 0x0A
-
--- Bytes put one behind the other from place i on, as far as there are such places.
-unfoldable pub written : List ℕ → ℕ → List ℕ → List ℕ
-written [] i s = s
-written (b ∷ bs) i s = written bs (i + 1) (set s i b)

@@ -4,30 +4,18 @@ ghost use mathlib.Core.Path.{_≡_};
 ghost use lib.ListN.{length, take};
 ghost use Rattle.horn.specs.Calls.{report};
 ghost use Rattle.io.specs.Counts.{Counts};
+ghost use Rattle.writing.specs.Buffer.{placed};
 ghost use Rattle.report_line.specs.Lines as lines;
-ghost use Rattle.report_line.specs.Lines.{written};
-
-// Puts the bytes of a text from a place on.
-fn push(out: &mut [u8], at: u32, text: &[u8])
-    ensures { λ r. ⌜ now (out .exit) ≡ written (now (text .entry)) at (now (out .entry)) ⌝ }
-{
-    let from = at as usize;
-    let mut i: usize = 0;
-    while i < text.len() {
-        words::put_byte(out, from + i, text[i]);
-        i += 1;
-    }
-}
 
 // Puts a number from a place on, and one byte behind it. Answers how many bytes these are.
 fn field(out: &mut [u8], at: u32, n: u32, end: u8) -> u32
-    ensures text { λ r. ⌜ now (out .exit) ≡ written (lines.field n end) at (now (out .entry)) ⌝ }
+    ensures text { λ r. ⌜ now (out .exit) ≡ placed at (lines.field n end) (now (out .entry)) ⌝ }
     ensures long { λ r. ⌜ r ≡ length (lines.field n end) ⌝ }
     ensures few { λ r. ⌜ r ≤ 11 ⌝ }
 {
     let mut text = [0u8; 20];
     let k = io::decimal(n as u64, &mut text);
-    push(out, at, &text[..k]);
+    writing::put_bytes(out, at as usize, &text[..k]);
     words::put_byte(out, at as usize + k, end);
     k as u32 + 1
 }
@@ -42,7 +30,7 @@ fn fields(
     bytes: u32,
     requested: u32,
 ) -> u32
-    ensures text { λ r. ⌜ now (out .exit) ≡ written (lines.line (report number steps goals terms bytes requested)) 0 (now (out .entry)) ⌝ }
+    ensures text { λ r. ⌜ now (out .exit) ≡ placed 0 (lines.line (report number steps goals terms bytes requested)) (now (out .entry)) ⌝ }
     ensures long { λ r. ⌜ r ≡ length (lines.line (report number steps goals terms bytes requested)) ⌝ }
     ensures few { λ r. ⌜ r ≤ 66 ⌝ }
 {

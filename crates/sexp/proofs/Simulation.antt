@@ -111,7 +111,7 @@ module _ (text : List ℕ) (on : Reader → Place → List ℕ → AnswerAndArea
   unfolding turn counting streamLength number
   turn-agrees end a take-end f p area is cs h = ended-agrees p area is cs h
   turn-agrees bad a take-bad f p area is cs h = agrees-refused notUtf8 refl
-  turn-agrees (opening ▹ ts) a (take-opening {r} st) f p area is cs h = opening-agrees on ts r (ih ts r st (omega (arith, f))) p area is cs h
+  turn-agrees (opening ▹ ts) a (take-opening {r} st bare) f p area is cs h = opening-agrees on ts r (ih ts r st (omega (arith, f))) p area is cs h
   turn-agrees (closing ▹ ts) a (take-closing {r} st) f p area is cs h = closing-agrees on ts r (ih ts r st (omega (arith, f))) p area is cs h
   turn-agrees (atom bytes ▹ ts) a (take-atom {a = s} {b = e} {r = r} st x y z) f p area is cs h =
       atom-agrees on ts r (ih ts r st (omega (arith, f))) s e bytes p area is cs h

@@ -14,9 +14,10 @@ use Rattle.steps.specs.declared.Stepped.{Stepped}
 use Rattle.steps.specs.declared.Stepped.the-variants as stepped
 use Rattle.nodes.specs.Limits.{nodeLimit, wordLimit, indexPlaces}
 
--- What a step answers: its judgment's number, its rule's address, the place of its references in the text, and the reader after its items.
-abbrev pub judged : Stepped → Outcome (ℕ × ℕ × ℕ × Reader)
-judged (stepped.Judged j e place r) = ok (j, e, place, r)
+-- What a step answers: its judgment's number, its rule's address, the place of its references in the text, up to where that is tested
+-- there, and the reader after its items.
+abbrev pub judged : Stepped → Outcome (ℕ × ℕ × ℕ × ℕ × Reader)
+judged (stepped.Judged j e place tested r) = ok (j, e, place, tested, r)
 judged (stepped.Refused n) = refused n
 
 -- "Items; matching": no variable is bound before.
@@ -27,9 +28,9 @@ itemsJudged text rules table steps rule n r store stack heap = do
   ok (j, r) leaving areas
 
 -- "`(step I R (I...) item...)`", behind its head.
-unfoldable pub step : List ℕ → List ℕ → List ℕ → ℕ → Reader → List ℕ → List ℕ → List ℕ → Did Worked (ℕ × ℕ × ℕ × Reader)
+unfoldable pub step : List ℕ → List ℕ → List ℕ → ℕ → Reader → List ℕ → List ℕ → List ℕ → Did Worked (ℕ × ℕ × ℕ × ℕ × Reader)
 step text rules table steps r store stack heap = do
   ((e, r), _) ← ruleDue text rules heap steps r leaving ((store, stack), heap)
   ((n, q), ((store, stack), heap)) ← before heap (beside store (countedReferences text heap e r stack))
   ((j, q), areas) ← itemsJudged text rules table steps e n q store stack heap
-  ok (j, e, r .at, q) leaving areas
+  ok (j, e, r .at, r .end, q) leaving areas

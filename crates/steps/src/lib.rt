@@ -8,9 +8,10 @@ use lex::Reader;
 use nodes::Numbered;
 use nodes::limits;
 
-// A step's judgment by its number, its rule's address, the place of its references in the certificate, and the reader after its items.
+// A step's judgment by its number, its rule's address, the place of its references in the certificate, up to where that is tested there,
+// and the reader after its items.
 pub enum Stepped {
-    Judged(u32, u32, usize, Reader),
+    Judged(u32, u32, usize, usize, Reader),
     Refused(u32),
 }
 
@@ -75,6 +76,7 @@ pub fn step(
         return Stepped::Refused(nodes::numbered_refusal(h));
     };
     let place = r.at;
+    let tested = r.end;
     let c = references::counted_references(text, heap, stack, e, r);
     let Numbered::Got(n, q) = c else {
         return Stepped::Refused(nodes::numbered_refusal(c));
@@ -83,5 +85,5 @@ pub fn step(
     let Numbered::Got(j, p) = i else {
         return Stepped::Refused(nodes::numbered_refusal(i));
     };
-    Stepped::Judged(j, e, place, p)
+    Stepped::Judged(j, e, place, tested, p)
 }

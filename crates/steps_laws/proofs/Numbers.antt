@@ -44,7 +44,7 @@ module _ (text : List ℕ) (K : Stream Token → Type 0) (n : ℕ) where
         (λ i. outcomes.ok (i, p .2))))
         (refusals._>>=_ m (λ p. refusals._>>=_ (definition.numberDue (p .0)) (λ i. refusals.ok (i, p .1))))
     by (both-refuse f) = both-refuse f
-    by (both-ok (list-met there)) = both-refuse refl
+    by (both-ok (list-met there bare)) = both-refuse refl
     by (both-ok (atom-met {name} {rest} p l u there)) = rw p (numbered rest (numeral name) there)
 
   -- At the end of the text the look ahead meets a member too.
@@ -71,5 +71,5 @@ module _ (text : List ℕ) (K : Stream Token → Type 0) (n : ℕ) where
     list-member = by (definition.groupDue item) (rw (asked-yes 255 1 refl) at (group-law text K n (item then rest) inForm 1 refl a)) where
       by : {o : Outcome Reader} (m : Result Items) → Answers (GroupMet text K n) o (refusals._>>=_ m (λ inner. refusals.ok (inner, rest)))
           → Answers (λ q inner. At text (RestComes inner (RestComes rest K)) n q) o m
-      by (refusals.ok inner) (both-ok (group-met there)) = both-ok there
+      by (refusals.ok inner) (both-ok (group-met there bare)) = both-ok there
       by (refusals.refused x) (both-refuse f) = both-refuse f

@@ -5,20 +5,21 @@ use mathlib.Core.List.{List, [], _∷_, _++_, List·Memᴰ, List·Memᴰ·head, 
 use mathlib.Core.Option.{Option, none, some}
 use Prim.Native.Nat.{ℕ, suc, _+_, _*_, _-_, _≤_, _<_}
 use native.Mathlib.Omega.{arith}
-use borrow.Author.Tests.{eqb-true, eqb-false}
-use lib.Dec.{eqb}
+use borrow.Author.Tests.{leb-true, leb-false}
+use lib.Dec.{leb}
 use lib.ListN.{length, getD, set, length-set}
 use lib.Seq.{getD-set-same, getD-set-other}
 use Rattle.words.specs.Parts.{part}
 use Rattle.horn.specs.Names.{Name, named, first, someOf}
 use Rattle.horn.specs.StoredTerms.{Term}
 use Rattle.horn.specs.Checker.{Goal, goal, isGoal}
-use Rattle.horn.specs.Certificate.{without}
+use Rattle.horn.specs.Certificate.{Witness, witness, without}
+use Rattle.horn.specs.Page.{isResultOf}
 use Rattle.horn.proofs.Equality.{case, named-decides, decides-false, differ, first-some}
 use Rattle.names.specs.Tables.{Entry, entry, top, Stands, other-kind, declared, Owns, bucket-word, entry-word, Agree, both-none, both-some, present}
 use Rattle.names.proofs.Kept.{kept-within, kept-put, kept-set, add-law}
-use Rattle.names.proofs.Declared.{stands-kept, find-agrees, find-present}
-use Rattle.tables.specs.Words.{goalBuckets, entryWords, valueOffset, entered, goalFound, openAt, goalOpen}
+use Rattle.names.proofs.Declared.{stands-kept, find-agrees, find-present, first-last, first-before}
+use Rattle.tables.specs.Words.{goalBuckets, entryWords, valueOffset, closedFrom, entered, goalFound, openAt, goalOpen}
 use Rattle.tables.specs.Representation.{Sits, here, there, GoalsAt, no-goal, still-open, is-closed, Goals, OpenAt, OpenAgree}
 use Rattle.tables.specs.Representation.{none-open, one-open}
 use Rattle.facts.proofs.Lists.{one-more}
@@ -64,39 +65,30 @@ none-of-sitting : {A : Type 0} (test : A → Bool) {b e : ℕ} {things : List A}
 none-of-sitting test {a} (here {things} h) n = none-of-head test a things n .0
 none-of-sitting test (there {c} {things} s) n = none-of-sitting test s (none-of-head test c things n .1)
 
-module _ {Means : ℕ → Term → Type 0} where
-  -- What keeps the values of goals.
-  pub values-kept : {table table′ : List ℕ} {b : ℕ} {goals openGoals : List Goal} → GoalsAt table Means b goals openGoals
-      → ((i : ℕ) → b ≤ i → i < b + entryWords * length goals → getD table′ i 0 ≡ getD table i 0)
-      → GoalsAt table′ Means b goals openGoals
-  values-kept no-goal k = no-goal
-  values-kept (still-open {b} v m n g) k =
-      still-open (k (b + valueOffset) (omega arith) (omega arith) ∙ v) m n (values-kept g (λ i l h. k i (omega arith) (omega arith)))
-  values-kept (is-closed {b} v n g) k =
-      is-closed (k (b + valueOffset) (omega arith) (omega arith) ∙ v) n (values-kept g (λ i l h. k i (omega arith) (omega arith)))
+-- The result of another name changes nothing, that of a name which has none yet is found.
+other-result : (results : List Witness) (other name : Name) (n : ℕ) → named other name ≡ false
+    → first (isResultOf other) (results ++ (witness name n ∷ [])) ≡ first (isResultOf other) results
+unfolding isResultOf
+other-result results other name n d = first-before (isResultOf other) (witness name n) results d
 
-  -- One goal more, whose name is new.
-  pub values-add : {table : List ℕ} {b : ℕ} {goals openGoals : List Goal} (w : ℕ) (name : Name) (j : Term) → GoalsAt table Means b goals openGoals
-      → getD table (b + entryWords * length goals + valueOffset) 0 ≡ w + 1
-      → Means w j
-      → someOf (isGoal name) goals ≡ false
-      → GoalsAt table Means b (goals ++ (goal name j ∷ [])) (openGoals ++ (goal name j ∷ []))
-  unfolding isGoal someOf
-  values-add {table} w name j (no-goal {b}) v m n =
-      still-open {b = b} {w = w} (at-same table (b + valueOffset) (b + entryWords * 0 + valueOffset) (omega arith) ∙ v) m refl no-goal
-  values-add {table} w name j (still-open {b} {name = other} {j = i} {goals} u k f g) v m n =
-      let (x, y) = none-of-head (isGoal name) (goal other i) goals n in
-      still-open u k (none-of-more (isGoal other) goals (goal name j) f (other-name name other x))
-      (values-add w name j g
-      (at-same table (b + entryWords + entryWords * length goals + valueOffset) (b + entryWords * suc (length goals) + valueOffset) (omega arith) ∙ v) m y)
-  values-add {table} w name j (is-closed {b} {name = other} {j = i} {goals} u f g) v m n =
-      let (x, y) = none-of-head (isGoal name) (goal other i) goals n in
-      is-closed u (none-of-more (isGoal other) goals (goal name j) f (other-name name other x))
-      (values-add w name j g
-      (at-same table (b + entryWords + entryWords * length goals + valueOffset) (b + entryWords * suc (length goals) + valueOffset) (omega arith) ∙ v) m y)
+own-result : (results : List Witness) (name : Name) (n : ℕ) → first (isResultOf name) results ≡ none
+    → first (isResultOf name) (results ++ (witness name n ∷ [])) ≡ some (witness name n)
+unfolding isResultOf
+own-result results name n o = first-last (isResultOf name) (witness name n) results o (named-decides .same name)
+
+module _ {Means : ℕ → Term → Type 0} {results : List Witness} where
+  -- What keeps the values of goals.
+  pub values-kept : {table table′ : List ℕ} {b : ℕ} {goals openGoals : List Goal} → GoalsAt table Means results b goals openGoals
+      → ((i : ℕ) → b ≤ i → i < b + entryWords * length goals → getD table′ i 0 ≡ getD table i 0)
+      → GoalsAt table′ Means results b goals openGoals
+  values-kept no-goal k = no-goal
+  values-kept (still-open {b} (v, l, o) m n g) k =
+      still-open (k (b + valueOffset) (omega arith) (omega arith) ∙ v, l, o) m n (values-kept g (λ i l h. k i (omega arith) (omega arith)))
+  values-kept (is-closed {b} (v, c) n g) k =
+      is-closed (k (b + valueOffset) (omega arith) (omega arith) ∙ v, c) n (values-kept g (λ i l h. k i (omega arith) (omega arith)))
 
   -- Where a name is no goal's, it is no open goal's.
-  pub name-not-open : {table : List ℕ} {b : ℕ} {goals openGoals : List Goal} (key : Name) → GoalsAt table Means b goals openGoals
+  pub name-not-open : {table : List ℕ} {b : ℕ} {goals openGoals : List Goal} (key : Name) → GoalsAt table Means results b goals openGoals
       → someOf (isGoal key) goals ≡ false
       → first (isGoal key) openGoals ≡ none
   unfolding first
@@ -106,12 +98,12 @@ module _ {Means : ℕ → Term → Type 0} where
   name-not-open key (is-closed {name} {j} {goals} v f g) n = name-not-open key g (none-of-head (isGoal key) (goal name j) goals n .1)
 
   -- A goal's value says whether it is open.
-  pub closed-is-none : {table : List ℕ} {b e : ℕ} {goals openGoals : List Goal} {name : Name} {j : Term} → GoalsAt table Means b goals openGoals
+  pub closed-is-none : {table : List ℕ} {b e : ℕ} {goals openGoals : List Goal} {name : Name} {j : Term} → GoalsAt table Means results b goals openGoals
       → Sits b goals e (goal name j)
-      → getD table (e + valueOffset) 0 ≡ 0
+      → closedFrom ≤ getD table (e + valueOffset) 0
       → first (isGoal name) openGoals ≡ none
   unfolding first isGoal
-  closed-is-none {table} {e} (still-open {b} {w} v m f g) (here h) z =
+  closed-is-none {table} {e} (still-open {b} {w} (v, l, o) m f g) (here h) z =
       let u = at-same table (e + valueOffset) (b + valueOffset) (omega arith) in absurd (omega arith)
   closed-is-none {name} (still-open {name = other} v m f g) (there s) z =
       let x : named name other ≡ false = other-name other name (none-of-sitting (isGoal other) s f) in
@@ -119,12 +111,13 @@ module _ {Means : ℕ → Term → Type 0} where
   closed-is-none {name} (is-closed {goals} v f g) (here h) z = name-not-open name g f
   closed-is-none (is-closed v f g) (there s) z = closed-is-none g s z
 
-  pub open-is-some : {table : List ℕ} {b e : ℕ} (v : ℕ) {goals openGoals : List Goal} {name : Name} {j : Term} → GoalsAt table Means b goals openGoals
+  pub open-is-some : {table : List ℕ} {b e : ℕ} (v : ℕ) {goals openGoals : List Goal} {name : Name} {j : Term}
+      → GoalsAt table Means results b goals openGoals
       → Sits b goals e (goal name j)
-      → getD table (e + valueOffset) 0 ≡ v + 1
+      → (getD table (e + valueOffset) 0 ≡ v) × (v < closedFrom)
       → (first (isGoal name) openGoals ≡ some (goal name j)) × Means v j
   unfolding first isGoal
-  open-is-some {table} {e} v {name} {j} (still-open {b} {w} u m f g) (here h) z =
+  open-is-some {table} {e} v {name} {j} (still-open {b} {w} (u, l, o) m f g) (here h) (z, y) =
       let q = at-same table (e + valueOffset) (b + valueOffset) (omega arith) in
       let k : w ≡ v = omega arith in
       (rw (named-decides .same name, first), rw (← k) m)
@@ -132,11 +125,12 @@ module _ {Means : ℕ → Term → Type 0} where
       let x : named name other ≡ false = other-name other name (none-of-sitting (isGoal other) s f) in
       let (p, q) = open-is-some v g s z in
       (rw (x, first) p, q)
-  open-is-some {table} {e} v (is-closed {b} u f g) (here h) z = let q = at-same table (e + valueOffset) (b + valueOffset) (omega arith) in absurd (omega arith)
+  open-is-some {table} {e} v (is-closed {b} {n} (u, c) f g) (here h) (z, y) =
+      let q = at-same table (e + valueOffset) (b + valueOffset) (omega arith) in absurd (omega arith)
   open-is-some v (is-closed u f g) (there s) z = open-is-some v g s z
 
   -- A name that no goal has is not taken out.
-  without-none : {table : List ℕ} {b : ℕ} {goals openGoals : List Goal} (key : Name) → GoalsAt table Means b goals openGoals
+  without-none : {table : List ℕ} {b : ℕ} {goals openGoals : List Goal} (key : Name) → GoalsAt table Means results b goals openGoals
       → someOf (isGoal key) goals ≡ false
       → without key openGoals ≡ openGoals
   unfolding without
@@ -146,40 +140,82 @@ module _ {Means : ℕ → Term → Type 0} where
       rw (x, without) (ap (λ (gs : List Goal). goal name j ∷ gs) (without-none key g y))
   without-none key (is-closed {name} {j} {goals} v f g) n = without-none key g (none-of-head (isGoal key) (goal name j) goals n .1)
 
-  -- Closing an open goal: its value is 0 and it is taken out of the open ones, which are one fewer.
-  pub values-close : {table : List ℕ} {b e : ℕ} (v : ℕ) {goals openGoals : List Goal} {name : Name} {j : Term} → GoalsAt table Means b goals openGoals
+  values-more : {table : List ℕ} {b : ℕ} {goals openGoals : List Goal} (name : Name) (n : ℕ) → GoalsAt table Means results b goals openGoals
+      → someOf (isGoal name) goals ≡ false
+      → GoalsAt table Means (results ++ (witness name n ∷ [])) b goals openGoals
+  unfolding isGoal
+  values-more name n no-goal k = no-goal
+  values-more name n (still-open {name = other} {j} {goals} (v, l, o) m f g) k =
+      let (x, y) = none-of-head (isGoal name) (goal other j) goals k in
+      still-open (v, l, other-result results other name n (other-name name other x) ∙ o) m f (values-more name n g y)
+  values-more name n (is-closed {name = other} {j} {goals} (v, c) f g) k =
+      let (x, y) = none-of-head (isGoal name) (goal other j) goals k in
+      is-closed (v, other-result results other name n (other-name name other x) ∙ c) f (values-more name n g y)
+
+  -- Closing an open goal: its value says its result's step, and it is taken out of the open ones, which are one fewer.
+  pub values-close : {table : List ℕ} {b e : ℕ} (v n c : ℕ) {goals openGoals : List Goal} {name : Name} {j : Term}
+      → GoalsAt table Means results b goals openGoals
       → Sits b goals e (goal name j)
-      → getD table (e + valueOffset) 0 ≡ v + 1
+      → (getD table (e + valueOffset) 0 ≡ v) × (v < closedFrom)
       → e + entryWords ≤ length table
-      → GoalsAt (set table (e + valueOffset) 0) Means b goals (without name openGoals) × (length openGoals ≡ length (without name openGoals) + 1)
+      → c ≡ closedFrom + n
+      → GoalsAt (set table (e + valueOffset) c) Means (results ++ (witness name n ∷ [])) b goals (without name openGoals)
+      × (length openGoals ≡ length (without name openGoals) + 1)
   unfolding without isGoal
-  values-close {table} {e} v {name} {j} (still-open {b} {w} {goals} {openGoals} u m f g) (here h) z l =
+  values-close {table} {e} v n c {name} {j} (still-open {b} {w} {goals} {openGoals} (u, k, o) m f g) (here h) z l d =
       rw (named-decides .same name, without, without-none name g f) (
-        is-closed (at-same (set table (e + valueOffset) 0) (b + valueOffset) (e + valueOffset) (omega arith)
-            ∙ getD-set-same table (e + valueOffset) 0 0 (omega arith)) f
-            (values-kept g (λ i x y. getD-set-other table (e + valueOffset) i 0 0 (λ q. omega arith))),
+        is-closed (
+          at-same (set table (e + valueOffset) c) (b + valueOffset) (e + valueOffset) (omega arith)
+              ∙ getD-set-same table (e + valueOffset) c 0 (omega arith) ∙ d,
+          own-result results name n o,
+        ) f
+            (values-more name n (values-kept g (λ i x y. getD-set-other table (e + valueOffset) i c 0 (λ q. omega arith))) f),
         omega arith,
       )
-  values-close {table} {e} v {name} {j} (still-open {b} {w} {name = other} {j = i} {goals} {openGoals} u m f g) (there s) z l =
-      let x : named name other ≡ false = other-name other name (none-of-sitting (isGoal other) s f) in
+  values-close {table} {e} v n c {name} {j} (still-open {b} {w} {name = other} {j = i} {goals} {openGoals} (u, k, o) m f g) (there s) z l d =
+      let y : named other name ≡ false = none-of-sitting (isGoal other) s f in
+      let x : named name other ≡ false = other-name other name y in
       let (low, high) = sits-bounds s in
-      let (p, q) = values-close v g s z l in
+      let (p, q) = values-close v n c g s z l d in
       rw (x, without)
-      (still-open {w = w} (getD-set-other table (e + valueOffset) (b + valueOffset) 0 0 (λ q. omega arith) ∙ u) m f p, omega arith)
-  values-close {table} {e} v (is-closed {b} u f g) (here h) z l =
+      (still-open {w = w} (getD-set-other table (e + valueOffset) (b + valueOffset) c 0 (λ q. omega arith) ∙ u, k, other-result results other name n y ∙ o) m f p, omega arith)
+  values-close {table} {e} v n c (is-closed {b} {n = i} (u, r) f g) (here h) (z, y) l d =
       let q = at-same table (e + valueOffset) (b + valueOffset) (omega arith) in absurd (omega arith)
-  values-close {table} {e} v (is-closed {b} u f g) (there s) z l =
+  values-close {table} {e} v n c {name} (is-closed {b} {name = other} (u, r) f g) (there s) z l d =
+      let y : named other name ≡ false = none-of-sitting (isGoal other) s f in
       let (low, high) = sits-bounds s in
-      let (p, q) = values-close v g s z l in
-      (is-closed (getD-set-other table (e + valueOffset) (b + valueOffset) 0 0 (λ q. omega arith) ∙ u) f p, q)
+      let (p, q) = values-close v n c g s z l d in
+      (is-closed (getD-set-other table (e + valueOffset) (b + valueOffset) c 0 (λ q. omega arith) ∙ u, other-result results other name n y ∙ r) f p, q)
 
-module _ {text table : List ℕ} {base : ℕ} {Means : ℕ → Term → Type 0} {goals openGoals : List Goal} where
+-- One goal more, whose name is new, before any result.
+pub values-add : {Means : ℕ → Term → Type 0} {table : List ℕ} {b : ℕ} {goals openGoals : List Goal} (w : ℕ) (name : Name) (j : Term)
+    → GoalsAt table Means [] b goals openGoals
+    → getD table (b + entryWords * length goals + valueOffset) 0 ≡ w
+    → w < closedFrom
+    → Means w j
+    → someOf (isGoal name) goals ≡ false
+    → GoalsAt table Means [] b (goals ++ (goal name j ∷ [])) (openGoals ++ (goal name j ∷ []))
+unfolding isGoal someOf first
+values-add {table} w name j (no-goal {b}) v l m n =
+    still-open {b = b} {w = w} (at-same table (b + valueOffset) (b + entryWords * 0 + valueOffset) (omega arith) ∙ v, l, refl) m refl no-goal
+values-add {table} w name j (still-open {b} {name = other} {j = i} {goals} u k f g) v l m n =
+    let (x, y) = none-of-head (isGoal name) (goal other i) goals n in
+    still-open u k (none-of-more (isGoal other) goals (goal name j) f (other-name name other x))
+    (values-add w name j g
+    (at-same table (b + entryWords + entryWords * length goals + valueOffset) (b + entryWords * suc (length goals) + valueOffset) (omega arith) ∙ v) l m y)
+values-add {table} w name j (is-closed {b} {name = other} {j = i} {goals} u f g) v l m n =
+    let (x, y) = none-of-head (isGoal name) (goal other i) goals n in
+    is-closed u (none-of-more (isGoal other) goals (goal name j) f (other-name name other x))
+    (values-add w name j g
+    (at-same table (b + entryWords + entryWords * length goals + valueOffset) (b + entryWords * suc (length goals) + valueOffset) (omega arith) ∙ v) l m y)
+
+module _ {text table : List ℕ} {base : ℕ} {Means : ℕ → Term → Type 0} {goals openGoals : List Goal} {results : List Witness} where
   -- Whatever keeps the buckets of goals and the goals' words keeps the goals.
-  pub goals-kept : (table′ : List ℕ) → Goals text table base Means goals openGoals
+  pub goals-kept : (table′ : List ℕ) → Goals text table base Means goals openGoals results
       → length table′ ≡ length table
       → Same table table′ 0 goalBuckets
       → Same table table′ base (base + entryWords * length goals)
-      → Goals text table′ base Means goals openGoals
+      → Goals text table′ base Means goals openGoals results
   goals-kept table′ g l h k =
       let b = g .below in
       let n = g .inside in
@@ -192,35 +228,36 @@ module _ {text table : List ℕ} {base : ℕ} {Means : ℕ → Term → Type 0} 
         values = values-kept (g .values) (λ i x y. k .words i x y);
       }
 
-  -- One goal more.
-  pub goals-add : (s t w v : ℕ) (j : Term) → Goals text table base Means goals openGoals
+-- One goal more, before any result.
+module _ {text table : List ℕ} {base : ℕ} {Means : ℕ → Term → Type 0} {goals openGoals : List Goal} where
+  pub goals-add : (s t w : ℕ) (j : Term) → Goals text table base Means goals openGoals []
       → base + entryWords * length goals + entryWords ≤ length table
       → s < 4294967296
       → t < 4294967296
-      → v ≡ w + 1
+      → w < closedFrom
       → Means w j
       → someOf (isGoal (part s t text)) goals ≡ false
-      → Goals text (entered 0 goalBuckets (base + entryWords * length goals) text s t v table) base Means
-      (goals ++ (goal (part s t text) j ∷ [])) (openGoals ++ (goal (part s t text) j ∷ []))
+      → Goals text (entered 0 goalBuckets (base + entryWords * length goals) text s t w table) base Means
+      (goals ++ (goal (part s t text) j ∷ [])) (openGoals ++ (goal (part s t text) j ∷ [])) []
   unfolding top isGoal entered
-  goals-add s t w v j g room x y z m n =
+  goals-add s t w j g room x y z m n =
       let e : ℕ = base + entryWords * length goals in
       let name : Name = part s t text in
       let new : List Goal = goal name j ∷ [] in
       let f = g .names .buckets-first in
       let o = one-more goals (goal name j) in
-      let c = length-entered table 0 goalBuckets e text s t v in
+      let c = length-entered table 0 goalBuckets e text s t w in
       record {
         entries = entry e name ∷ g .entries;
-        names = kept-put (e + valueOffset) v (add-law e s t (g .names) (g .below) (omega arith) x y) (omega arith);
+        names = kept-put (e + valueOffset) w (add-law e s t (g .names) (g .below) (omega arith) x y) (omega arith);
         below = omega arith;
         inside = omega arith;
         stands = declared refl (λ key. refl) (sits-last base e goals (goal name j) refl) n
             (stands-kept isGoal (Sits base goals) (Sits base (goals ++ new)) (g .stands) (λ d other a p q. sits-more new q));
         values =
             values-add w name j
-            (values-kept (g .values) (λ i l h. entered-same table 0 goalBuckets e text s t v (omega arith) base e (omega arith) (omega arith) .words i l h))
-            (entered-value table 0 goalBuckets e text s t v (omega arith) ∙ z) m n;
+            (values-kept (g .values) (λ i l h. entered-same table 0 goalBuckets e text s t w (omega arith) base e (omega arith) (omega arith) .words i l h))
+            (entered-value table 0 goalBuckets e text s t w (omega arith)) z m n;
       }
 
 -- An address that stands for something.
@@ -248,7 +285,8 @@ pub agreed {ℓ} : {A : Type 0} {C : Type ℓ} {M : ℕ → A → Type 0} {o : O
 agreed both-none f g = f refl refl
 agreed (both-some {e} {a} m) f g = g e a refl refl m
 
-module _ {text table : List ℕ} {base : ℕ} {Means : ℕ → Term → Type 0} {goals openGoals : List Goal} (g : Goals text table base Means goals openGoals) where
+module _ {text table : List ℕ} {base : ℕ} {Means : ℕ → Term → Type 0} {goals openGoals : List Goal} {results : List Witness}
+    (g : Goals text table base Means goals openGoals results) where
   -- The test for duplicates.
   pub goal-known : (key : Name) → present (goalFound text key table) ≡ someOf (isGoal key) goals
   unfolding goalFound
@@ -260,12 +298,12 @@ module _ {text table : List ℕ} {base : ℕ} {Means : ℕ → Term → Type 0} 
   open-by key e (goal name j) h s =
       let k : key ≡ name = named-decides .equal key name h in
       let s′ : Sits base goals e (goal key j) = rw k s in
-      case (eqb (getD table (e + valueOffset) 0) 0)
-      (λ z. rw (z, openAt, closed-is-none (g .values) s′ (eqb-true _ _ z)) none-open)
+      case (leb closedFrom (getD table (e + valueOffset) 0))
+      (λ z. rw (z, openAt, closed-is-none (g .values) s′ (leb-true _ _ z)) none-open)
       (λ z.
-      let n = eqb-false (getD table (e + valueOffset) 0) 0 z in
-      let v : getD table (e + valueOffset) 0 ≡ (getD table (e + valueOffset) 0 - 1) + 1 = omega arith in
-      let (p, m) = open-is-some (getD table (e + valueOffset) 0 - 1) (g .values) s′ v in
+      let v : (getD table (e + valueOffset) 0 ≡ getD table (e + valueOffset) 0) × (getD table (e + valueOffset) 0 < closedFrom)
+      = (refl, leb-false closedFrom (getD table (e + valueOffset) 0) z) in
+      let (p, m) = open-is-some (getD table (e + valueOffset) 0) (g .values) s′ v in
       rw (z, openAt, p) (one-open (record { judgment = j; is-goal = refl; sits = s′; value = v; means = m })))
 
   -- The search for a goal still open is the definition's.
@@ -277,19 +315,21 @@ module _ {text table : List ℕ} {base : ℕ} {Means : ℕ → Term → Type 0} 
       (λ e a f n s. rw (f, goalOpen) (open-by key e a (first-some (isGoal key) goals n .1) s))
 
   -- Closing an open goal.
-  pub goals-close : (key : Name) (e w : ℕ) (a : Goal) → OpenAt table base Means goals key e w a
-      → Goals text (set table (e + valueOffset) 0) base Means goals (without key openGoals) × (length openGoals ≡ length (without key openGoals) + 1)
-  goals-close key e w a o =
+  pub goals-close : (key : Name) (e w n c : ℕ) (a : Goal) → OpenAt table base Means goals key e w a
+      → c ≡ closedFrom + n
+      → Goals text (set table (e + valueOffset) c) base Means goals (without key openGoals) (results ++ (witness key n ∷ []))
+      × (length openGoals ≡ length (without key openGoals) + 1)
+  goals-close key e w n c a o d =
       let s : Sits base goals e (goal key (o .judgment)) = rw (o .is-goal) at (o .sits) in
       let (low, high) = sits-bounds s in
       let inside = g .inside in
       let f = g .names .buckets-first in
-      let (p, q) = values-close w (g .values) s (o .value) (omega arith) in (
+      let (p, q) = values-close w n c (g .values) s (o .value) (omega arith) d in (
         record {
           entries = g .entries;
-          names = kept-set (e + valueOffset) 0 (g .names) (not-owned s);
+          names = kept-set (e + valueOffset) c (g .names) (not-owned s);
           below = g .below;
-          inside = rw (length-set table (e + valueOffset) 0) (g .inside);
+          inside = rw (length-set table (e + valueOffset) c) (g .inside);
           stands = g .stands;
           values = p;
         },

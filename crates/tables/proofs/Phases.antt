@@ -15,13 +15,13 @@ use Rattle.horn.specs.Rulebook.{Theory}
 use Rattle.horn.specs.StoredTerms.{Term, Store}
 use Rattle.horn.specs.Checker.{def, isDef, Goal, goal, isGoal, goalForm}
 use Rattle.horn.specs.Matching.{Step}
-use Rattle.horn.specs.Certificate.{Progress, without, certificateForm}
+use Rattle.horn.specs.Certificate.{Progress, begun, withDef, withStep, withResult, certificateForm}
 use Rattle.capacity.specs.Budgets.{Roomy}
 use Rattle.capacity.proofs.Forms.{goal-keeps, certificate-keeps}
 use Rattle.capacity.proofs.Rooms.{goals-start, certificate-start}
 use Rattle.tables.specs.declared.Tally.{Tally}
 use Rattle.words.specs.Sums.{sum32}
-use Rattle.tables.specs.Words.{goalBuckets, valueOffset, noneYet, goalAdded, goalCounted, goalClosed, goalDone, defAdded, defCounted}
+use Rattle.tables.specs.Words.{goalBuckets, valueOffset, closedFrom, noneYet, goalAdded, goalCounted, goalClosed, goalDone, defAdded, defCounted}
 use Rattle.tables.specs.Words.{stepAdded, stepCounted}
 use Rattle.tables.specs.Representation.{OpenAt}
 use Rattle.tables.specs.Phases.{Gathering, Between}
@@ -38,9 +38,9 @@ same-room : {base goalsBytes certificateBytes words : ℕ} (words′ : ℕ) → 
 same-room words′ e r = rw e r
 
 -- What numbers mean may grow, as the store does.
-module _ {goalsText certificate : List ℕ} {goalsBytes certificateBytes buckets : ℕ} {Means : ℕ → Term → Type 0} {Recorded : ℕ → ℕ → ℕ → Step → Type 0}
-    (Means′ : ℕ → Term → Type 0) (Recorded′ : ℕ → ℕ → ℕ → Step → Type 0)
-    (f : (w : ℕ) (t : Term) → Means w t → Means′ w t) (g : (j r p : ℕ) (s : Step) → Recorded j r p s → Recorded′ j r p s) where
+module _ {goalsText certificate : List ℕ} {goalsBytes certificateBytes buckets : ℕ} {Means : ℕ → Term → Type 0} {Recorded : ℕ → ℕ → ℕ → ℕ → Step → Type 0}
+    (Means′ : ℕ → Term → Type 0) (Recorded′ : ℕ → ℕ → ℕ → ℕ → Step → Type 0)
+    (f : (w : ℕ) (t : Term) → Means w t → Means′ w t) (g : (j r p q : ℕ) (s : Step) → Recorded j r p q s → Recorded′ j r p q s) where
   pub gathering-more : {table : List ℕ} {tally : Tally} {goals : List Goal} {left : Items}
       → Gathering goalsText certificate goalsBytes certificateBytes buckets Means Recorded table tally goals left
       → Gathering goalsText certificate goalsBytes certificateBytes buckets Means′ Recorded′ table tally goals left
@@ -51,7 +51,7 @@ module _ {goalsText certificate : List ℕ} {goalsBytes certificateBytes buckets
       → Between goalsText certificate goalsBytes certificateBytes buckets Means′ Recorded′ table tally goals now left
   between-more x = record { tables = means-more (x .tables) Means′ Recorded′ f g; roomy = x .roomy; few = x .few; budget = x .budget }
 
-module _ (goalsText certificate : List ℕ) (goalsBytes certificateBytes buckets : ℕ) (Means : ℕ → Term → Type 0) (Recorded : ℕ → ℕ → ℕ → Step → Type 0)
+module _ (goalsText certificate : List ℕ) (goalsBytes certificateBytes buckets : ℕ) (Means : ℕ → Term → Type 0) (Recorded : ℕ → ℕ → ℕ → ℕ → Step → Type 0)
     (limits : Setting) (th : Theory) where
   abbrev Goals-so-far : List ℕ → Tally → List Goal → Items → Type 0
   Goals-so-far = Gathering goalsText certificate goalsBytes certificateBytes buckets Means Recorded
@@ -76,7 +76,7 @@ module _ (goalsText certificate : List ℕ) (goalsBytes certificateBytes buckets
       → goalForm limits th goals item store ≡ ok (goals ++ (goal (part s t goalsText) j ∷ []), store′)
       → s < 4294967296
       → t < 4294967296
-      → w + 1 < 4294967296
+      → w < closedFrom
       → Means w j
       → someOf (isGoal (part s t goalsText)) goals ≡ false
       → Goals-so-far (goalAdded goalsText s t w tally table) (goalCounted tally) (goals ++ (goal (part s t goalsText) j ∷ [])) rest
@@ -86,14 +86,14 @@ module _ (goalsText certificate : List ℕ) (goalsBytes certificateBytes buckets
       let room = goal-room (g .roomy) (g .tables) b (one-more goals (goal (part s t goalsText) j)) in
       record {
         tables = add-goal s t w j (g .tables) room x y z m n;
-        roomy = same-room _ (length-entered table 0 goalBuckets (tally .top) goalsText s t (sum32 w 1)) (g .roomy);
+        roomy = same-room _ (length-entered table 0 goalBuckets (tally .top) goalsText s t w) (g .roomy);
         budget = b;
       }
 
   -- Before the first form of the certificate.
   pub first-form : {table : List ℕ} {tally : Tally} {goals : List Goal} {left : Items} → length certificate ≤ certificateBytes
       → Goals-so-far table tally goals left
-      → So-far table tally goals (record { defs = []; openGoals = goals; steps = [] }) (items (tokens certificate))
+      → So-far table tally goals (begun goals) (items (tokens certificate))
   first-form {goals} short g =
       record {
         tables = g .tables;
@@ -107,13 +107,13 @@ module _ (goalsText certificate : List ℕ) (goalsBytes certificateBytes buckets
     -- "(def ?a T)".
     pub next-def : (s t w : ℕ) (u : Term)
         → certificateForm limits th now item store
-        ≡ ok (record { defs = now .defs ++ (def (part s t certificate) u ∷ []); openGoals = now .openGoals; steps = now .steps }, store′)
+        ≡ ok (withDef now (def (part s t certificate) u), store′)
         → s < 4294967296
         → t < 4294967296
         → Means w u
         → someOf (isDef (part s t certificate)) (now .defs) ≡ false
         → So-far (defAdded buckets certificate s t w tally table) (defCounted tally) goals
-        (record { defs = now .defs ++ (def (part s t certificate) u ∷ []); openGoals = now .openGoals; steps = now .steps }) rest
+        (withDef now (def (part s t certificate) u)) rest
     unfolding defAdded
     next-def s t w u e x y m n =
         let b = certificate-keeps limits th now item rest store e (g .budget) in
@@ -126,32 +126,33 @@ module _ (goalsText certificate : List ℕ) (goalsBytes certificateBytes buckets
         }
 
     -- "(step I R (I...) item...)".
-    pub next-step : (j r place : ℕ) (s : Step)
-        → certificateForm limits th now item store ≡ ok (record { defs = now .defs; openGoals = now .openGoals; steps = now .steps ++ (s ∷ []) }, store′)
+    pub next-step : (j r place tested : ℕ) (s : Step)
+        → certificateForm limits th now item store ≡ ok (withStep now s, store′)
         → place < 4294967296
-        → Recorded j r place s
-        → So-far (stepAdded j r place tally table) (stepCounted tally) goals
-        (record { defs = now .defs; openGoals = now .openGoals; steps = now .steps ++ (s ∷ []) }) rest
-    next-step j r place s e x m =
+        → tested < 4294967296
+        → Recorded j r place tested s
+        → So-far (stepAdded j r place tested tally table) (stepCounted tally) goals (withStep now s) rest
+    next-step j r place tested s e x y m =
         let b = certificate-keeps limits th now item rest store e (g .budget) in
         let room = step-room (g .roomy) (g .tables) (g .few) b refl (one-more (now .steps) s) in
         record {
-          tables = add-step (g .tables) j r place s room x m;
-          roomy = same-room _ (step-added-length table j r place tally) (g .roomy);
+          tables = add-step (g .tables) j r place tested s room x y m;
+          roomy = same-room _ (step-added-length table j r place tested tally) (g .roomy);
           few = g .few;
           budget = b;
         }
 
     -- "(result N I)".
-    pub next-result : (key : Name) (e w : ℕ) (a : Goal)
-        → certificateForm limits th now item store ≡ ok (record { defs = now .defs; openGoals = without key (now .openGoals); steps = now .steps }, store′)
+    pub next-result : (key : Name) (e w n : ℕ) (a : Goal)
+        → certificateForm limits th now item store ≡ ok (withResult now key n, store′)
         → OpenAt table (goalBuckets + buckets) Means goals key e w a
-        → So-far (goalClosed e table) (goalDone tally) goals (record { defs = now .defs; openGoals = without key (now .openGoals); steps = now .steps }) rest
+        → n < closedFrom
+        → So-far (goalClosed e n table) (goalDone tally) goals (withResult now key n) rest
     unfolding goalClosed
-    next-result key e w a f o =
+    next-result key e w n a f o small =
         record {
-          tables = close-goal (g .tables) key e w a o;
-          roomy = same-room _ (length-set table (e + valueOffset) 0) (g .roomy);
+          tables = close-goal (g .tables) key e w n a o small;
+          roomy = same-room _ (length-set table (e + valueOffset) (sum32 closedFrom n)) (g .roomy);
           few = g .few;
           budget = certificate-keeps limits th now item rest store f (g .budget);
         }

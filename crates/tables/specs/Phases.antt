@@ -12,16 +12,16 @@ use Rattle.tables.specs.declared.Tally.{Tally}
 use Rattle.tables.specs.Representation.{Tables}
 use Rattle.tables.specs.Words.{goalBuckets}
 
-module _ (goalsText certificate : List ℕ) (goalsBytes certificateBytes buckets : ℕ) (Means : ℕ → Term → Type 0) (Recorded : ℕ → ℕ → ℕ → Step → Type 0) where
+module _ (goalsText certificate : List ℕ) (goalsBytes certificateBytes buckets : ℕ) (Means : ℕ → Term → Type 0) (Recorded : ℕ → ℕ → ℕ → ℕ → Step → Type 0) where
   -- While the goals are read.
   pub record Gathering (table : List ℕ) (tally : Tally) (goals : List Goal) (left : Items) : Type 0 where
-    pub tables : Tables goalsText certificate table buckets Means Recorded tally goals goals [] []
+    pub tables : Tables goalsText certificate table buckets Means Recorded tally goals goals [] [] []
     pub roomy : Roomy (goalBuckets + buckets) goalsBytes certificateBytes (length table)
     pub budget : GoalBudget goalsBytes goals left
 
   -- While the certificate is read.
   pub record Between (table : List ℕ) (tally : Tally) (goals : List Goal) (now : Progress) (left : Items) : Type 0 where
-    pub tables : Tables goalsText certificate table buckets Means Recorded tally goals (now .openGoals) (now .defs) (now .steps)
+    pub tables : Tables goalsText certificate table buckets Means Recorded tally goals (now .openGoals) (now .defs) (now .steps) (now .results)
     pub roomy : Roomy (goalBuckets + buckets) goalsBytes certificateBytes (length table)
     pub few : 11 * length goals ≤ goalsBytes
     pub budget : Budget certificateBytes now left

@@ -1,11 +1,11 @@
 -- What each function answers and leaves in the area, for any words.
-use Prim.Native.Nat.{ℕ, _+_, _*_, _-_, _%_}
+use Prim.Native.Nat.{ℕ, _+_, _*_, _-_}
 use mathlib.Core.Bool.{true, false}
 use mathlib.Core.List.{List}
 use mathlib.Core.Option.{Option, none, some}
-use lib.Dec.{eqb, leb}
+use lib.Dec.{leb}
 use lib.ListN.{length, getD, set}
-use Rattle.words.specs.Sums.{sum32}
+use Rattle.words.specs.Sums.{low32, sum32}
 use Rattle.names.specs.Chains.{found, added}
 use Rattle.tables.specs.declared.Tally.{Tally}
 use Rattle.tables.specs.declared.Open.{Open}
@@ -26,7 +26,11 @@ valueOffset = 3
 
 -- Words of a step.
 abbrev pub stepWords : ℕ
-stepWords = 3
+stepWords = 4
+
+-- The value of a goal that has its result: so much, and the number of the result's step.
+abbrev pub closedFrom : ℕ
+closedFrom = 2147483648
 
 -- What the cases of an answer say: a word, or that there is none;
 abbrev pub told : Kept → Option ℕ
@@ -50,20 +54,26 @@ unfoldable pub goalFound : List ℕ → List ℕ → List ℕ → Option ℕ
 goalFound goals key table = found table 0 goalBuckets goals key
 
 unfoldable pub openAt : List ℕ → ℕ → Option (ℕ × ℕ)
-openAt table e = elim (eqb (getD table (e + valueOffset) 0) 0) [ true ↦ none | false ↦ some (e, getD table (e + valueOffset) 0 - 1) ]
+openAt table e = elim (leb closedFrom (getD table (e + valueOffset) 0)) [ true ↦ none | false ↦ some (e, getD table (e + valueOffset) 0) ]
 
 unfoldable pub goalOpen : List ℕ → List ℕ → List ℕ → Option (ℕ × ℕ)
 goalOpen goals key table = elim (goalFound goals key table) [ none ↦ none | some e ↦ openAt table e ]
 
 unfoldable pub goalAdded : List ℕ → ℕ → ℕ → ℕ → Tally → List ℕ → List ℕ
-goalAdded goals s t judgment tally table = entered 0 goalBuckets (tally .top) goals s t (sum32 judgment 1) table
+goalAdded goals s t judgment tally table = entered 0 goalBuckets (tally .top) goals s t judgment table
 
 unfoldable pub goalCounted : Tally → Tally
 goalCounted tally =
     record { top = sum32 (tally .top) entryWords; goals = sum32 (tally .goals) 1; left = sum32 (tally .left) 1; steps = tally .steps }
 
-unfoldable pub goalClosed : ℕ → List ℕ → List ℕ
-goalClosed e table = set table (e + valueOffset) 0
+unfoldable pub goalClosed : ℕ → ℕ → List ℕ → List ℕ
+goalClosed e n table = set table (e + valueOffset) (sum32 closedFrom n)
+
+unfoldable pub goalAt : ℕ → ℕ → ℕ
+goalAt buckets k = low32 (goalBuckets + buckets + entryWords * k)
+
+unfoldable pub goalResult : ℕ → List ℕ → ℕ
+goalResult e table = getD table (e + valueOffset) 0 - closedFrom
 
 unfoldable pub goalDone : Tally → Tally
 goalDone tally = record { top = tally .top; goals = tally .goals; left = tally .left - 1; steps = tally .steps }
@@ -86,14 +96,18 @@ defCounted tally = record { top = sum32 (tally .top) entryWords; goals = tally .
 unfoldable pub stepAt : ℕ → ℕ → ℕ
 stepAt words n = words - stepWords * (n + 1)
 
-unfoldable pub stepAdded : ℕ → ℕ → ℕ → Tally → List ℕ → List ℕ
-stepAdded judgment rule place tally table =
-    set (set (set table a judgment) (a + 1) rule) (a + 2) (place % 4294967296) where
+unfoldable pub stepAdded : ℕ → ℕ → ℕ → ℕ → Tally → List ℕ → List ℕ
+stepAdded judgment rule place tested tally table =
+    set (set (set (set table a judgment) (a + 1) rule) (a + 2) (low32 place)) (a + 3) (low32 tested) where
       a : ℕ
       a = stepAt (length table) (tally .steps)
 
 unfoldable pub stepCounted : Tally → Tally
 stepCounted tally = record { top = tally .top; goals = tally .goals; left = tally .left; steps = sum32 (tally .steps) 1 }
+
+-- A word of step n, which is there.
+unfoldable pub stepKept : List ℕ → ℕ → ℕ → ℕ
+stepKept table n which = getD table (stepAt (length table) n + which) 0
 
 -- A word of step n, if there is such a step.
 unfoldable pub stepWord : ℕ → ℕ → Tally → List ℕ → Option ℕ

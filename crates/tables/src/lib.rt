@@ -1,14 +1,15 @@
 // The goals, abbreviations and steps of a release in one lent area, and how many there are. Words 0 to 63 are buckets of goals, from 64
 // on stand `buckets` buckets of abbreviations, then entries of 4 words, first all goals, then abbreviations: three as crate `names` has
-// them, and a value. Of an abbreviation that is its term's number, of a goal its judgment's number plus 1, or 0 once it is closed. Steps
-// stand downward from the end of the area, 3 words each: judgment, rule, and the place of its references in the certificate.
+// them, and a value. Of an abbreviation that is its term's number, of a goal its judgment's number, or from `CLOSED` on the number of its
+// result's step. Steps stand downward from the end of the area, 4 words each: judgment, rule, the place of its references in the
+// certificate, and up to where the certificate was tested there.
 ghost use mathlib.Core.Path.{_≡_};
-ghost use Prim.Native.Nat.{_+_, _-_, _%_};
+ghost use Prim.Native.Nat.{_+_, _-_};
 ghost use lib.ListN.{length};
 ghost use Rattle.words.specs.Parts.{part, cleared};
 ghost use Rattle.names.specs.Chains.{answered};
-ghost use Rattle.tables.specs.Words.{goalBuckets, told, toldOpen, noneYet, entered, goalFound, goalOpen, goalAdded, goalCounted, goalClosed, goalDone};
-ghost use Rattle.tables.specs.Words.{defFound, defMeaning, defAdded, defCounted, stepAt, stepAdded, stepCounted, stepWord};
+ghost use Rattle.tables.specs.Words.{goalBuckets, told, toldOpen, noneYet, entered, goalFound, goalOpen, goalAdded, goalCounted, goalClosed, goalDone, goalAt, goalResult};
+ghost use Rattle.tables.specs.Words.{defFound, defMeaning, defAdded, defCounted, stepAt, stepAdded, stepCounted, stepKept, stepWord};
 use names::Found;
 
 // The first word that is free, and how many goals, goals still open and steps there are.
@@ -39,8 +40,11 @@ const ENTRY_WORDS: u32 = 4;
 
 const VALUE: usize = 3;
 
+// The value of a goal that has its result: so much, and the number of the result's step.
+const CLOSED: u32 = 2147483648;
+
 // Words of a step.
-const STEP_WORDS: usize = 3;
+const STEP_WORDS: usize = 4;
 
 // No goal, no abbreviation, no step: zero buckets.
 pub fn begin(table: &mut [u32], buckets: u32) -> Tally
@@ -90,10 +94,10 @@ pub fn open_goal(table: &[u32], goals: &[u8], from: &[u8], s: usize, t: usize) -
         return Open::Nothing;
     };
     let value = words::at(table, e as usize + VALUE);
-    if value == 0 {
+    if CLOSED <= value {
         return Open::Nothing;
     }
-    Open::At(e, value - 1)
+    Open::At(e, value)
 }
 
 // One goal more, open.
@@ -109,16 +113,7 @@ pub fn add_goal(
     ensures { λ r. ⌜ now (table .exit) ≡ goalAdded (now (goals .entry)) s t judgment tally (now (table .entry)) ⌝ }
 {
     let e = tally.top;
-    enter(
-        table,
-        0,
-        GOAL_BUCKETS,
-        e,
-        goals,
-        s,
-        t,
-        words::plus(judgment, 1),
-    );
+    enter(table, 0, GOAL_BUCKETS, e, goals, s, t, judgment);
     Tally {
         top: words::plus(e, ENTRY_WORDS),
         goals: words::plus(tally.goals, 1),
@@ -127,12 +122,12 @@ pub fn add_goal(
     }
 }
 
-// Closes the goal at e, which is open.
-pub fn close_goal(table: &mut [u32], e: u32, tally: Tally) -> Tally
+// Closes the goal at e, which is open: step n is its result's.
+pub fn close_goal(table: &mut [u32], e: u32, n: u32, tally: Tally) -> Tally
     ensures { λ r. ⌜ r ≡ goalDone tally ⌝ }
-    ensures { λ r. ⌜ now (table .exit) ≡ goalClosed e (now (table .entry)) ⌝ }
+    ensures { λ r. ⌜ now (table .exit) ≡ goalClosed e n (now (table .entry)) ⌝ }
 {
-    words::put(table, e as usize + VALUE, 0);
+    words::put(table, e as usize + VALUE, words::plus(CLOSED, n));
     let left = tally.left;
     if left == 0 {
         return tally;
@@ -143,6 +138,24 @@ pub fn close_goal(table: &mut [u32], e: u32, tally: Tally) -> Tally
         left: left - 1,
         steps: tally.steps,
     }
+}
+
+// Where the entry of goal k stands: the goals' entries come first, in their order.
+pub fn goal_at(buckets: u32, k: u32) -> u32
+    ensures { λ r. ⌜ r ≡ goalAt buckets k ⌝ }
+{
+    words::low(GOAL_BUCKETS as usize + buckets as usize + ENTRY_WORDS as usize * k as usize)
+}
+
+// The number of the result's step of the goal at e, which is closed.
+pub fn goal_result(table: &[u32], e: u32) -> u32
+    ensures { λ r. ⌜ r ≡ goalResult e (now (table .entry)) ⌝ }
+{
+    let value = words::at(table, e as usize + VALUE);
+    if value < CLOSED {
+        return 0;
+    }
+    value - CLOSED
 }
 
 // The abbreviation that has a name.
@@ -198,14 +211,22 @@ pub fn step_at(words: usize, n: u32) -> usize
 }
 
 // One step more.
-pub fn add_step(table: &mut [u32], judgment: u32, rule: u32, place: usize, tally: Tally) -> Tally
+pub fn add_step(
+    table: &mut [u32],
+    judgment: u32,
+    rule: u32,
+    place: usize,
+    tested: usize,
+    tally: Tally,
+) -> Tally
     ensures { λ r. ⌜ r ≡ stepCounted tally ⌝ }
-    ensures { λ r. ⌜ now (table .exit) ≡ stepAdded judgment rule place tally (now (table .entry)) ⌝ }
+    ensures { λ r. ⌜ now (table .exit) ≡ stepAdded judgment rule place tested tally (now (table .entry)) ⌝ }
 {
     let a = step_at(table.len(), tally.steps);
     words::put(table, a, judgment);
     words::put(table, a + 1, rule);
-    words::put(table, a + 2, (place % 4294967296) as u32);
+    words::put(table, a + 2, words::low(place));
+    words::put(table, a + 3, words::low(tested));
     Tally {
         top: tally.top,
         goals: tally.goals,
@@ -214,7 +235,29 @@ pub fn add_step(table: &mut [u32], judgment: u32, rule: u32, place: usize, tally
     }
 }
 
-// A word of step n: 0 is its judgment, 1 its rule, 2 the place of its references. None where there is no such step yet.
+// The address of the rule of step n.
+pub fn step_rule(table: &[u32], n: u32) -> u32
+    ensures { λ r. ⌜ r ≡ stepKept (now (table .entry)) n 1 ⌝ }
+{
+    words::at(table, step_at(table.len(), n) + 1)
+}
+
+// The place of the references of step n in the certificate.
+pub fn step_place(table: &[u32], n: u32) -> u32
+    ensures { λ r. ⌜ r ≡ stepKept (now (table .entry)) n 2 ⌝ }
+{
+    words::at(table, step_at(table.len(), n) + 2)
+}
+
+// Up to where the certificate was tested at that place.
+pub fn step_tested(table: &[u32], n: u32) -> u32
+    ensures { λ r. ⌜ r ≡ stepKept (now (table .entry)) n 3 ⌝ }
+{
+    words::at(table, step_at(table.len(), n) + 3)
+}
+
+// A word of step n: 0 is its judgment, 1 its rule, 2 the place of its references, 3 up to where the certificate was tested there. None where
+// there is no such step yet.
 pub fn step_word(table: &[u32], n: u64, which: u32, tally: Tally) -> Kept
     ensures { λ r. ⌜ told r ≡ stepWord n which tally (now (table .entry)) ⌝ }
 {

@@ -123,7 +123,7 @@ module _ (text : List ℕ) (table : List ℕ) {rules heap : List ℕ} {es : Entr
             (refusals._>>=_ {A = (Name × Items) × Store} (refusals._>>=_ (definition.askWord (suc depth) (g .0)) (λ a. refusals.ok (a, ts)))
             (λ u. refusals._>>=_ {A = Term × Store} (definition.headedJudgment document01 th defs (suc depth) (u .0 .0) (u .0 .1) (u .1))
             (λ p. refusals.ok ((p .0, g .1), p .1))))
-        opened q g (group-met {inner} {rest} there) =
+        opened q g (group-met {inner} {rest} there bare) =
             lifted ts _ _ (word-law text (RestComes rest K) spent inner l (suc depth) (omega arith) there) (λ x y m. headed rest x y m)
 
   -- No item there.

@@ -134,7 +134,7 @@ module _ (text : List ℕ) (table : List ℕ) {rules heap : List ℕ} {es : Entr
             → Simulates (TermRead es th (At text (RestComes rest K) (spent + 2)) top stack ts)
             (walk.termOf (walk.term l text rules heap table) l text rules heap table top m store stack)
             (definition.compoundTerm document01 th defs (suc depth) inner ts)
-        by l f (list-met {r = q} there) =
+        by l f (list-met {r = q} there bare) =
             law l (suc depth) top spent (RestComes rest K) ts q store stack (omega arith)
             record { reader = there; room = ready .room; stored = ready .stored; grown = ready .grown; long = ready .long }
 

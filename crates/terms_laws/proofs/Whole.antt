@@ -11,6 +11,7 @@ use Rattle.horn.specs.StoredTerms.{Store}
 use Rattle.horn.specs.Checker as definition
 use Rattle.horn.specs.Checker.{Def, Goal}
 use Rattle.horn.specs.Matching.{Step}
+use Rattle.horn.specs.Certificate.{Witness}
 use Rattle.lex.specs.declared.Reader.{Reader}
 use Rattle.outcomes.specs.Simulation.{Simulates}
 use Rattle.theory_laws.specs.Representation.{Entries, Holds}
@@ -31,8 +32,8 @@ module _ {rules heap : List ℕ} {es : Entries} {bound : ℕ} {th : Theory} (h :
   ready : (text : List ℕ) → At text (RestComes is K) spent r → Ready es th text ts (RestComes is K) top spent ts r store stack
   ready text at-items = record { reader = at-items; room = room; stored = stored; grown = longer-none; long = long }
 
-  module _ {goalsText certificate table : List ℕ} {Recorded : ℕ → ℕ → ℕ → Step → Type 0} {tally : Tally} {goals openGoals : List Goal} {steps : List Step} where
-    module _ {defs : List Def} (t : Tables goalsText certificate table defBuckets (Means es th ts) Recorded tally goals openGoals defs steps)
+  module _ {goalsText certificate table : List ℕ} {Recorded : ℕ → ℕ → ℕ → ℕ → Step → Type 0} {tally : Tally} {goals openGoals : List Goal} {steps : List Step} {results : List Witness} where
+    module _ {defs : List Def} (t : Tables goalsText certificate table defBuckets (Means es th ts) Recorded tally goals openGoals defs steps results)
         (short : length certificate ≤ 32768) (at-items : At certificate (RestComes is K) spent r) where
       -- A term of the certificate.
       pub certificate-term : Simulates (AskedRead es th certificate K top spent stack ts) (walk.term left certificate rules heap table top r store stack)
@@ -41,7 +42,7 @@ module _ {rules heap : List ℕ} {es : Entries} {bound : ℕ} {th : Theory} (h :
           ask-term-law certificate table h defs ts (t .def-part) short is left depth top spent K ts r store stack deep (ready certificate at-items)
 
     -- A judgment of the goals, where there is no abbreviation.
-    pub goal-judgment : Tables goalsText certificate table defBuckets (Means es th ts) Recorded tally goals openGoals [] steps → length goalsText ≤ 32768
+    pub goal-judgment : Tables goalsText certificate table defBuckets (Means es th ts) Recorded tally goals openGoals [] steps results → length goalsText ≤ 32768
         → At goalsText (RestComes is K) spent r
         → Simulates (AskedRead es th goalsText K top spent stack ts) (judgments.judgment left goalsText rules heap table top r store stack)
         (definition.askJudgment document01 th [] depth is ts)

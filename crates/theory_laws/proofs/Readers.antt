@@ -13,7 +13,7 @@ use Rattle.theory_laws.specs.Reading.{same-opening, same-closing, same-a
 
 module _ (text : List ℕ) (r : Reader) where
   token-is : (a : lexed.Answer) (t : Token) (ts : Stream Token) → lexed.taken text r ≡ a → readers.Takes text (t ▹ ts) a → Takes text (Stands text) r t ts
-  token-is a t ts e (take-opening {r = q} st) = record { got = Opening; next = q; taken = e; same = same-opening; before = st }
+  token-is a t ts e (take-opening {r = q} st bare) = record { got = Opening; next = q; taken = e; same = same-opening; before = st }
   token-is a t ts e (take-closing {r = q} st) = record { got = Closing; next = q; taken = e; same = same-closing; before = st }
   token-is a t ts e (take-atom {a = s} {b = f} {r = q} st x y z) =
       record { got = Atom s f; next = q; taken = e; same = same-atom x y z; before = st }

@@ -20,7 +20,4 @@ slice-aggregate-called-4 c = sym (length-take-le _ _ (c .before .before .before 
 pub lend-spec : {M : Type 1} → statement M
 lend-spec =
     tie.close
-    (tie.spec (λ c. search needs) (λ c. search needs) (λ c. search needs) (λ c. search needs) (λ c. search needs) (λ c. search needs)
-    (λ c. search needs) (λ c. search needs) (λ c. search needs) slice-aggregate-called (λ c. search needs) slice-aggregate-called-2
-    (λ c. search needs) slice-aggregate-called-3 (λ c. search needs) slice-aggregate-called-4 (λ c κs. search needs) (λ c. search needs)
-    (λ c. search needs) (λ c. search needs) (λ c. search needs) (λ c. search needs))
+    (tie.spec (λ c. search needs) (λ c. search needs) (λ c. search needs) (λ c. search needs) (λ c κs. search needs) (λ c. search needs) (λ c κs. search needs) (λ c. search needs) (λ c κs. search needs) (λ c. search needs) (λ c κs. search needs) (λ c. search needs) (λ c. search needs) slice-aggregate-called (λ c. search needs) slice-aggregate-called-2 (λ c. search needs) slice-aggregate-called-3 (λ c. search needs) slice-aggregate-called-4 (λ c κs. search needs) (λ c. search needs) (λ c. search needs) (λ c. search needs) (λ c. search needs) (λ c. search needs) (λ c. search needs))

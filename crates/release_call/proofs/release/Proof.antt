@@ -4,22 +4,23 @@ use lib.Seq.{length-take-le}
 use denote.Ref.{now}
 use borrow.Author.Tests.{not-true, not-false}
 use Rattle.clearing.proofs.Areas.{long}
-use Rattle.release_call.proofs.Call.{area-short, rulebook-long, goals-long, certificate-long, release-judged}
+use Rattle.checker_laws.proofs.Lengths as lengths
+use Rattle.release_call.proofs.Call.{area-short, text-long, release-judged}
 use borrow.Author.Needs.{needs}
 use Rattle.release_call.proofs.release.Statement.{statement}
 use Rattle.release_call.proofs.release.Tie as tie
 
 returns : tie.Need-returns
-returns c = area-short _ _ _ _ _ _ _ _ (sym (c .before .before .long-enough .ensures) ∙ not-true _ (c .before .if1 .taken)) (c .unreleased .ensures)
+returns c = area-short _ _ _ _ _ _ _ _ (lengths.area-short _ _ _ _ _ _ _ (sym (c .before .before .long-enough .ensures) ∙ not-true _ (c .before .if1 .taken))) (c .unreleased .ensures)
 
 returns-2 : tie.Need-returns-2
-returns-2 c = rulebook-long _ _ _ _ _ _ _ (sym (c .before .before .before .long-enough .ensures) ∙ not-false _ (c .before .before .if1 .left)) _ (c .before .if2 .taken) (c .unreleased2 .ensures)
+returns-2 c = text-long _ _ _ _ _ _ _ _ (lengths.rulebook-long _ _ _ _ _ _ _ (sym (c .before .before .before .long-enough .ensures) ∙ not-false _ (c .before .before .if1 .left)) (c .before .if2 .taken)) (c .unreleased2 .ensures)
 
 returns-3 : tie.Need-returns-3
-returns-3 c = goals-long _ _ _ _ _ _ _ (sym (c .before .before .before .before .long-enough .ensures) ∙ not-false _ (c .before .before .before .if1 .left)) (c .before .before .if2 .left) _ (c .before .if3 .taken) (c .unreleased3 .ensures)
+returns-3 c = text-long _ _ _ _ _ _ _ _ (lengths.goals-long _ _ _ _ _ _ _ (sym (c .before .before .before .before .long-enough .ensures) ∙ not-false _ (c .before .before .before .if1 .left)) (c .before .before .if2 .left) (c .before .if3 .taken)) (c .unreleased3 .ensures)
 
 returns-4 : tie.Need-returns-4
-returns-4 c = certificate-long _ _ _ _ _ _ _ (sym (c .before .before .before .before .before .long-enough .ensures) ∙ not-false _ (c .before .before .before .before .if1 .left)) (c .before .before .before .if2 .left) (c .before .before .if3 .left) _ (c .before .if4 .taken) (c .unreleased4 .ensures)
+returns-4 c = text-long _ _ _ _ _ _ _ _ (lengths.certificate-long _ _ _ _ _ _ _ (sym (c .before .before .before .before .before .long-enough .ensures) ∙ not-false _ (c .before .before .before .before .if1 .left)) (c .before .before .before .if2 .left) (c .before .before .if3 .left) (c .before .if4 .taken)) (c .unreleased4 .ensures)
 
 slice-relend-prefix-check : tie.Need-slice-relend-prefix-check
 slice-relend-prefix-check c = long _ _ _ _ (sym (c .before .before .before .before .long-enough .ensures) ∙ not-false _ (c .before .before .before .if1 .left)) .first

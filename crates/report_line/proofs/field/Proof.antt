@@ -16,7 +16,7 @@ add-result c = search (needs, at-most-ten _ _ (search needs) (c .before .before 
 
 returns : tie.Need-returns
 returns c = (
-  field-text _ _ _ _ (c .before .before .before .before .before .before .before .before .before .decimal .ensures .0 .1) (c .before .before .before .before .before .before .before .before .before .decimal .ensures .1 .0) (c .before .before .before .before .before .before .before .before .before .decimal .ensures .1 .1) _ _ (c .before .before .before .before .before .before .push .ensures) (c .before .before .put-byte .ensures),
+  field-text _ _ _ _ (c .before .before .before .before .before .before .before .before .before .decimal .ensures .0 .1) (c .before .before .before .before .before .before .before .before .before .decimal .ensures .1 .0) (c .before .before .before .before .before .before .before .before .before .decimal .ensures .1 .1) _ _ (c .before .before .before .before .before .before .put-bytes .ensures) (c .before .before .put-byte .ensures),
   (field-long _ _ _ _ (c .before .before .before .before .before .before .before .before .before .decimal .ensures .0 .1) (c .before .before .before .before .before .before .before .before .before .decimal .ensures .1 .0) (c .before .before .before .before .before .before .before .before .before .decimal .ensures .1 .1), search (needs, at-most-ten _ _ (search needs) (c .before .before .before .before .before .before .before .before .before .decimal .ensures .1 .0))),
 )
 

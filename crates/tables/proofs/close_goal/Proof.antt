@@ -7,13 +7,13 @@ use Rattle.tables.proofs.close_goal.Tie as tie
 
 returns : tie.Need-returns
 unfolding goalDone goalClosed
-returns c = (rw (c .if1 .taken), c .before .before .before .put .ensures)
+returns c = (rw (c .if1 .taken), rw (← c .before .before .before .before .plus .ensures) (c .before .before .before .put .ensures))
 
 returns-2 : tie.Need-returns-2
 unfolding goalDone goalClosed
-returns-2 c = (refl, c .before .before .before .put .ensures)
+returns-2 c = (refl, rw (← c .before .before .before .before .plus .ensures) (c .before .before .before .put .ensures))
 
 pub close-goal-spec : {M : Type 1} → statement M
 close-goal-spec =
     tie.close
-    (tie.spec (λ c. search needs) (λ c κs. search needs) (λ c. search needs) returns (λ c. search needs) (λ c. search needs) returns-2)
+    (tie.spec (λ c. search needs) (λ c κs. search needs) (λ c κs. search needs) (λ c. search needs) returns (λ c. search needs) (λ c. search needs) returns-2)

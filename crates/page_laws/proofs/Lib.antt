@@ -1,0 +1,4 @@
+pub mod Kept
+pub mod Lines
+pub mod Used
+pub mod Whole

@@ -1,0 +1,3 @@
+pub mod Placed
+pub mod Turns
+pub mod Fields
