@@ -83,9 +83,9 @@ fn filled(quarters: usize, line: impl Fn(usize) -> String) -> Tokens {
 
 pub fn loads(run: &mut Run) {
     run.load("lex", "ASCII", "0.6", |q| filled(q, |i| format!("(step {i} more ({i}) (hold (s (s z))))\n")));
-    let line = "(步骤 规则第一 (前提) (成立 (后继 零)))\u{3000}; 注释一下\n";
-    run.load("lex", "three-byte characters, short atoms", "0.8", |q| filled(q, |_| line.into()));
-    let line = "天地玄黄宇宙洪荒日月盈昃辰宿列张\n";
-    run.load("lex", "three-byte characters, long atoms", "0.8", |q| filled(q, |_| line.into()));
+    for (name, line) in crate::lines::LINES {
+        let bar = if name.starts_with("three-byte characters, ") { "0.8" } else { "" };
+        run.load("lex", name, bar, |q| filled(q, |_| line.into()));
+    }
     run.fixed("lex", "clearing of the four areas, beside `memset`", "", Clearing(RefCell::new(crate::measure::areas())));
 }

@@ -9,6 +9,8 @@ mod kernel;
 mod lex;
 #[path = "lex/loads.rs"]
 mod lexing;
+#[path = "lex/lines.rs"]
+mod lines;
 #[path = "shared/measure.rs"]
 mod measure;
 mod messages;

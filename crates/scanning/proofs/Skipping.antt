@@ -16,6 +16,7 @@ use Rattle.utf8.specs.Classes.{isOrdinary, isWhite, isComment, kindNumber}
 use Rattle.utf8.specs.Characters.{found, first, width, kindAt}
 use Rattle.scanning.specs.Scan.{blanks, atomEnd}
 use Rattle.horn.proofs.Equality.{case}
+use Rattle.utf8.proofs.Sixteen.{kind-at}
 use Rattle.scanning.proofs.Turns.{atom-stop, atom-step, atom-over, blank-stop, blank-step, blank-over, comment-stop}
 use Rattle.scanning.proofs.Streams.{first-newline}
 use Rattle.scanning.proofs.Lines.{Clean, over, newline, on, charsAt, found-steps, clean-le, at-newline, at-end, over-newline, over-char, value-inner}
@@ -111,8 +112,7 @@ ordinary-kind k e = rw e
 -- The kind and the width of the character at a place.
 module _ (text : List ℕ) (p n v : ℕ) (f : first (drop p text) ≡ found n v) where
   pub kind-here : kindNumber (kind v) ≡ kindAt (first (drop p text))
-  unfolding kindAt
-  kind-here = rw f
+  kind-here = sym (kind-at (drop p text) f)
 
   pub width-here : n ≡ width (first (drop p text))
   unfolding width

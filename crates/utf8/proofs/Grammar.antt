@@ -4,7 +4,7 @@ use mathlib.Core.Path.{_≡_, _∙_, refl}
 use mathlib.Core.Bool.{Bool, true, false}
 use mathlib.Core.List.{List, [], _∷_}
 use mathlib.Core.Option.{Option, none, some}
-use Prim.Native.Nat.{ℕ, _+_, _*_, _-_, _%_, _≤_, _<_}
+use Prim.Native.Nat.{ℕ, _+_, _*_, _-_, _/_, _%_, _≤_, _<_}
 use native.Mathlib.Omega.{arith}
 use borrow.Author.Tests.{lt-ltb, le-ltb, lt-leb, le-leb, ltb-true, ltb-false, ne-eqb}
 use lib.Dec.{T, eqb, ltb, eqb→eq, ltb→lt}
@@ -213,3 +213,24 @@ above-range {lo} {hi} {b} l h f = rw (le-ltb b lo l, lt-ltb hi b h, inRange)
 pub in-range : {lo hi b : ℕ} → lo ≤ b → b ≤ hi → (f : First) → inRange lo hi b f ≡ f
 unfolding inRange
 in-range {lo} {hi} {b} l h f = rw (le-ltb b lo l, le-ltb hi b h, inRange)
+
+-- A later byte is one of 80 to BF.
+pub later : (b : ℕ) (f : First) → b / 64 ≡ 2 → inRange 0x80 0xBF b f ≡ f
+later b f e = in-range {lo = 0x80} {hi = 0xBF} {b = b} (omega arith) (omega arith) f
+
+pub no-later : (b : ℕ) (f : First) → (b / 64 ≡ 2 → ⊥) → inRange 0x80 0xBF b f ≡ broken
+no-later b f d =
+    case (ltb b 0x80)
+    (λ t. below-range (ltb-true b 0x80 t) 0xBF f)
+    (λ n. case (ltb 0xBF b)
+    (λ t. above-range (ltb-false b 0x80 n) (ltb-true 0xBF b t) f)
+    (λ m.
+    let p = ltb-false b 0x80 n in
+    let q = ltb-false 0xBF b m in
+    absurd (d (omega arith))))
+
+-- A character of two bytes.
+pub two-bytes : (c b : ℕ) (bs : List ℕ) → c ≡ leadsTwo
+    → longerBy c b bs ≡ inRange 0x80 0xBF (getD bs 1 0) (found 2 (b % 32 * 64 + getD bs 1 0 % 64))
+unfolding longerBy lowOf highOf
+two-bytes c b bs e = rw e

@@ -1,5 +1,6 @@
 pub mod Table
 pub mod Grammar
 pub mod Whiteness
+pub mod Sixteen
 pub mod Looks
 pub mod Plain

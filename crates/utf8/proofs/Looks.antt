@@ -6,13 +6,13 @@ use mathlib.Core.Option.{Option, none, some}
 use Prim.Native.Nat.{ℕ, suc, _+_, _*_, _-_, _≤_, _<_}
 use native.Mathlib.Nat.{add-zero}
 use native.Mathlib.Omega.{arith}
-use borrow.Author.Tests.{ne-eqb, eqb-true, eqb-false}
+use borrow.Author.Tests.{eq-eqb, ne-eqb, eqb-true, eqb-false}
 use lib.Dec.{eqb, ltb}
 use lib.ListN.{length, getD, take, drop, length-drop, drop-of-length-le}
 use lib.Seq.{take-all, getD-drop}
 use Rattle.horn.specs.Utf8.{Range, within, Sequence, sequence, sequences, startedBy}
 use Rattle.horn.specs.Tokens.{kind}
-use Rattle.utf8.specs.Classes.{kindNumber, never, leadsTwo, leadsE0, leadsF0, classOf, lowOf, highOf}
+use Rattle.utf8.specs.Classes.{isOrdinary, kindNumber, never, leadsTwo, leadsE0, leadsF0, classOf, lowOf, highOf}
 use Rattle.utf8.specs.Characters.{First, broken, found, oneMore, rest, first, width, value, kindAt, inRange, longerBy, byClass}
 use Rattle.horn.proofs.Equality.{case}
 use Rattle.utf8.proofs.Table.{ascii-class}
@@ -72,10 +72,16 @@ module _ (m : ℕ) where
   width-zero broken s e = refl
   width-zero (found n v) s e = absurd (omega arith)
 
-width-kind : (f : First) → (width f ≡ 0 → ⊥) → kindNumber (kind (value f)) ≡ kindAt f
+-- The kind of a character by its width, and by its value in 16 bits where it has fewer than four bytes.
+four-kind : (f : First) → width f ≡ 4 → isOrdinary ≡ kindAt f
+unfolding width kindAt
+four-kind broken e = absurd (omega arith)
+four-kind (found n v) e = rw (eq-eqb n 4 e, kindAt)
+
+short-kind : (f : First) → (width f ≡ 0 → ⊥) → (width f ≡ 4 → ⊥) → kindNumber (kind (value f)) ≡ kindAt f
 unfolding width value kindAt
-width-kind broken d = absurd (d refl)
-width-kind (found n v) d = refl
+short-kind broken d k = absurd (d refl)
+short-kind (found n v) d k = rw (ne-eqb n 4 k, kindAt, value)
 
 pub rest-of : (text : List ℕ) (p : ℕ) → take (length text - p) (drop p text) ≡ drop p text
 rest-of text p = take-all (length text - p) (drop p text) (simp length-drop (omega arith))
@@ -163,11 +169,14 @@ module _ (text : List ℕ) (p c : ℕ) where
     unfolding kindAt width
     longer-none z = let b = longer-here d ∙ longer-zero _ _ _ (sym e ∙ z) in (rw b, rw b)
 
+    pub longer-four : w ≡ 4 → (isOrdinary ≡ kindAt (byClass c (drop p text))) × (4 ≡ width (byClass c (drop p text)))
+    longer-four f = let b = longer-here d in (four-kind _ (sym e ∙ f) ∙ ap kindAt (sym b), sym f ∙ e ∙ ap width (sym b))
+
     pub longer-seen : (v k : ℕ) → v ≡ value (longerBy c (getD text p 0) (take (length text - p) (drop p text))) → (w ≡ 0 → ⊥)
-        → k ≡ kindNumber (kind v) → (k ≡ kindAt (byClass c (drop p text))) × (w ≡ width (byClass c (drop p text)))
-    longer-seen v k g n h =
+        → (w ≡ 4 → ⊥) → k ≡ kindNumber (kind v) → (k ≡ kindAt (byClass c (drop p text))) × (w ≡ width (byClass c (drop p text)))
+    longer-seen v k g n m h =
         let b = longer-here d in
-        (h ∙ rw g (width-kind _ (λ z. n (e ∙ z)) ∙ ap kindAt (sym b)), e ∙ ap width (sym b))
+        (h ∙ rw g (short-kind _ (λ z. n (e ∙ z)) (λ z. m (e ∙ z)) ∙ ap kindAt (sym b)), e ∙ ap width (sym b))
 
 -- An ASCII character has one byte.
 pub ascii-width : (text : List ℕ) (p : ℕ) → p < length text → getD text p 0 < 128 → 1 ≡ width (first (drop p text))

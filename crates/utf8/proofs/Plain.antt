@@ -3,31 +3,15 @@ use mathlib.Core.Path.{_≡_, _∙_, ap, sym}
 use mathlib.Core.List.{List}
 use Prim.Native.Nat.{ℕ, _+_, _*_, _-_, _/_, _%_, _<_}
 use native.Mathlib.Omega.{arith}
-use borrow.Author.Tests.{eq-eqb, ne-eqb, eqb-true, eqb-false, ltb-true, ltb-false}
-use lib.Dec.{eqb, ltb}
+use borrow.Author.Tests.{eq-eqb, ne-eqb, eqb-true, eqb-false}
+use lib.Dec.{eqb}
 use lib.ListN.{length, getD, take, drop, List·getD-eq-default}
-use Rattle.horn.specs.Tokens.{kind, ordinary}
 use Rattle.horn.proofs.Equality.{case}
 use Rattle.utf8.specs.Classes.{isOrdinary, kindNumber, leadsPlain, classOf, lowOf, highOf}
 use Rattle.utf8.specs.Characters.{First, broken, found, first, width, value, kindAt, inRange, longerBy, byClass, plainValue}
-use Rattle.utf8.proofs.Grammar.{below-range, above-range, in-range}
-use Rattle.utf8.proofs.Whiteness.{white-above}
+use Rattle.utf8.proofs.Grammar.{later, no-later}
+use Rattle.utf8.proofs.Whiteness.{kind-above}
 use Rattle.utf8.proofs.Looks.{rest-of, longer-is}
-
--- A later byte is one of 80 to BF.
-later : (b : ℕ) (f : First) → b / 64 ≡ 2 → inRange 0x80 0xBF b f ≡ f
-later b f e = in-range {lo = 0x80} {hi = 0xBF} {b = b} (omega arith) (omega arith) f
-
-no-later : (b : ℕ) (f : First) → (b / 64 ≡ 2 → ⊥) → inRange 0x80 0xBF b f ≡ broken
-no-later b f d =
-    case (ltb b 0x80)
-    (λ t. below-range (ltb-true b 0x80 t) 0xBF f)
-    (λ n. case (ltb 0xBF b)
-    (λ t. above-range (ltb-false b 0x80 n) (ltb-true 0xBF b t) f)
-    (λ m.
-    let p = ltb-false b 0x80 n in
-    let q = ltb-false 0xBF b m in
-    absurd (d (omega arith))))
 
 still-broken : (b : ℕ) → inRange 0x80 0xBF b broken ≡ broken
 still-broken b = case (eqb (b / 64) 2) (λ t. later b broken (eqb-true _ _ t)) (λ n. no-later b broken (eqb-false _ _ n))
@@ -89,11 +73,6 @@ module _ (c : ℕ) (bs : List ℕ) (e : c ≡ leadsPlain) where
 pub plain-other : (c : ℕ) (bs : List ℕ) → (c ≡ leadsPlain → ⊥) → 0 ≡ plainValue c bs
 unfolding plainValue
 plain-other c bs d = rw (ne-eqb c leadsPlain d, plainValue)
-
-kind-above : (v : ℕ) → 0x3000 < v → kind v ≡ ordinary
-unfolding kind
-kind-above v h =
-    rw (white-above v h, ne-eqb v 0x28 (λ z. omega arith), ne-eqb v 0x29 (λ z. omega arith), ne-eqb v 0x3B (λ z. omega arith), kind)
 
 -- At a place of a text, by the class of the byte there.
 module _ (text : List ℕ) (q c : ℕ) (h : q < length text) (u : getD text q 0 < 256) (e : c ≡ classOf (getD text q 0)) (v : ℕ)

@@ -7,7 +7,7 @@ use lib.Dec.{eqb, ltb}
 use lib.ListN.{getD}
 use Rattle.horn.specs.Utf8.{Range, within, Sequence, sequence, sequences, startedBy}
 use Rattle.horn.specs.Tokens.{kind}
-use Rattle.utf8.specs.Classes.{kindNumber, never, leadsTwo, leadsPlain, leadsF0, lowOf, highOf}
+use Rattle.utf8.specs.Classes.{isOrdinary, kindNumber, never, leadsTwo, leadsPlain, leadsF0, lowOf, highOf}
 
 -- A character of so many bytes with this value, or none.
 pub data First : Type 0 where
@@ -30,18 +30,20 @@ first [] = broken
 first (b ∷ bs) =
     elim (startedBy b sequences) [ none ↦ broken | some (sequence r mark rs) ↦ oneMore (rest (b - mark) rs bs) ]
 
--- Its width, 0 where there is none; its value; the number of its kind.
+-- Its width, 0 where there is none.
 unfoldable pub width : First → ℕ
 width broken = 0
 width (found n v) = n
 
+-- Its value in 16 bits, 0 where there is none. One of four bytes lies above FFFF and is not put together: 0 too.
 unfoldable pub value : First → ℕ
 value broken = 0
-value (found n v) = v
+value (found n v) = elim (eqb n 4) [ true ↦ 0 | false ↦ v ]
 
+-- The number of its kind. One of four bytes is answered before it is put together; that the answer is the definition's is proved in Sixteen.
 unfoldable pub kindAt : First → ℕ
 kindAt broken = never
-kindAt (found n v) = kindNumber (kind v)
+kindAt (found n v) = elim (eqb n 4) [ true ↦ isOrdinary | false ↦ kindNumber (kind v) ]
 
 -- The same by the class of the first byte, for the classes above `never`: a byte outside its range breaks the character.
 unfoldable pub inRange : ℕ → ℕ → ℕ → First → First

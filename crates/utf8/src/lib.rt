@@ -3,16 +3,16 @@ ghost use mathlib.Core.Path.{_≡_};
 ghost use Prim.Native.Nat.{_+_, _*_, _%_};
 ghost use lib.ListN.{drop};
 ghost use Rattle.horn.specs.Tokens.{white, kind};
-ghost use Rattle.horn.specs.Utf8.{within, range};
 ghost use Rattle.utf8.specs.Classes.{kindNumber};
 ghost use Rattle.utf8.specs.Characters.{first, longerBy, byClass, plainValue, width, value, kindAt};
 
 pub mod classes;
 
-// A character's width in bytes, 0 where there is none, and its value.
+// A character's width in bytes, 0 where there is none, and its value in 16 bits: 0 for one of four bytes, which lies above FFFF and is
+// not put together.
 pub struct Character {
     pub width: usize,
-    pub value: u32,
+    pub value: u16,
 }
 
 // The number of a character's kind, and its width.
@@ -21,58 +21,37 @@ pub struct Seen {
     pub width: usize,
 }
 
-// Whether a value lies in a range.
-pub fn between(low: u32, v: u32, high: u32) -> bool
-    ensures { λ r. ⌜ r ≡ within (range low high) v ⌝ }
-{
-    if v < low {
-        return false;
-    }
-    v <= high
-}
-
 // The last character that is white space.
 pub const LAST_WHITE: u32 = 0x3000;
 
-// Whether a character is white space, by its value.
-pub fn is_white(v: u32) -> bool
+// Whether a character is white space, by its value in 16 bits. Most letters of three bytes lie above 3000 and most of two between A0 and
+// 2000, where 1680 alone is white space: so these are told by the first tests.
+pub fn is_white(v: u16) -> bool
     ensures { λ r. ⌜ r ≡ white v ⌝ }
 {
-    if LAST_WHITE < v {
-        return false;
+    if 0x2FFF < v {
+        return v == 0x3000;
     }
-    if between(0x9, v, 0xD) {
+    if v < 0x2000 {
+        if 0xA0 < v {
+            return v == 0x1680;
+        }
+        return match v {
+            0x9..=0xD | 0x20 | 0x85 | 0xA0 => true,
+            _ => false,
+        };
+    }
+    if v <= 0x200A {
         return true;
     }
-    if between(0x20, v, 0x20) {
-        return true;
+    match v {
+        0x2028..=0x2029 | 0x202F | 0x205F => true,
+        _ => false,
     }
-    if between(0x85, v, 0x85) {
-        return true;
-    }
-    if between(0xA0, v, 0xA0) {
-        return true;
-    }
-    if between(0x1680, v, 0x1680) {
-        return true;
-    }
-    if between(0x2000, v, 0x200A) {
-        return true;
-    }
-    if between(0x2028, v, 0x2029) {
-        return true;
-    }
-    if between(0x202F, v, 0x202F) {
-        return true;
-    }
-    if between(0x205F, v, 0x205F) {
-        return true;
-    }
-    between(0x3000, v, 0x3000)
 }
 
-// The number of a character's kind, by its value.
-pub fn kind_of(v: u32) -> u8
+// The number of a character's kind, by its value in 16 bits.
+pub fn kind_of(v: u16) -> u8
     ensures { λ r. ⌜ r ≡ kindNumber (kind v) ⌝ }
 {
     if is_white(v) {
@@ -91,10 +70,10 @@ pub fn kind_of(v: u32) -> u8
 }
 
 // The value of a character of two bytes.
-fn two(a: u8, b: u8) -> u32
+fn two(a: u8, b: u8) -> u16
     ensures { λ r. ⌜ r ≡ a % 32 * 64 + b % 64 ⌝ }
 {
-    (a % 32) as u32 * 64 + (b % 64) as u32
+    (a % 32) as u16 * 64 + (b % 64) as u16
 }
 
 // Of three bytes.
@@ -102,13 +81,6 @@ fn three(a: u8, b: u8, c: u8) -> u32
     ensures { λ r. ⌜ r ≡ (a % 16 * 64 + b % 64) * 64 + c % 64 ⌝ }
 {
     ((a % 16) as u32 * 64 + (b % 64) as u32) * 64 + (c % 64) as u32
-}
-
-// Of four bytes.
-fn four(a: u8, b: u8, c: u8, d: u8) -> u32
-    ensures { λ r. ⌜ r ≡ ((a % 8 * 64 + b % 64) * 64 + c % 64) * 64 + d % 64 ⌝ }
-{
-    (((a % 8) as u32 * 64 + (b % 64) as u32) * 64 + (c % 64) as u32) * 64 + (d % 64) as u32
 }
 
 // The first character of some bytes.
@@ -124,7 +96,7 @@ pub fn first_of(s: &[u8]) -> Character
     if c < classes::NEVER {
         return Character {
             width: 1,
-            value: b as u32,
+            value: b as u16,
         };
     }
     if c == classes::NEVER {
@@ -139,17 +111,20 @@ fn longer(s: &[u8], b: u8, c: u8) -> Character
     ensures valued { λ r. ⌜ r .value ≡ value (longerBy c b (now (s .entry))) ⌝ }
 {
     let second = words::byte(s, 1);
+    if c == classes::LEADS_TWO {
+        if second / 64 != 2 {
+            return Character { width: 0, value: 0 };
+        }
+        return Character {
+            width: 2,
+            value: two(b, second),
+        };
+    }
     if second < classes::low(c) {
         return Character { width: 0, value: 0 };
     }
     if classes::high(c) < second {
         return Character { width: 0, value: 0 };
-    }
-    if c == classes::LEADS_TWO {
-        return Character {
-            width: 2,
-            value: two(b, second),
-        };
     }
     let third = words::byte(s, 2);
     if third < 0x80 {
@@ -161,7 +136,7 @@ fn longer(s: &[u8], b: u8, c: u8) -> Character
     if c < classes::LEADS_F0 {
         return Character {
             width: 3,
-            value: three(b, second, third),
+            value: three(b, second, third) as u16,
         };
     }
     let fourth = words::byte(s, 3);
@@ -171,10 +146,7 @@ fn longer(s: &[u8], b: u8, c: u8) -> Character
     if 0xBF < fourth {
         return Character { width: 0, value: 0 };
     }
-    Character {
-        width: 4,
-        value: four(b, second, third, fourth),
-    }
+    Character { width: 4, value: 0 }
 }
 
 // What stands at a place: the number of the character's kind and its width.
@@ -213,17 +185,22 @@ pub fn look_longer(text: &[u8], p: usize, c: u8) -> Seen
         };
     }
     let found = longer(&text[p..], text[p], c);
-    if found.width == 0 {
+    let width = found.width;
+    if width == 0 {
         return Seen {
             kind: classes::NEVER,
             width: 0,
         };
     }
-    let kind = kind_of(found.value);
-    Seen {
-        kind,
-        width: found.width,
+    // Above FFFF: no white space, whatever its value is.
+    if width == 4 {
+        return Seen {
+            kind: classes::ORDINARY,
+            width: 4,
+        };
     }
+    let kind = kind_of(found.value);
+    Seen { kind, width }
 }
 
 // The value of the first character where its first byte, of class c, is one of E1 to EC, EE and EF; 0 for any other, and where there is none.
