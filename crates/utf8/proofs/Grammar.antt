@@ -215,11 +215,11 @@ unfolding inRange
 in-range {lo} {hi} {b} l h f = rw (le-ltb b lo l, le-ltb hi b h, inRange)
 
 -- A later byte is one of 80 to BF.
-pub later : (b : ℕ) (f : First) → b / 64 ≡ 2 → inRange 0x80 0xBF b f ≡ f
-later b f e = in-range {lo = 0x80} {hi = 0xBF} {b = b} (omega arith) (omega arith) f
+pub later : (b : ℕ) → b / 64 ≡ 2 → (f : First) → inRange 0x80 0xBF b f ≡ f
+later b e f = in-range {lo = 0x80} {hi = 0xBF} {b = b} (omega arith) (omega arith) f
 
-pub no-later : (b : ℕ) (f : First) → (b / 64 ≡ 2 → ⊥) → inRange 0x80 0xBF b f ≡ broken
-no-later b f d =
+pub no-later : (b : ℕ) → (b / 64 ≡ 2 → ⊥) → (f : First) → inRange 0x80 0xBF b f ≡ broken
+no-later b d f =
     case (ltb b 0x80)
     (λ t. below-range (ltb-true b 0x80 t) 0xBF f)
     (λ n. case (ltb 0xBF b)

@@ -14,7 +14,7 @@ use Rattle.utf8.proofs.Whiteness.{kind-above}
 use Rattle.utf8.proofs.Looks.{rest-of, longer-is}
 
 still-broken : (b : ℕ) → inRange 0x80 0xBF b broken ≡ broken
-still-broken b = case (eqb (b / 64) 2) (λ t. later b broken (eqb-true _ _ t)) (λ n. no-later b broken (eqb-false _ _ n))
+still-broken b = case (eqb (b / 64) 2) (λ t. later b (eqb-true _ _ t) broken) (λ n. no-later b (eqb-false _ _ n) broken)
 
 module _ (c : ℕ) (bs : List ℕ) (e : c ≡ leadsPlain) where
   by-bytes : byClass c bs
@@ -28,17 +28,17 @@ module _ (c : ℕ) (bs : List ℕ) (e : c ≡ leadsPlain) where
   valued = rw (eq-eqb c leadsPlain e, plainValue)
 
   no-second : (getD bs 1 0 / 64 ≡ 2 → ⊥) → byClass c bs ≡ broken
-  no-second d = by-bytes ∙ no-later _ _ d
+  no-second d = by-bytes ∙ no-later _ d _
 
   no-third : (getD bs 2 0 / 64 ≡ 2 → ⊥) → byClass c bs ≡ broken
   no-third d =
       by-bytes
-      ∙ rw (no-later (getD bs 2 0) (found 3 ((getD bs 0 0 % 16 * 64 + getD bs 1 0 % 64) * 64 + getD bs 2 0 % 64)) d)
+      ∙ rw (no-later (getD bs 2 0) d (found 3 ((getD bs 0 0 % 16 * 64 + getD bs 1 0 % 64) * 64 + getD bs 2 0 % 64)))
       (still-broken (getD bs 1 0))
 
   all-three : getD bs 1 0 / 64 ≡ 2 → getD bs 2 0 / 64 ≡ 2
       → byClass c bs ≡ found 3 ((getD bs 0 0 % 16 * 64 + getD bs 1 0 % 64) * 64 + getD bs 2 0 % 64)
-  all-three h k = by-bytes ∙ later _ _ h ∙ later _ _ k
+  all-three h k = by-bytes ∙ later _ h _ ∙ later _ k _
 
   nothing : byClass c bs ≡ broken → 0 ≡ plainValue c bs
   unfolding value

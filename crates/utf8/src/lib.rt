@@ -105,7 +105,7 @@ pub fn first_of(s: &[u8]) -> Character
     longer(s, b, c)
 }
 
-// The first character of some bytes whose first byte leads longer ones.
+// The first character of some bytes whose first byte leads longer ones. A later byte without a range of its own has 2 in its upper two bits.
 fn longer(s: &[u8], b: u8, c: u8) -> Character
     ensures wide { λ r. ⌜ r .width ≡ width (longerBy c b (now (s .entry))) ⌝ }
     ensures valued { λ r. ⌜ r .value ≡ value (longerBy c b (now (s .entry))) ⌝ }
@@ -127,10 +127,7 @@ fn longer(s: &[u8], b: u8, c: u8) -> Character
         return Character { width: 0, value: 0 };
     }
     let third = words::byte(s, 2);
-    if third < 0x80 {
-        return Character { width: 0, value: 0 };
-    }
-    if 0xBF < third {
+    if third / 64 != 2 {
         return Character { width: 0, value: 0 };
     }
     if c < classes::LEADS_F0 {
@@ -140,10 +137,7 @@ fn longer(s: &[u8], b: u8, c: u8) -> Character
         };
     }
     let fourth = words::byte(s, 3);
-    if fourth < 0x80 {
-        return Character { width: 0, value: 0 };
-    }
-    if 0xBF < fourth {
+    if fourth / 64 != 2 {
         return Character { width: 0, value: 0 };
     }
     Character { width: 4, value: 0 }
@@ -192,7 +186,7 @@ pub fn look_longer(text: &[u8], p: usize, c: u8) -> Seen
             width: 0,
         };
     }
-    // Above FFFF: no white space, whatever its value is.
+    // Above FFFF: neither white space nor a bracket or `;`, whatever the value is.
     if width == 4 {
         return Seen {
             kind: classes::ORDINARY,

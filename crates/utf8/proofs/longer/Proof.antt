@@ -10,11 +10,11 @@ use Rattle.utf8.proofs.longer.Tie as tie
 
 returns : tie.Need-returns
 unfolding width value
-returns c = let e = two-bytes _ _ _ (c .before .if1 .taken) ∙ no-later _ _ (λ z. c .if2 .taken (ap (λ (n : ℕ). n / 64) (c .before .before .byte .ensures) ∙ z)) in (sym (ap width e), sym (ap value e))
+returns c = let e = two-bytes _ _ _ (c .before .if1 .taken) ∙ no-later _ (λ z. c .if2 .taken (ap (λ (n : ℕ). n / 64) (c .before .before .byte .ensures) ∙ z)) _ in (sym (ap width e), sym (ap value e))
 
 returns-2 : tie.Need-returns-2
 unfolding width value
-returns-2 c = let e = two-bytes _ _ _ (c .before .before .if1 .taken) ∙ later _ _ (ap (λ (n : ℕ). n / 64) (sym (c .before .before .before .byte .ensures)) ∙ c .before .if2 .left) in (sym (ap width e), c .two .ensures ∙ rw (c .before .before .before .byte .ensures) (sym (ap value e)))
+returns-2 c = let e = two-bytes _ _ _ (c .before .before .if1 .taken) ∙ later _ (ap (λ (n : ℕ). n / 64) (sym (c .before .before .before .byte .ensures)) ∙ c .before .if2 .left) _ in (sym (ap width e), c .two .ensures ∙ rw (c .before .before .before .byte .ensures) (sym (ap value e)))
 
 returns-3 : tie.Need-returns-3
 unfolding longerBy width value
@@ -26,33 +26,25 @@ returns-4 c = (rw (← c .before .before .before .before .before .byte .ensures,
 
 returns-5 : tie.Need-returns-5
 unfolding longerBy width value
-returns-5 c = (rw (← c .before .before .before .before .before .before .before .byte .ensures, ← c .before .before .before .before .before .low .ensures, ← c .before .before .before .high .ensures, in-range (c .before .before .before .before .if3 .left) (c .before .before .if4 .left), ne-eqb _ _ (c .before .before .before .before .before .before .if1 .left), ← c .before .byte2 .ensures, below-range (c .if5 .taken)), rw (← c .before .before .before .before .before .before .before .byte .ensures, ← c .before .before .before .before .before .low .ensures, ← c .before .before .before .high .ensures, in-range (c .before .before .before .before .if3 .left) (c .before .before .if4 .left), ne-eqb _ _ (c .before .before .before .before .before .before .if1 .left), ← c .before .byte2 .ensures, below-range (c .if5 .taken)))
-
-returns-6 : tie.Need-returns-6
-unfolding longerBy width value
-returns-6 c = (rw (← c .before .before .before .before .before .before .before .before .byte .ensures, ← c .before .before .before .before .before .before .low .ensures, ← c .before .before .before .before .high .ensures, in-range (c .before .before .before .before .before .if3 .left) (c .before .before .before .if4 .left), ne-eqb _ _ (c .before .before .before .before .before .before .before .if1 .left), ← c .before .before .byte2 .ensures, above-range (c .before .if5 .left) (c .if6 .taken)), rw (← c .before .before .before .before .before .before .before .before .byte .ensures, ← c .before .before .before .before .before .before .low .ensures, ← c .before .before .before .before .high .ensures, in-range (c .before .before .before .before .before .if3 .left) (c .before .before .before .if4 .left), ne-eqb _ _ (c .before .before .before .before .before .before .before .if1 .left), ← c .before .before .byte2 .ensures, above-range (c .before .if5 .left) (c .if6 .taken)))
+returns-5 c = (rw (← c .before .before .before .before .before .before .before .byte .ensures, ← c .before .before .before .before .before .low .ensures, ← c .before .before .before .high .ensures, in-range (c .before .before .before .before .if3 .left) (c .before .before .if4 .left), ne-eqb _ _ (c .before .before .before .before .before .before .if1 .left), ← c .before .byte2 .ensures, no-later _ (c .if5 .taken)), rw (← c .before .before .before .before .before .before .before .byte .ensures, ← c .before .before .before .before .before .low .ensures, ← c .before .before .before .high .ensures, in-range (c .before .before .before .before .if3 .left) (c .before .before .if4 .left), ne-eqb _ _ (c .before .before .before .before .before .before .if1 .left), ← c .before .byte2 .ensures, no-later _ (c .if5 .taken)))
 
 cast-t13 : tie.Need-cast-t13
 cast-t13 c = record { fits = rw (c .three .ensures) (omega arith) }
 
+returns-6 : tie.Need-returns-6
+unfolding longerBy width value
+returns-6 c = (rw (← c .before .before .before .before .before .before .before .before .before .byte .ensures, ← c .before .before .before .before .before .before .before .low .ensures, ← c .before .before .before .before .before .high .ensures, in-range (c .before .before .before .before .before .before .if3 .left) (c .before .before .before .before .if4 .left), ne-eqb _ _ (c .before .before .before .before .before .before .before .before .if1 .left), ← c .before .before .before .byte2 .ensures, later _ (c .before .before .if5 .left), lt-ltb _ _ (c .before .if6 .taken)), rw (← c .before .before .before .before .before .before .before .before .before .byte .ensures, ← c .before .before .before .before .before .before .before .low .ensures, ← c .before .before .before .before .before .high .ensures, in-range (c .before .before .before .before .before .before .if3 .left) (c .before .before .before .before .if4 .left), ne-eqb _ _ (c .before .before .before .before .before .before .before .before .if1 .left), ← c .before .before .before .byte2 .ensures, later _ (c .before .before .if5 .left), lt-ltb _ _ (c .before .if6 .taken)) (c .three .ensures ∙ rw (c .before .before .before .before .before .before .before .before .before .byte .ensures, c .before .before .before .byte2 .ensures)))
+
 returns-7 : tie.Need-returns-7
 unfolding longerBy width value
-returns-7 c = (rw (← c .before .before .before .before .before .before .before .before .before .before .byte .ensures, ← c .before .before .before .before .before .before .before .before .low .ensures, ← c .before .before .before .before .before .before .high .ensures, in-range (c .before .before .before .before .before .before .before .if3 .left) (c .before .before .before .before .before .if4 .left), ne-eqb _ _ (c .before .before .before .before .before .before .before .before .before .if1 .left), ← c .before .before .before .before .byte2 .ensures, in-range {lo = 0x80} {hi = 0xBF} (c .before .before .before .if5 .left) (c .before .before .if6 .left), lt-ltb _ _ (c .before .if7 .taken)), rw (← c .before .before .before .before .before .before .before .before .before .before .byte .ensures, ← c .before .before .before .before .before .before .before .before .low .ensures, ← c .before .before .before .before .before .before .high .ensures, in-range (c .before .before .before .before .before .before .before .if3 .left) (c .before .before .before .before .before .if4 .left), ne-eqb _ _ (c .before .before .before .before .before .before .before .before .before .if1 .left), ← c .before .before .before .before .byte2 .ensures, in-range {lo = 0x80} {hi = 0xBF} (c .before .before .before .if5 .left) (c .before .before .if6 .left), lt-ltb _ _ (c .before .if7 .taken)) (c .three .ensures ∙ rw (c .before .before .before .before .before .before .before .before .before .before .byte .ensures, c .before .before .before .before .byte2 .ensures)))
+returns-7 c = (rw (← c .before .before .before .before .before .before .before .before .before .before .byte .ensures, ← c .before .before .before .before .before .before .before .before .low .ensures, ← c .before .before .before .before .before .before .high .ensures, in-range (c .before .before .before .before .before .before .before .if3 .left) (c .before .before .before .before .before .if4 .left), ne-eqb _ _ (c .before .before .before .before .before .before .before .before .before .if1 .left), ← c .before .before .before .before .byte2 .ensures, later _ (c .before .before .before .if5 .left), le-ltb _ _ (c .before .before .if6 .left), ← c .before .byte3 .ensures, no-later _ (c .if7 .taken)), rw (← c .before .before .before .before .before .before .before .before .before .before .byte .ensures, ← c .before .before .before .before .before .before .before .before .low .ensures, ← c .before .before .before .before .before .before .high .ensures, in-range (c .before .before .before .before .before .before .before .if3 .left) (c .before .before .before .before .before .if4 .left), ne-eqb _ _ (c .before .before .before .before .before .before .before .before .before .if1 .left), ← c .before .before .before .before .byte2 .ensures, later _ (c .before .before .before .if5 .left), le-ltb _ _ (c .before .before .if6 .left), ← c .before .byte3 .ensures, no-later _ (c .if7 .taken)))
 
 returns-8 : tie.Need-returns-8
 unfolding longerBy width value
-returns-8 c = (rw (← c .before .before .before .before .before .before .before .before .before .before .before .byte .ensures, ← c .before .before .before .before .before .before .before .before .before .low .ensures, ← c .before .before .before .before .before .before .before .high .ensures, in-range (c .before .before .before .before .before .before .before .before .if3 .left) (c .before .before .before .before .before .before .if4 .left), ne-eqb _ _ (c .before .before .before .before .before .before .before .before .before .before .if1 .left), ← c .before .before .before .before .before .byte2 .ensures, in-range {lo = 0x80} {hi = 0xBF} (c .before .before .before .before .if5 .left) (c .before .before .before .if6 .left), le-ltb _ _ (c .before .before .if7 .left), ← c .before .byte3 .ensures, below-range (c .if8 .taken)), rw (← c .before .before .before .before .before .before .before .before .before .before .before .byte .ensures, ← c .before .before .before .before .before .before .before .before .before .low .ensures, ← c .before .before .before .before .before .before .before .high .ensures, in-range (c .before .before .before .before .before .before .before .before .if3 .left) (c .before .before .before .before .before .before .if4 .left), ne-eqb _ _ (c .before .before .before .before .before .before .before .before .before .before .if1 .left), ← c .before .before .before .before .before .byte2 .ensures, in-range {lo = 0x80} {hi = 0xBF} (c .before .before .before .before .if5 .left) (c .before .before .before .if6 .left), le-ltb _ _ (c .before .before .if7 .left), ← c .before .byte3 .ensures, below-range (c .if8 .taken)))
-
-returns-9 : tie.Need-returns-9
-unfolding longerBy width value
-returns-9 c = (rw (← c .before .before .before .before .before .before .before .before .before .before .before .before .byte .ensures, ← c .before .before .before .before .before .before .before .before .before .before .low .ensures, ← c .before .before .before .before .before .before .before .before .high .ensures, in-range (c .before .before .before .before .before .before .before .before .before .if3 .left) (c .before .before .before .before .before .before .before .if4 .left), ne-eqb _ _ (c .before .before .before .before .before .before .before .before .before .before .before .if1 .left), ← c .before .before .before .before .before .before .byte2 .ensures, in-range {lo = 0x80} {hi = 0xBF} (c .before .before .before .before .before .if5 .left) (c .before .before .before .before .if6 .left), le-ltb _ _ (c .before .before .before .if7 .left), ← c .before .before .byte3 .ensures, above-range (c .before .if8 .left) (c .if9 .taken)), rw (← c .before .before .before .before .before .before .before .before .before .before .before .before .byte .ensures, ← c .before .before .before .before .before .before .before .before .before .before .low .ensures, ← c .before .before .before .before .before .before .before .before .high .ensures, in-range (c .before .before .before .before .before .before .before .before .before .if3 .left) (c .before .before .before .before .before .before .before .if4 .left), ne-eqb _ _ (c .before .before .before .before .before .before .before .before .before .before .before .if1 .left), ← c .before .before .before .before .before .before .byte2 .ensures, in-range {lo = 0x80} {hi = 0xBF} (c .before .before .before .before .before .if5 .left) (c .before .before .before .before .if6 .left), le-ltb _ _ (c .before .before .before .if7 .left), ← c .before .before .byte3 .ensures, above-range (c .before .if8 .left) (c .if9 .taken)))
-
-returns-10 : tie.Need-returns-10
-unfolding longerBy width value
-returns-10 c = (rw (← c .before .before .before .before .before .before .before .before .before .before .before .before .byte .ensures, ← c .before .before .before .before .before .before .before .before .before .before .low .ensures, ← c .before .before .before .before .before .before .before .before .high .ensures, in-range (c .before .before .before .before .before .before .before .before .before .if3 .left) (c .before .before .before .before .before .before .before .if4 .left), ne-eqb _ _ (c .before .before .before .before .before .before .before .before .before .before .before .if1 .left), ← c .before .before .before .before .before .before .byte2 .ensures, in-range {lo = 0x80} {hi = 0xBF} (c .before .before .before .before .before .if5 .left) (c .before .before .before .before .if6 .left), le-ltb _ _ (c .before .before .before .if7 .left), ← c .before .before .byte3 .ensures, in-range {lo = 0x80} {hi = 0xBF} (c .before .if8 .left) (c .if9 .left)), rw (← c .before .before .before .before .before .before .before .before .before .before .before .before .byte .ensures, ← c .before .before .before .before .before .before .before .before .before .before .low .ensures, ← c .before .before .before .before .before .before .before .before .high .ensures, in-range (c .before .before .before .before .before .before .before .before .before .if3 .left) (c .before .before .before .before .before .before .before .if4 .left), ne-eqb _ _ (c .before .before .before .before .before .before .before .before .before .before .before .if1 .left), ← c .before .before .before .before .before .before .byte2 .ensures, in-range {lo = 0x80} {hi = 0xBF} (c .before .before .before .before .before .if5 .left) (c .before .before .before .before .if6 .left), le-ltb _ _ (c .before .before .before .if7 .left), ← c .before .before .byte3 .ensures, in-range {lo = 0x80} {hi = 0xBF} (c .before .if8 .left) (c .if9 .left)))
+returns-8 c = (rw (← c .before .before .before .before .before .before .before .before .before .before .byte .ensures, ← c .before .before .before .before .before .before .before .before .low .ensures, ← c .before .before .before .before .before .before .high .ensures, in-range (c .before .before .before .before .before .before .before .if3 .left) (c .before .before .before .before .before .if4 .left), ne-eqb _ _ (c .before .before .before .before .before .before .before .before .before .if1 .left), ← c .before .before .before .before .byte2 .ensures, later _ (c .before .before .before .if5 .left), le-ltb _ _ (c .before .before .if6 .left), ← c .before .byte3 .ensures, later _ (c .if7 .left)), rw (← c .before .before .before .before .before .before .before .before .before .before .byte .ensures, ← c .before .before .before .before .before .before .before .before .low .ensures, ← c .before .before .before .before .before .before .high .ensures, in-range (c .before .before .before .before .before .before .before .if3 .left) (c .before .before .before .before .before .if4 .left), ne-eqb _ _ (c .before .before .before .before .before .before .before .before .before .if1 .left), ← c .before .before .before .before .byte2 .ensures, later _ (c .before .before .before .if5 .left), le-ltb _ _ (c .before .before .if6 .left), ← c .before .byte3 .ensures, later _ (c .if7 .left)))
 
 pub longer-spec : {M : Type 1} → statement M
 longer-spec =
     tie.close
-    (tie.spec (λ c κs. tt) returns (λ c κs. tt) returns-2 (λ c κs. tt) returns-3 (λ c κs. tt) returns-4 (λ c κs. tt) returns-5 returns-6
-    (λ c κs. tt) cast-t13 returns-7 (λ c κs. tt) returns-8 returns-9 returns-10)
+    (tie.spec (λ c κs. tt) returns (λ c κs. tt) returns-2 (λ c κs. tt) returns-3 (λ c κs. tt) returns-4 (λ c κs. tt) returns-5
+    (λ c κs. tt) cast-t13 returns-6 (λ c κs. tt) returns-7 returns-8)
