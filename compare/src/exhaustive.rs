@@ -1,4 +1,4 @@
-//! Whole families of cases, none left out: short texts over bytes that matter, strings of tokens, pairs of faults.
+//! Whole families of cases, none left out: short texts over bytes that matter, all characters, strings of tokens, pairs of faults.
 use crate::call::{Release, RulebookAlone, Seen};
 use crate::cases::Texts;
 use crate::oracle::{self, AREA};
@@ -23,6 +23,20 @@ fn bytes(seen: &mut [Seen; 2], rng: &mut Random, most: u32) {
                 seen[0].case::<Release>(&texts, rng);
             }
         }
+    }
+}
+
+/// Every character: alone and within an atom of a rulebook, and in the place of the certificate's first space.
+fn characters(seen: &mut [Seen; 2], rng: &mut Random) {
+    for c in '\0'..=char::MAX {
+        let mut bytes = [0; 4];
+        let c = c.encode_utf8(&mut bytes).as_bytes();
+        seen[1].case::<RulebookAlone>(&c.to_vec(), rng);
+        seen[1].case::<RulebookAlone>(&[b"(sort a", c, b"b)"].concat(), rng);
+        let mut texts = special::bench();
+        let space = texts.certificate.iter().position(|&b| b == b' ').expect("a space");
+        texts.certificate.splice(space..=space, c.iter().copied());
+        seen[0].case::<Release>(&texts, rng);
     }
 }
 
@@ -79,7 +93,7 @@ fn all_pairs(seen: &mut [Seen; 2], rng: &mut Random) {
     }
 }
 
-/// One family: `bytes N`, `tokens N M`, `pairs`, or `shares N`. Says whether all is as it must be.
+/// One family: `bytes N`, `characters`, `tokens N M`, `pairs`, or `shares N`. Says whether all is as it must be.
 pub fn run(what: &[&str], out: &mut impl Write) -> std::io::Result<Option<bool>> {
     if let ["shares", n] = what {
         return page::shares(n.parse().unwrap_or(0), out).map(Some);
@@ -88,6 +102,7 @@ pub fn run(what: &[&str], out: &mut impl Write) -> std::io::Result<Option<bool>>
     let mut seen = [Seen::new(&mut rng), Seen::new(&mut rng)];
     match what {
         ["bytes", n] => bytes(&mut seen, &mut rng, n.parse().unwrap_or(0)),
+        ["characters"] => characters(&mut seen, &mut rng),
         ["tokens", n, m] => tokens(&mut seen[0], &mut rng, n.parse().unwrap_or(0), m.parse().unwrap_or(0)),
         ["pairs"] => all_pairs(&mut seen, &mut rng),
         _ => return Ok(None),

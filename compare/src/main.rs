@@ -61,6 +61,7 @@ const USAGE: &str = "usage: compare/run COMMAND
   page-call N SEED      N generated cases: its call that writes the release page, over buffers of several lengths
   rulebook-cases N SEED | release-cases N SEED  such cases themselves, with the library's answers
   exhaustive bytes N  every text of at most N bytes over an alphabet, as each of the three texts
+  exhaustive characters  every character, alone, within an atom and between two tokens
   exhaustive tokens N M  every string of at most N tokens, and up to M of those that are not refused
   exhaustive pairs    every form with every pair of faults
   exhaustive shares N  the release page of every share of used steps of at most N

@@ -1,5 +1,7 @@
-// Every character by its bytes: what `utf8::look` says of it, and of a value of 16 bits `utf8::is_white` too, is held to Unicode's list.
-// Standard input has that list, as the lines of Unicode's PropList.txt for White_Space, in their order.
+// Every character by its bytes: what `utf8::look` says of it, whether `scanning` has an atom go on with it, and of a value of 16 bits what
+// `utf8::is_white` says, are held to Unicode's list. Standard input has that list: the lines of PropList.txt for White_Space, in their order and
+// as they have been since Unicode 6.3.
+ghost use Prim.Native.Nat.{_<_};
 use libc::STDIN_FILENO;
 use libc::STDOUT_FILENO;
 use utf8::classes;
@@ -11,7 +13,7 @@ struct Listed {
     next: u32,
 }
 
-// Characters seen so far, those of them that are white space, and those of which something else was said than the list has.
+// Characters seen so far, those of them that the list has, and those of which something wrong was said.
 struct Tally {
     characters: u32,
     white: u32,
@@ -55,27 +57,29 @@ fn later(n: u32) -> u8 {
     0x80 + (n % 64) as u8
 }
 
-// The character of a value in UTF-8, by RFC 3629, section 3; how many bytes it has.
-fn encode(v: u32, out: &mut [u8]) -> usize {
+// The character of a value in UTF-8, by RFC 3629, section 3, behind the first byte of `out`; how many bytes it has.
+fn encode(v: u32, out: &mut [u8]) -> usize
+    ensures { λ r. ⌜ r < 5 ⌝ }
+{
     if v < 0x80 {
-        words::put_byte(out, 0, (v % 128) as u8);
+        words::put_byte(out, 1, (v % 128) as u8);
         return 1;
     }
     if v < 0x800 {
-        words::put_byte(out, 0, 0xC0 + (v / 64 % 32) as u8);
-        words::put_byte(out, 1, later(v));
+        words::put_byte(out, 1, 0xC0 + (v / 64 % 32) as u8);
+        words::put_byte(out, 2, later(v));
         return 2;
     }
     if v < 0x10000 {
-        words::put_byte(out, 0, 0xE0 + (v / 4096 % 16) as u8);
-        words::put_byte(out, 1, later(v / 64));
-        words::put_byte(out, 2, later(v));
+        words::put_byte(out, 1, 0xE0 + (v / 4096 % 16) as u8);
+        words::put_byte(out, 2, later(v / 64));
+        words::put_byte(out, 3, later(v));
         return 3;
     }
-    words::put_byte(out, 0, 0xF0 + (v / 262144 % 8) as u8);
-    words::put_byte(out, 1, later(v / 4096));
-    words::put_byte(out, 2, later(v / 64));
-    words::put_byte(out, 3, later(v));
+    words::put_byte(out, 1, 0xF0 + (v / 262144 % 8) as u8);
+    words::put_byte(out, 2, later(v / 4096));
+    words::put_byte(out, 3, later(v / 64));
+    words::put_byte(out, 4, later(v));
     4
 }
 
@@ -103,15 +107,28 @@ fn leaf_right(v: u32, white: bool) -> bool {
     !white
 }
 
+// Whether an atom that begins with `a` goes on with a character exactly if that is an ordinary one. The text is both, and another `a`.
+fn atom_right(text: &[u8], kind: u8) -> bool {
+    let end = scanning::atom_end(text, text.len(), 0);
+    if kind == classes::ORDINARY {
+        return end == text.len();
+    }
+    end == 1
+}
+
 // Whether all that is said of a character is right.
 fn right(v: u32, white: bool) -> bool {
-    let mut text = [0u8; 4];
+    let mut text = *b"aaaaaa";
     let width = encode(v, &mut text);
-    let seen = utf8::look(words::bytes_part(&text, 0, width), 0);
+    let kind = kind_due(v, white);
+    let seen = utf8::look(words::bytes_part(&text, 0, width + 1), 1);
     if seen.width != width {
         return false;
     }
-    if seen.kind != kind_due(v, white) {
+    if seen.kind != kind {
+        return false;
+    }
+    if !atom_right(words::bytes_part(&text, 0, width + 2), kind) {
         return false;
     }
     leaf_right(v, white)
@@ -123,7 +140,7 @@ fn told(n: u32, what: &[u8]) {
     io::write_all(STDOUT_FILENO, what);
 }
 
-// One more character. Each that is white space is written, and each of which something else was said.
+// One more character. Each that the list has is written, and each of which something wrong was said.
 fn counted(t: Tally, v: u32, white: bool) -> Tally {
     let mut n = t;
     n.characters = words::plus(n.characters, 1);

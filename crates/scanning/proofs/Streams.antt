@@ -12,6 +12,7 @@ use Rattle.horn.specs.Utf8.{Range, range, within, Sequence, sequence, sequences
 use Rattle.horn.specs.Tokens.{Stream, bad, _▹_, before, ontoFirstLine, lines, characters}
 use Rattle.utf8.specs.Characters.{First, broken, found, oneMore, rest, first}
 use Rattle.utf8.proofs.Table.{and-left, and-right}
+use Rattle.utf8.proofs.Alternatives.{starts, allPass, started}
 use Rattle.horn.proofs.Equality.{case}
 use Rattle.horn.proofs.Inversion.{case-option}
 use Rattle.horn.proofs.CompleteUtf8.{resumed-done}
@@ -67,27 +68,9 @@ fit : Sequence → Bool
 fit (sequence (range f g) mark []) = eqb mark 0
 fit (sequence (range f g) mark (range lo hi ∷ rs)) = ltb 0x0A ((f - mark) * 0x40 + (lo - 0x80)) && high (range lo hi ∷ rs)
 
-allFit : List Sequence → Bool
-allFit [] = true
-allFit (s ∷ ss) = fit s && allFit ss
-
-starts : Sequence → ℕ → Bool
-starts (sequence r mark rs) b = within r b
-
-started : (b : ℕ) (ss : List Sequence) (s : Sequence) → T (allFit ss) → startedBy b ss ≡ some s → T (fit s) × (starts s b ≡ true)
-unfolding allFit startedBy starts
-started b [] s t e = let z : _≡_ {A = ℕ} 0 1 = cc in absurd (omega arith)
-started b (sequence r m rs ∷ ss) s t e =
-    case (within r b)
-    (λ y.
-    let g : some (sequence r m rs) ≡ some s = rw (y, startedBy) at e in
-    let k : sequence r m rs ≡ s = cc in
-    (rw (← k) (and-left (fit (sequence r m rs)) (allFit ss) t), rw (← k) y))
-    (λ n. started b ss s (and-right (fit (sequence r m rs)) (allFit ss) t) (rw (n, startedBy) at e))
-
 fit-started : (b : ℕ) (s : Sequence) → startedBy b sequences ≡ some s → T (fit s) × (starts s b ≡ true)
-unfolding allFit fit high sequences tail
-fit-started b s e = started b sequences s tt e
+unfolding allPass fit high sequences tail
+fit-started b s e = started fit b sequences s tt e
 
 -- A range above 7F.
 above : (lo hi b : ℕ) (rs : List Range) → T (high (range lo hi ∷ rs)) → within (range lo hi) b ≡ true → (0x7F < b) × (lo ≤ b)

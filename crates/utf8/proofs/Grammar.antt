@@ -14,7 +14,7 @@ use Rattle.horn.specs.Utf8.{Range, range, within, Sequence, sequence, sequences
 use Rattle.horn.specs.Tokens.{kind}
 use Rattle.horn.proofs.Equality.{case}
 use Rattle.utf8.specs.Classes.{kindNumber, never, leadsTwo, leadsE0, leadsED, leadsF0, leadsF4, classOf, lowOf, highOf}
-use Rattle.utf8.specs.Characters.{First, broken, found, oneMore, rest, first, inRange, longerBy}
+use Rattle.utf8.specs.Characters.{First, broken, found, oneMore, rest, first, width, value, inRange, longerBy}
 use Rattle.utf8.proofs.Table.{and-left, and-right, ruled, ruled-at}
 
 -- What the class of a byte says of the sequence that it begins.
@@ -234,3 +234,8 @@ pub two-bytes : (c b : ℕ) (bs : List ℕ) → c ≡ leadsTwo
     → longerBy c b bs ≡ inRange 0x80 0xBF (getD bs 1 0) (found 2 (b % 32 * 64 + getD bs 1 0 % 64))
 unfolding longerBy lowOf highOf
 two-bytes c b bs e = rw e
+
+-- What is told where there is no character.
+pub told-none : (f : First) → f ≡ broken → (0 ≡ width f) × (0 ≡ value f)
+unfolding width value
+told-none f e = (rw e, rw e)

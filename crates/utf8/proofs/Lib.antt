@@ -1,4 +1,5 @@
 pub mod Table
+pub mod Alternatives
 pub mod Grammar
 pub mod Whiteness
 pub mod Sixteen

@@ -12,7 +12,7 @@ use lib.ListN.{length, getD, take, drop, length-drop, drop-of-length-le}
 use lib.Seq.{take-all, getD-drop}
 use Rattle.horn.specs.Utf8.{Range, within, Sequence, sequence, sequences, startedBy}
 use Rattle.horn.specs.Tokens.{kind}
-use Rattle.utf8.specs.Classes.{isOrdinary, kindNumber, never, leadsTwo, leadsE0, leadsF0, classOf, lowOf, highOf}
+use Rattle.utf8.specs.Classes.{kindNumber, never, leadsTwo, leadsE0, leadsF0, classOf, lowOf, highOf}
 use Rattle.utf8.specs.Characters.{First, broken, found, oneMore, rest, first, width, value, kindAt, inRange, longerBy, byClass}
 use Rattle.horn.proofs.Equality.{case}
 use Rattle.utf8.proofs.Table.{ascii-class}
@@ -72,8 +72,8 @@ module _ (m : ℕ) where
   width-zero broken s e = refl
   width-zero (found n v) s e = absurd (omega arith)
 
--- The kind of a character by its width, and by its value in 16 bits where it has fewer than four bytes.
-four-kind : (f : First) → width f ≡ 4 → isOrdinary ≡ kindAt f
+-- The kind of a character of four bytes is that of any other such, and of fewer bytes it is that of the value in 16 bits.
+four-kind : (f : First) → width f ≡ 4 → kindAt (found 4 0) ≡ kindAt f
 unfolding width kindAt
 four-kind broken e = absurd (omega arith)
 four-kind (found n v) e = rw (eq-eqb n 4 e, kindAt)
@@ -169,7 +169,7 @@ module _ (text : List ℕ) (p c : ℕ) where
     unfolding kindAt width
     longer-none z = let b = longer-here d ∙ longer-zero _ _ _ (sym e ∙ z) in (rw b, rw b)
 
-    pub longer-four : w ≡ 4 → (isOrdinary ≡ kindAt (byClass c (drop p text))) × (4 ≡ width (byClass c (drop p text)))
+    pub longer-four : w ≡ 4 → (kindAt (found 4 0) ≡ kindAt (byClass c (drop p text))) × (4 ≡ width (byClass c (drop p text)))
     longer-four f = let b = longer-here d in (four-kind _ (sym e ∙ f) ∙ ap kindAt (sym b), sym f ∙ e ∙ ap width (sym b))
 
     pub longer-seen : (v k : ℕ) → v ≡ value (longerBy c (getD text p 0) (take (length text - p) (drop p text))) → (w ≡ 0 → ⊥)

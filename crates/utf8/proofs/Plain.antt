@@ -8,7 +8,7 @@ use lib.Dec.{eqb}
 use lib.ListN.{length, getD, take, drop, List·getD-eq-default}
 use Rattle.horn.proofs.Equality.{case}
 use Rattle.utf8.specs.Classes.{isOrdinary, kindNumber, leadsPlain, classOf, lowOf, highOf}
-use Rattle.utf8.specs.Characters.{First, broken, found, first, width, value, kindAt, inRange, longerBy, byClass, plainValue}
+use Rattle.utf8.specs.Characters.{broken, found, first, width, value, kindAt, inRange, longerBy, byClass, plainValue}
 use Rattle.utf8.proofs.Grammar.{later, no-later}
 use Rattle.utf8.proofs.Whiteness.{kind-above}
 use Rattle.utf8.proofs.Looks.{rest-of, longer-is}

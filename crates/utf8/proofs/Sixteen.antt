@@ -3,7 +3,7 @@
 use mathlib.Core.Path.{_≡_, refl, ap, sym, subst}
 use mathlib.Core.Bool.{Bool, true, false, _&&_}
 use mathlib.Core.List.{List, [], _∷_}
-use mathlib.Core.Option.{Option, none, some}
+use mathlib.Core.Option.{some}
 use Prim.Native.Nat.{ℕ, suc, _+_, _*_, _-_, _≤_, _<_}
 use native.Mathlib.Nat.{le-refl}
 use native.Mathlib.Omega.{arith}
@@ -13,9 +13,11 @@ use lib.ListN.{length}
 use Rattle.horn.specs.Utf8.{Range, range, within, Sequence, sequence, sequences, startedBy, tail}
 use Rattle.horn.specs.Tokens.{white, opens, closes, comments, ordinary, kind}
 use Rattle.horn.proofs.Equality.{case}
+use Rattle.horn.proofs.Inversion.{case-option}
 use Rattle.utf8.specs.Classes.{isWhite, kindNumber}
 use Rattle.utf8.specs.Characters.{First, broken, found, oneMore, rest, first, value, kindAt}
 use Rattle.utf8.proofs.Table.{and-left, and-right}
+use Rattle.utf8.proofs.Alternatives.{starts, allPass, started}
 use Rattle.utf8.proofs.Whiteness.{kind-above}
 
 -- The lower end and the upper end of a range.
@@ -36,17 +38,17 @@ reached-up end [] h = h
 reached-up end (r ∷ rs) h = reached-up end rs (omega arith)
 
 -- A character of so many bytes whose value lies between two.
-Within : ℕ → ℕ → ℕ → First → Type 0
-Within n low high broken = Unit {0}
-Within n low high (found m v) = (m ≡ n) × (low ≤ v) × (v ≤ high)
+Lies : ℕ → ℕ → ℕ → First → Type 0
+Lies n low high broken = Unit {0}
+Lies n low high (found m v) = (m ≡ n) × (low ≤ v) × (v ≤ high)
 
-more : (n low high : ℕ) (f : First) → Within n low high f → Within (suc n) low high (oneMore f)
-unfolding Within oneMore
+more : (n low high : ℕ) (f : First) → Lies n low high f → Lies (suc n) low high (oneMore f)
+unfolding Lies oneMore
 more n low high broken w = tt
 more n low high (found m v) w = (ap suc (w .0), w .1, w .2)
 
-wider : (n : ℕ) {low low′ high high′ : ℕ} (f : First) → low′ ≤ low → high ≤ high′ → Within n low high f → Within n low′ high′ f
-unfolding Within
+wider : (n : ℕ) {low low′ high high′ : ℕ} (f : First) → low′ ≤ low → high ≤ high′ → Lies n low high f → Lies n low′ high′ f
+unfolding Lies
 wider n broken l h w = tt
 wider n (found m v) l h w = (w .0, omega (arith, w .1), omega (arith, w .2))
 
@@ -54,18 +56,18 @@ bounds : (low high b : ℕ) → T (within (range low high) b) → (low ≤ b) ×
 unfolding within
 bounds low high b t = (leb→le low b (and-left (leb low b) (leb b high) t), leb→le b high (and-right (leb low b) (leb b high) t))
 
-rest-within : (v : ℕ) (rs : List Range) (bs : List ℕ) → Within (length rs) (reached lower v rs) (reached upper v rs) (rest v rs bs)
-unfolding Within rest reached lower upper
-rest-within v [] bs = (refl, le-refl v, le-refl v)
-rest-within v (r ∷ rs) [] = tt
-rest-within v (range low high ∷ rs) (b ∷ bs) =
+rest-lies : (v : ℕ) (rs : List Range) (bs : List ℕ) → Lies (length rs) (reached lower v rs) (reached upper v rs) (rest v rs bs)
+unfolding Lies rest reached lower upper
+rest-lies v [] bs = (refl, le-refl v, le-refl v)
+rest-lies v (r ∷ rs) [] = tt
+rest-lies v (range low high ∷ rs) (b ∷ bs) =
     case (within (range low high) b)
     (λ t.
     let i = bounds low high b (rw t tt) in
     let u = v * 0x40 + (b - 0x80) in
     rw (t, rest)
     (more (length rs) _ _ (rest u rs bs)
-    (wider (length rs) (rest u rs bs) (reached-up lower rs (omega (arith, i .0))) (reached-up upper rs (omega (arith, i .1))) (rest-within u rs bs))))
+    (wider (length rs) (rest u rs bs) (reached-up lower rs (omega (arith, i .0))) (reached-up upper rs (omega (arith, i .1))) (rest-lies u rs bs))))
     (λ f. rw (f, rest) tt)
 
 -- What 16 bits mean for one alternative of the grammar, as a test: with four bytes all its values lie above FFFF, else none does.
@@ -73,36 +75,19 @@ sized : Sequence → Bool
 sized (sequence (range low high) mark rs) =
     elim (eqb (length rs) 3) [ true ↦ ltb 0xFFFF (reached lower (low - mark) rs) | false ↦ ltb (reached upper (high - mark) rs) 0x10000 ]
 
-allSized : List Sequence → Bool
-allSized [] = true
-allSized (s ∷ ss) = sized s && allSized ss
-
 -- Said once, over the whole grammar.
-grammar-sized : T (allSized sequences)
-unfolding allSized sized sequences tail reached lower upper
-grammar-sized = tt
+all-sized : T (allPass sized sequences)
+unfolding allPass sized sequences tail reached lower upper
+all-sized = tt
 
--- The alternative that a byte begins passes the test, and its first range has the byte.
-Begun : ℕ → Option Sequence → Type 0
-Begun b none = Unit {0}
-Begun b (some (sequence r mark rs)) = T (within r b) × T (sized (sequence r mark rs))
-
-begun : (b : ℕ) (ss : List Sequence) → T (allSized ss) → Begun b (startedBy b ss)
-unfolding Begun allSized startedBy
-begun b [] t = tt
-begun b (sequence r mark rs ∷ ss) t =
-    case (within r b)
-    (λ y. rw (y, startedBy) (rw y tt, and-left (sized (sequence r mark rs)) (allSized ss) t))
-    (λ n. rw (n, startedBy) (begun b ss (and-right (sized (sequence r mark rs)) (allSized ss) t)))
-
--- A character of four bytes lies above FFFF, every other below.
+-- A character of four bytes lies above FFFF, and no other does.
 Sized : First → Type 0
 Sized broken = Unit {0}
 Sized (found n v) = (n ≡ 4 → 0xFFFF < v) × ((n ≡ 4 → ⊥) → v < 0x10000)
 
-by-length : (n low high : ℕ) (x : Bool) (f : First) → x ≡ eqb n 3 → T (elim x [ true ↦ ltb 0xFFFF low | false ↦ ltb high 0x10000 ]) → Within n low high f
+by-length : (n low high : ℕ) (x : Bool) (f : First) → x ≡ eqb n 3 → T (elim x [ true ↦ ltb 0xFFFF low | false ↦ ltb high 0x10000 ]) → Lies n low high f
     → Sized (oneMore f)
-unfolding Within oneMore Sized
+unfolding Lies oneMore Sized
 by-length n low high x broken e t w = tt
 by-length n low high true (found m v) e t w =
     let l = ltb→lt 0xFFFF low t in
@@ -113,16 +98,18 @@ by-length n low high false (found m v) e t w =
     (λ z. absurd (eqb-false n 3 (sym e) (omega (arith, w .0))), λ d. omega (arith, w .2))
 
 sized-first : (bs : List ℕ) → Sized (first bs)
-unfolding first Sized Begun sized
+unfolding first Sized sized starts
 sized-first [] = tt
-sized-first (b ∷ bs) = by (startedBy b sequences) (begun b sequences grammar-sized) where
-  by : (o : Option Sequence) → Begun b o → Sized (elim o [ none ↦ broken | some (sequence r mark rs) ↦ oneMore (rest (b - mark) rs bs) ])
-  by none g = tt
-  by (some (sequence (range low high) mark rs)) g =
-      let i = bounds low high b (g .0) in
-      by-length (length rs) (reached lower (low - mark) rs) (reached upper (high - mark) rs) (eqb (length rs) 3) (rest (b - mark) rs bs) refl (g .1)
-      (wider (length rs) (rest (b - mark) rs bs) (reached-up lower rs (omega (arith, i .0))) (reached-up upper rs (omega (arith, i .1)))
-      (rest-within (b - mark) rs bs))
+sized-first (b ∷ bs) =
+    case-option (startedBy b sequences) (λ o. rw (o, first) tt) (λ s o. by s o (started sized b sequences s all-sized o)) where
+      by : (s : Sequence) → startedBy b sequences ≡ some s → T (sized s) × (starts s b ≡ true) → Sized (first (b ∷ bs))
+      by (sequence (range low high) mark rs) o g =
+          let i = bounds low high b (rw (g .1) tt) in
+          rw (o, first)
+          (by-length (length rs) (reached lower (low - mark) rs) (reached upper (high - mark) rs) (eqb (length rs) 3) (rest (b - mark) rs bs) refl
+          (g .0)
+          (wider (length rs) (rest (b - mark) rs bs) (reached-up lower rs (omega (arith, i .0))) (reached-up upper rs (omega (arith, i .1)))
+          (rest-lies (b - mark) rs bs)))
 
 white-number : (v : ℕ) → eqb (kindNumber (kind v)) isWhite ≡ white v
 unfolding kind kindNumber
@@ -138,7 +125,7 @@ white-number v =
       others false false true = refl
       others false false false = refl
 
--- Every character, by what RFC 3629's grammar finds at the beginning of some bytes: n bytes and the value v.
+-- Every character, as RFC 3629's grammar finds it at the beginning of some bytes: n bytes and the value v.
 module _ (bs : List ℕ) {n v : ℕ} (e : first bs ≡ found n v) where
   told : Sized (found n v)
   told = subst Sized e (sized-first bs)
@@ -147,7 +134,7 @@ module _ (bs : List ℕ) {n v : ℕ} (e : first bs ≡ found n v) where
   unfolding Sized
   four-above = told .0
 
-  -- But for four bytes, its value in 16 bits is its value.
+  -- But for four bytes, the value that the white-space test is asked is the character's.
   pub short-fits : (n ≡ 4 → ⊥) → (v < 0x10000) × (value (first bs) ≡ v)
   unfolding Sized value
   short-fits d = (told .1 d, rw (e, ne-eqb n 4 d, value))
@@ -160,6 +147,6 @@ module _ (bs : List ℕ) {n v : ℕ} (e : first bs ≡ found n v) where
       (λ t. let a = four-above (eqb-true n 4 t) in rw (e, t, kindAt, kind-above v (omega arith)))
       (λ f. rw (e, f, kindAt))
 
-  -- It is said to be white space exactly where 01's list has it.
+  -- It is said to be white space exactly where 01's list has it: this is the law that L3 asks for.
   pub white-at : eqb (kindAt (first bs)) isWhite ≡ white v
   white-at = rw kind-at (white-number v)

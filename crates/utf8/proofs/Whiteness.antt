@@ -1,5 +1,5 @@
--- Which values lie in one of 01's ranges of white space, and which in none: laws over any ranges, whose conditions are tests that antt
--- computes on the list. Assumes nothing.
+-- Which values lie in some range of a list, and which in none, under conditions that antt computes on the list; and what that says of 01's
+-- ranges of white space. Assumes nothing.
 use mathlib.Core.Path.{_≡_, refl, sym, subst}
 use mathlib.Core.Bool.{Bool, true, false, _&&_, _||_, and-false, or-true}
 use mathlib.Core.Logic.{inl, inr}
@@ -84,11 +84,14 @@ module _ (v : ℕ) where
       rw (le-leb a v (omega arith), le-leb v b (omega arith), within))
       (λ m. rw (in-one low high rs m l h) (or-true (within (range a b) v)))
 
+  same-in : (k : ℕ) (rs : List Range) → T (inSome rs k) → v ≡ k → inSome rs v ≡ true
+  same-in k rs t e = subst (λ (x : ℕ). inSome rs x ≡ true) (sym e) (true-of-T (inSome rs k) t)
+
   pub in-listed : (ks : List ℕ) (rs : List Range) → T (allIn ks rs) → OneOf ks v → inSome rs v ≡ true
   unfolding allIn
   in-listed [] rs t o = absurd o
-  in-listed (k ∷ []) rs t o = subst (λ (x : ℕ). inSome rs x ≡ true) (sym o) (true-of-T _ (and-left (inSome rs k) true t))
-  in-listed (k ∷ l ∷ ks) rs t (inl e) = subst (λ (x : ℕ). inSome rs x ≡ true) (sym e) (true-of-T _ (and-left (inSome rs k) (allIn (l ∷ ks) rs) t))
+  in-listed (k ∷ []) rs t o = same-in k rs (and-left (inSome rs k) true t) o
+  in-listed (k ∷ l ∷ ks) rs t (inl e) = same-in k rs (and-left (inSome rs k) (allIn (l ∷ ks) rs) t) e
   in-listed (k ∷ l ∷ ks) rs t (inr o) = in-listed (l ∷ ks) rs (and-right (inSome rs k) (allIn (l ∷ ks) rs) t) o
 
   -- Of the values from low to high only k is white space.
@@ -96,7 +99,7 @@ module _ (v : ℕ) where
   unfolding white
   only k low high a t l h =
       case (eqb v k)
-      (λ y. rw y (sym (subst (λ (x : ℕ). white x ≡ true) (sym (eqb-true v k y)) (true-of-T (white k) t))))
+      (λ y. rw y (sym (same-in k whiteRanges t (eqb-true v k y))))
       (λ n. rw n (sym (in-none (k ∷ []) low high whiteRanges a (eqb-false v k n) l h)))
 
   -- None above 3000 is white space.

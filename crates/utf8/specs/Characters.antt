@@ -35,12 +35,13 @@ unfoldable pub width : First → ℕ
 width broken = 0
 width (found n v) = n
 
--- Its value in 16 bits, 0 where there is none. One of four bytes lies above FFFF and is not put together: 0 too.
+-- Its value in 16 bits, 0 where there is none. One of four bytes, which lies above FFFF, is not put together: 0 too.
 unfoldable pub value : First → ℕ
 value broken = 0
 value (found n v) = elim (eqb n 4) [ true ↦ 0 | false ↦ v ]
 
--- The number of its kind. One of four bytes is answered before it is put together; that the answer is the definition's is proved in Sixteen.
+-- The number of its kind. One of four bytes is answered before it is put together. That it is the definition's kind for every character is proved
+-- in Sixteen.
 unfoldable pub kindAt : First → ℕ
 kindAt broken = never
 kindAt (found n v) = elim (eqb n 4) [ true ↦ isOrdinary | false ↦ kindNumber (kind v) ]

@@ -21,11 +21,8 @@ pub struct Seen {
     pub width: usize,
 }
 
-// The last character that is white space.
-pub const LAST_WHITE: u32 = 0x3000;
-
-// Whether a character is white space, by its value in 16 bits. Most letters of three bytes lie above 3000 and most of two between A0 and
-// 2000, where 1680 alone is white space: so these are told by the first tests.
+// Whether a character is white space, by its value in 16 bits. The first tests tell most letters: those of three bytes, of which most lie above
+// 3000, where a token begins with one, and those of two, which lie between A0 and 2000, where only 1680 is white space.
 pub fn is_white(v: u16) -> bool
     ensures { λ r. ⌜ r ≡ white v ⌝ }
 {
@@ -186,7 +183,7 @@ pub fn look_longer(text: &[u8], p: usize, c: u8) -> Seen
             width: 0,
         };
     }
-    // Above FFFF: neither white space nor a bracket or `;`, whatever the value is.
+    // It lies above FFFF: no white space, no bracket and no `;`.
     if width == 4 {
         return Seen {
             kind: classes::ORDINARY,
@@ -196,6 +193,9 @@ pub fn look_longer(text: &[u8], p: usize, c: u8) -> Seen
     let kind = kind_of(found.value);
     Seen { kind, width }
 }
+
+// The last character that is white space.
+pub const LAST_WHITE: u32 = 0x3000;
 
 // The value of the first character where its first byte, of class c, is one of E1 to EC, EE and EF; 0 for any other, and where there is none.
 // Their second and third bytes are of one range, so that these few tests pass over most characters of three bytes.

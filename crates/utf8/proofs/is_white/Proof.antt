@@ -1,6 +1,7 @@
 -- `utf8::is_white` meets its contract. Assumes nothing.
 use mathlib.Core.Path.{sym}
-use mathlib.Core.List.{[], _∷_}
+use mathlib.Core.List.{List, [], _∷_}
+use Prim.Native.Nat.{ℕ}
 use native.Mathlib.Nat.{le-refl}
 use native.Mathlib.Omega.{arith}
 use Rattle.horn.specs.Utf8.{within}
@@ -8,6 +9,13 @@ use Rattle.horn.specs.Tokens.{white, whiteRanges, inSome}
 use Rattle.utf8.proofs.Whiteness.{apart, misses, covered, allIn, in-none, in-one, in-listed, only}
 use Rattle.utf8.proofs.is_white.Statement.{statement}
 use Rattle.utf8.proofs.is_white.Tie as tie
+
+-- The keys of the two matches.
+abbrev keys : List ℕ
+keys = 0x20 ∷ 0x85 ∷ 0xA0 ∷ []
+
+abbrev keys2 : List ℕ
+keys2 = 0x202F ∷ 0x205F ∷ []
 
 -- From 3000 on, and from A1 to 1FFF.
 returns : tie.Need-returns
@@ -25,11 +33,11 @@ returns-3 c = sym (in-none _ [] 0 8 whiteRanges tt (λ o. o) (omega arith) (omeg
 
 returns-4 : tie.Need-returns-4
 unfolding white whiteRanges apart misses
-returns-4 c = sym (in-none _ (0x20 ∷ 0x85 ∷ 0xA0 ∷ []) 0xE 0xA0 whiteRanges tt (c .before .before .match .rest .1) (c .if5 .left) (c .before .before .before .if3 .left))
+returns-4 c = sym (in-none _ keys 0xE 0xA0 whiteRanges tt (c .before .before .match .rest .1) (c .if5 .left) (c .before .before .before .if3 .left))
 
 returns-5 : tie.Need-returns-5
 unfolding white whiteRanges inSome within allIn
-returns-5 c = sym (in-listed _ (0x20 ∷ 0x85 ∷ 0xA0 ∷ []) whiteRanges tt (c .match .keys1))
+returns-5 c = sym (in-listed _ keys whiteRanges tt (c .match .keys1))
 
 returns-6 : tie.Need-returns-6
 unfolding white whiteRanges covered
@@ -47,11 +55,11 @@ returns-8 c = sym (in-none _ [] 0x200B 0x2027 whiteRanges tt (λ o. o) (c .befor
 
 returns-9 : tie.Need-returns-9
 unfolding white whiteRanges apart misses
-returns-9 c = sym (in-none _ (0x202F ∷ 0x205F ∷ []) 0x202A 0x2FFF whiteRanges tt (c .before .before .match2 .rest .1) (c .if8 .left) (c .before .before .before .before .before .if1 .left))
+returns-9 c = sym (in-none _ keys2 0x202A 0x2FFF whiteRanges tt (c .before .before .match2 .rest .1) (c .if8 .left) (c .before .before .before .before .before .if1 .left))
 
 returns-10 : tie.Need-returns-10
 unfolding white whiteRanges inSome within allIn
-returns-10 c = sym (in-listed _ (0x202F ∷ 0x205F ∷ []) whiteRanges tt (c .match2 .keys1))
+returns-10 c = sym (in-listed _ keys2 whiteRanges tt (c .match2 .keys1))
 
 returns-11 : tie.Need-returns-11
 unfolding white whiteRanges covered

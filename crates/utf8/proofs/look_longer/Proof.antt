@@ -1,4 +1,5 @@
 -- `utf8::look_longer` meets its contract. Assumes nothing.
+use Rattle.utf8.specs.Characters.{kindAt}
 use Rattle.utf8.proofs.Looks.{longer-past, longer-never, longer-none, longer-four, longer-seen}
 use borrow.Author.Needs.{needs}
 use Rattle.utf8.proofs.look_longer.Statement.{statement}
@@ -14,6 +15,7 @@ returns-3 : tie.Need-returns-3
 returns-3 c = longer-none (c .before .before .before .before .before .before .before .args .text .now) (c .before .before .before .before .before .before .before .args .p) (c .before .before .before .before .before .before .before .args .c) (c .before .before .before .before .if2 .left) (c .before .longer .result .width) (c .before .longer .ensures .0) (c .if3 .taken)
 
 returns-4 : tie.Need-returns-4
+unfolding kindAt
 returns-4 c = longer-four (c .before .before .before .before .before .before .before .before .args .text .now) (c .before .before .before .before .before .before .before .before .args .p) (c .before .before .before .before .before .before .before .before .args .c) (c .before .before .before .before .before .if2 .left) (c .before .before .longer .result .width) (c .before .before .longer .ensures .0) (c .if4 .taken)
 
 returns-5 : tie.Need-returns-5
