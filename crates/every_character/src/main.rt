@@ -190,9 +190,6 @@ fn main() {
     let n = io::read_full(STDIN_FILENO, &mut input);
     let tally = all(words::bytes_part(&input, 0, n));
     told(tally.characters, b" characters\n");
-    told(tally.white, b" of them white space\n");
-    told(
-        tally.wrong,
-        b" of them said to be what Unicode's list does not say\n",
-    );
+    told(tally.white, b" white space\n");
+    told(tally.wrong, b" wrong\n");
 }
