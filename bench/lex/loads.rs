@@ -83,8 +83,7 @@ fn filled(quarters: usize, line: impl Fn(usize) -> String) -> Tokens {
 
 pub fn loads(run: &mut Run) {
     run.load("lex", "ASCII", "0.6", |q| filled(q, |i| format!("(step {i} more ({i}) (hold (s (s z))))\n")));
-    for (name, line) in crate::lines::LINES {
-        let bar = if name.starts_with("three-byte characters, ") { "0.8" } else { "" };
+    for (name, bar, line) in crate::lines::LINES {
         run.load("lex", name, bar, |q| filled(q, |_| line.into()));
     }
     run.fixed("lex", "clearing of the four areas, beside `memset`", "", Clearing(RefCell::new(crate::measure::areas())));

@@ -22,11 +22,11 @@ and-right true b t = t
 and-right false b t = absurd t
 
 -- The test f passes at each number below n.
-every : (ℕ → Bool) → ℕ → Bool
+unfoldable pub every : (ℕ → Bool) → ℕ → Bool
 every f zero = true
 every f (suc n) = f n && every f n
 
-at : (f : ℕ → Bool) (n : ℕ) → T (every f n) → (k : ℕ) → k < n → T (f k)
+pub at : (f : ℕ → Bool) (n : ℕ) → T (every f n) → (k : ℕ) → k < n → T (f k)
 unfolding every
 at f zero t k h = absurd (not-suc-le-zero h)
 at f (suc n) t k h = by (native.Mathlib.Decide.ℕ-discrete k n) (at f n (and-right (f n) (every f n) t) k) where

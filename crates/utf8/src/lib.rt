@@ -1,9 +1,10 @@
 // Characters: the first of some bytes, and its kind.
 ghost use mathlib.Core.Path.{_≡_};
 ghost use Prim.Native.Nat.{_+_, _*_, _%_};
-ghost use lib.ListN.{drop};
+ghost use lib.ListN.{getD, drop};
 ghost use Rattle.horn.specs.Tokens.{white, kind};
 ghost use Rattle.utf8.specs.Classes.{kindNumber};
+ghost use Rattle.utf8.specs.White.{whiteRows};
 ghost use Rattle.utf8.specs.Characters.{first, longerBy, byClass, plainValue, width, value, kindAt};
 
 pub mod classes;
@@ -21,30 +22,35 @@ pub struct Seen {
     pub width: usize,
 }
 
-// Whether a character is white space, by its value in 16 bits. The first tests tell most letters: those of three bytes, of which most lie above
-// 3000, where a token begins with one, and those of two, which lie between A0 and 2000, where only 1680 is white space.
+// The table of white space: 32 places in rows of four, that of the lowest place last. The 25 white-space characters stand each at its place, and
+// 20 stands at the others too, so that whatever is found there is white space.
+fn white_row(n: u32) -> u64
+    ensures { λ r. ⌜ r ≡ getD whiteRows n 0 ⌝ }
+{
+    match n {
+        0 => 0x2005_2004_0020_2003,
+        1 => 0x0020_2007_2006_202F,
+        2 => 0x200A_0020_2009_2008,
+        3 => 0x000A_205F_0009_0085,
+        4 => 0x0020_000C_0020_000B,
+        5 => 0x0020_00A0_0020_000D,
+        6 => 0x2029_3000_2028_0020,
+        7 => 0x2002_1680_2001_2000,
+        _ => 0,
+    }
+}
+
+// Whether a character is white space, by its value in 16 bits: whether the table has it at its place. By the factor 3151 no two white-space
+// characters have the same place. Up to 3000 no test parts some letters from others, so that none of them takes longer than another.
 pub fn is_white(v: u16) -> bool
     ensures { λ r. ⌜ r ≡ white v ⌝ }
 {
-    if 0x2FFF < v {
-        return v == 0x3000;
+    if 0x3000 < v {
+        return false;
     }
-    if v < 0x2000 {
-        if 0xA0 < v {
-            return v == 0x1680;
-        }
-        return match v {
-            0x9..=0xD | 0x20 | 0x85 | 0xA0 => true,
-            _ => false,
-        };
-    }
-    if v <= 0x200A {
-        return true;
-    }
-    match v {
-        0x2028..=0x2029 | 0x202F | 0x205F => true,
-        _ => false,
-    }
+    let place = v as u32 * 3151 / 2048 % 32;
+    let held = (white_row(place / 4) >> (place % 4 * 16)) % 65536;
+    held == v as u64
 }
 
 // The number of a character's kind, by its value in 16 bits.
@@ -53,6 +59,9 @@ pub fn kind_of(v: u16) -> u8
 {
     if is_white(v) {
         return classes::WHITE;
+    }
+    if 0x3B < v {
+        return classes::ORDINARY;
     }
     if v == 0x28 {
         return classes::OPENS;
