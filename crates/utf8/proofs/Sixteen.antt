@@ -1,14 +1,14 @@
 -- White space in 16 bits: by RFC 3629's grammar a character of four bytes lies above FFFF, and every other fits 16 bits. So what is
 -- answered of a character, one of four bytes before it is put together, is what the definition says of its value. Assumes nothing.
 use mathlib.Core.Path.{_≡_, refl, ap, sym, subst}
-use mathlib.Core.Bool.{Bool, true, false, _&&_}
+use mathlib.Core.Bool.{Bool, true, false}
 use mathlib.Core.List.{List, [], _∷_}
 use mathlib.Core.Option.{some}
 use Prim.Native.Nat.{ℕ, suc, _+_, _*_, _-_, _≤_, _<_}
 use native.Mathlib.Nat.{le-refl}
 use native.Mathlib.Omega.{arith}
 use borrow.Author.Tests.{ne-eqb, eqb-true, eqb-false}
-use lib.Dec.{T, eqb, leb, ltb, leb→le, ltb→lt}
+use lib.Dec.{T, eqb, ltb, ltb→lt}
 use lib.ListN.{length}
 use Rattle.horn.specs.Utf8.{Range, range, within, Sequence, sequence, sequences, startedBy, tail}
 use Rattle.horn.specs.Tokens.{white, opens, closes, comments, ordinary, kind}
@@ -16,9 +16,8 @@ use Rattle.horn.proofs.Equality.{case}
 use Rattle.horn.proofs.Inversion.{case-option}
 use Rattle.utf8.specs.Classes.{isWhite, kindNumber}
 use Rattle.utf8.specs.Characters.{First, broken, found, oneMore, rest, first, value, kindAt}
-use Rattle.utf8.proofs.Table.{and-left, and-right}
 use Rattle.utf8.proofs.Alternatives.{starts, allPass, started}
-use Rattle.utf8.proofs.Whiteness.{kind-above}
+use Rattle.utf8.proofs.Whiteness.{bounds, kind-above}
 
 -- The lower end and the upper end of a range.
 lower : Range → ℕ
@@ -52,10 +51,6 @@ unfolding Lies
 wider n broken l h w = tt
 wider n (found m v) l h w = (w .0, omega (arith, w .1), omega (arith, w .2))
 
-bounds : (low high b : ℕ) → T (within (range low high) b) → (low ≤ b) × (b ≤ high)
-unfolding within
-bounds low high b t = (leb→le low b (and-left (leb low b) (leb b high) t), leb→le b high (and-right (leb low b) (leb b high) t))
-
 rest-lies : (v : ℕ) (rs : List Range) (bs : List ℕ) → Lies (length rs) (reached lower v rs) (reached upper v rs) (rest v rs bs)
 unfolding Lies rest reached lower upper
 rest-lies v [] bs = (refl, le-refl v, le-refl v)
@@ -63,7 +58,7 @@ rest-lies v (r ∷ rs) [] = tt
 rest-lies v (range low high ∷ rs) (b ∷ bs) =
     case (within (range low high) b)
     (λ t.
-    let i = bounds low high b (rw t tt) in
+    let i = bounds low high b t in
     let u = v * 0x40 + (b - 0x80) in
     rw (t, rest)
     (more (length rs) _ _ (rest u rs bs)
@@ -104,7 +99,7 @@ sized-first (b ∷ bs) =
     case-option (startedBy b sequences) (λ o. rw (o, first) tt) (λ s o. by s o (started sized b sequences s all-sized o)) where
       by : (s : Sequence) → startedBy b sequences ≡ some s → T (sized s) × (starts s b ≡ true) → Sized (first (b ∷ bs))
       by (sequence (range low high) mark rs) o g =
-          let i = bounds low high b (rw (g .1) tt) in
+          let i = bounds low high b (g .1) in
           rw (o, first)
           (by-length (length rs) (reached lower (low - mark) rs) (reached upper (high - mark) rs) (eqb (length rs) 3) (rest (b - mark) rs bs) refl
           (g .0)

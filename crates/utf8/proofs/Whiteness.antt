@@ -37,7 +37,7 @@ white-in-place : T (allInPlace whiteRanges)
 unfolding allInPlace rangeInPlace inPlace every placeOf heldAt whiteRows whiteRanges
 white-in-place = tt
 
-bounds : (a b v : ℕ) → within (range a b) v ≡ true → (a ≤ v) × (v ≤ b)
+pub bounds : (a b v : ℕ) → within (range a b) v ≡ true → (a ≤ v) × (v ≤ b)
 unfolding within
 bounds a b v e = let t = T-of-true e in (leb→le a v (and-left (leb a v) (leb v b) t), leb→le v b (and-right (leb a v) (leb v b) t))
 
