@@ -27,7 +27,7 @@ const FEFF_NUL: &[&str] = &["\u{feff}", "\u{feff}a", "a\u{feff}", "\0", "a\0", "
 /// Not white space, each next to a character that is, or taken for it elsewhere.
 const NEAR: &[&str] = &[
     "\u{8}", "\u{e}", "\u{1c}", "\u{1f}", "\u{7f}", "\u{84}", "\u{86}", "\u{9f}", "\u{a1}", "\u{167f}", "\u{1681}",
-    "\u{180e}", "\u{1fff}", "\u{200b}", "\u{2027}", "\u{202a}", "\u{202e}", "\u{2030}", "\u{205e}", "\u{2060}",
+    "\u{180e}", "\u{1fff}", "\u{200b}", "\u{2027}", "\u{202a}", "\u{202e}", "\u{2030}", "\u{205e}", "\u{2060}", "\u{10020}", "\u{12028}",
     "\u{2fff}", "\u{3001}",
 ];
 
