@@ -23,7 +23,7 @@ use Rattle.horn.proofs.CompleteTokens.{Ordinary, bytesOf, Word, WordsIn
 mutual
   unfolding around add innermost outer writtenItem asItem
 
-  around-item : (x : Sexp) (ts : Stream Token)
+  pub around-item : (x : Sexp) (ts : Stream Token)
       → around (writtenItem (asItem x) ts) ≡ (asItem x then innermost (around ts)) inside outer (around ts)
   around-item (leaf name) ts = refl
   around-item (list xs) ts = ap (add opening) (around-items xs ts)

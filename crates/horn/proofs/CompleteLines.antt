@@ -18,7 +18,7 @@ before-append [] ys s = refl
 before-append (x ∷ xs) ys s = ap (x ▹_) (before-append xs ys s)
 
 -- No byte after a character's first is 0A.
-abbrev Inner : Range → Type 0
+abbrev pub Inner : Range → Type 0
 Inner r = within r 0x0A ≡ false
 
 abbrev Inners : Sequence → Type 0
@@ -34,7 +34,7 @@ started-inner b (sequence a m r ∷ seqs) {r = r′} p e =
     (λ w q. let h : r ≡ r′ = cc in rw (← h) (p .0))
     (λ w q. started-inner b seqs (p .1) q)
 
-inner : (b : ℕ) {a : Range} {m : ℕ} {r : List Range} → startedBy b sequences ≡ some (sequence a m r) → All Inner r
+pub inner : (b : ℕ) {a : Range} {m : ℕ} {r : List Range} → startedBy b sequences ≡ some (sequence a m r) → All Inner r
 unfolding sequences within tail
 inner b e =
     started-inner b sequences (

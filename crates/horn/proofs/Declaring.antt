@@ -4,7 +4,7 @@ use mathlib.Core.Path.{_≡_, sym, ap, subst}
 use mathlib.Core.Bool.{true, false, true≢false}
 use mathlib.Core.List.{List, [], _∷_, _++_}
 use Rattle.horn.specs.Refusals.{ok, _>>=_}
-use Rattle.horn.specs.Names.{Name, someOf}
+use Rattle.horn.specs.Names.{Name, named, someOf}
 use Rattle.horn.specs.NestedLists.{Sexp, leaf, list, Sexps, []ₛ, _∷ₛ_}
 use Rattle.horn.specs.Rulebook
 use Rattle.horn.specs.Rulebook.{Output, sort, judgment, symbol, Variable, Pattern, rule, Theory, isConstructor, isPredicate, isRule}
@@ -16,7 +16,7 @@ use Rattle.horn.proofs.Inversion.{after-one, after-two, after-three, no
 
 -- What a theory becomes by a declaration whose name is read from this member.
 pub data Declared (th : Theory) (n : Sexp) : Theory → Type 0 where
-  sort-declared : {name : Name} → declaredName n ≡ ok name
+  sort-declared : {name : Name} → declaredName n ≡ ok name → someOf (named name) (th .sorts) ≡ false
       → Declared th n record { sorts = th .sorts ++ (name ∷ []); symbols = th .symbols; rules = th .rules }
   symbol-declared : {name : Name} (ins : List Name) (out : Output) → declaredName n ≡ ok name
       → (isConstructor name (symbol name ins out) ≡ true → someOf (isConstructor name) (th .symbols) ≡ false)
@@ -43,7 +43,7 @@ module _ (th : Theory) where
   sort-is n e =
       afterᵣ _ e λ name e₁ e₂.
       after-needᵣ _ _ _ e₂ λ p e₃.
-      subst (Declared th n) (ok-equal e₃) (sort-declared e₁)
+      subst (Declared th n) (ok-equal e₃) (sort-declared e₁ (not-true _ p))
 
   constructor-is : (n is o : Sexp) {next : Theory} → Rulebook.declareConstructor th n is o ≡ ok next → Declared th n next
   unfolding Rulebook.declareConstructor withSymbol isPredicate

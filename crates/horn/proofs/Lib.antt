@@ -54,4 +54,10 @@ pub mod CompleteMatching
 pub mod CompleteSteps
 pub mod CompleteLayout
 pub mod Complete
+pub mod LongerTokens
+pub mod LongerTheory
+pub mod LongerNames
+pub mod LongerReading
+pub mod Longer
+pub mod LongerBench
 pub mod CompleteBench

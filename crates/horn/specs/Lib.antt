@@ -15,6 +15,7 @@ pub mod Arising
 pub mod Forced
 pub mod Layout
 pub mod Demand3
+pub mod Longer
 pub mod Output
 pub mod Used
 pub mod Page

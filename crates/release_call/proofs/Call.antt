@@ -1,4 +1,4 @@
--- The call with three texts, case by case as the code goes, and demand 3 of it. Assumes nothing.
+-- The call with three texts, case by case as the code goes, demand 3 of it, and request L4 of document 02. Assumes nothing.
 use Prim.Native.Nat.{ℕ, _≤_}
 use mathlib.Core.Path.{_≡_, sym, ap, _∙_}
 use mathlib.Core.Bool.{true}
@@ -10,8 +10,10 @@ use Rattle.horn.specs.Setting.{document01}
 use Rattle.horn.specs.Calls as calls
 use Rattle.horn.specs.Calls.{report, Release, releaseRead, releaseJudged, releaseAnswer, releaseCall, called, leaving, releaseLeft}
 use Rattle.horn.specs.Demand3.{Sound, Complete}
+use Rattle.horn.specs.Longer.{Kept}
 use Rattle.horn.proofs.Soundness.{sound}
 use Rattle.horn.proofs.Complete.{complete-01}
+use Rattle.horn.proofs.Longer.{kept}
 use Rattle.checker.specs.Checker as walk
 use Rattle.checker_laws.proofs.Lengths.{read-judged}
 use Rattle.reports.proofs.ReleaseReported.{reported, release-reported}
@@ -20,17 +22,19 @@ use Rattle.reports.specs.Release.{releasedBy, told}
 use Rattle.reports.specs.declared.Report.{Report}
 use Rattle.clearing.proofs.Areas.{Long, untouched-short, untouched-long, all-cleared}
 
--- What the call ensures: it is the definition's call, report and areas; and demand 3.
+-- What the call ensures: it is the definition's call, report and areas; demand 3; and that an old release is kept under a longer rulebook.
 abbrev Ensured : calls.Report → List ℕ → List ℕ → List ℕ → List ℕ → List ℕ → List ℕ → List ℕ → List ℕ → List ℕ → List ℕ → List ℕ → Type 0
 Ensured q rulebook goals certificate a b c d a′ b′ c′ d′ =
     (called q a′ b′ c′ d′ ≡ releaseLeft document01 a b c d rulebook goals certificate)
-    × (Sound document01 rulebook goals q × Complete document01 (length a) (length b) (length c) (length d) rulebook goals certificate q)
+    × (Sound document01 rulebook goals q
+    × (Complete document01 (length a) (length b) (length c) (length d) rulebook goals certificate q
+    × Kept document01 (length a) (length b) (length c) (length d) rulebook goals certificate q))
 
 module _ (rulebook goals certificate a b c d : List ℕ) where
   abbrev Call : calls.Report
   Call = releaseCall document01 (length a) (length b) (length c) (length d) rulebook goals certificate
 
-  -- A call by its report and its areas. Demand 3 holds of the definition's report.
+  -- A call by its report and its areas. Demand 3 and L4 hold of the definition's report.
   is-called : (q : calls.Report) (a′ b′ c′ d′ : List ℕ) → Call ≡ q → called q a′ b′ c′ d′ ≡ leaving document01 q (q .number) a b c d
       → Ensured q rulebook goals certificate a b c d a′ b′ c′ d′
   unfolding releaseLeft
@@ -39,6 +43,7 @@ module _ (rulebook goals certificate a b c d : List ℕ) where
     rw (← e) (
       sound document01 (length a) (length b) (length c) (length d) rulebook goals certificate,
       complete-01 (length a) (length b) (length c) (length d) rulebook goals certificate,
+      kept document01 (length a) (length b) (length c) (length d) rulebook goals certificate,
     ),
   )
 

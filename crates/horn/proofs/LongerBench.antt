@@ -1,0 +1,142 @@
+-- L4 on the bench set, with its conclusion computed; and an input for each way in which it would be false: a condition left out, or more said
+-- than is promised.
+use Prim.Native.Nat.{ℕ}
+use mathlib.Core.Path.{_≡_, refl, _∙_}
+use mathlib.Core.List.{List, [], _∷_, _++_}
+use native.Mathlib.Omega.{arith}
+use Rattle.horn.specs.Setting.{document01}
+use Rattle.horn.specs.Names.{codes}
+use Rattle.horn.specs.Tokens.{end, _▹_, atom, tokens}
+use Rattle.horn.specs.Calls.{RulebookReport, rulebookReport, rulebookCall, report, releaseCall}
+use Rattle.horn.specs.Forced.{LongEnough, Accepted}
+use Rattle.horn.specs.Longer.{longer}
+use Rattle.horn.proofs.Run.{openAll}
+use Rattle.horn.proofs.Bench.{R, G, C, tightFor}
+use Rattle.horn.proofs.Firings.{released}
+use Rattle.horn.proofs.Accepting.{answer-gives, gives-accepted}
+use Rattle.horn.proofs.Longer.{kept}
+
+-- The call with the rulebook alone, on areas just long enough.
+abbrev judged : List ℕ → RulebookReport
+judged = rulebookCall document01 16_384 16_384 16_384 16_384
+
+-- Further text for R: a comment, a sort, a constructor and a predicate with names of R's rules, and a rule.
+unfoldable pub further : List ℕ
+further = codes "; next term\n(sort u)(ctor base () t)(pred more (u))(rule any () (hold ?y))"
+
+long-enough : LongEnough document01 16_384 16_384 16_384 16_384
+unfolding openAll
+long-enough = record { first-area = omega arith; second-area = omega arith; third-area = omega arith; fourth-area = omega arith }
+
+zero-accepted : (rulebook : List ℕ) → (judged rulebook) .number ≡ 0 → Accepted document01 rulebook
+zero-accepted rulebook e = gives-accepted (answer-gives document01 16_384 16_384 16_384 16_384 rulebook e .1)
+
+bench-accepts : Accepted document01 R
+unfolding openAll R
+bench-accepts = zero-accepted R refl
+
+longer-accepts : Accepted document01 (longer R further)
+unfolding openAll R further longer
+longer-accepts = zero-accepted (longer R further) refl
+
+bench-released : released R G C ≡ report 0 2 1 4 48 7
+unfolding openAll R G C
+bench-released = refl
+
+-- The theorem on the bench set: the release is accepted with its five counts under the longer rulebook.
+pub bench-kept : released (longer R further) G C ≡ report 0 2 1 4 48 7
+unfolding openAll R G C
+bench-kept =
+    (kept document01 16_384 16_384 16_384 16_384 (longer R further) G C) .keeps R further 16_384 16_384 16_384 16_384 refl bench-accepts longer-accepts
+    long-enough refl
+    ∙ bench-released
+
+-- The same by computing alone, and what the longer rulebook declares.
+pub record LongerBench : Type 0 where
+  pub declared : judged (longer R further) ≡ rulebookReport 0 2 3 2 3
+  pub computed : released (longer R further) G C ≡ report 0 2 1 4 48 7
+
+pub longer-bench : LongerBench
+unfolding openAll R G C further longer
+longer-bench = record { declared = refl; computed = refl }
+
+-- A goal and a certificate by the rule that only the further text declares.
+unfoldable pub newGoal : List ℕ
+newGoal = codes "(goal g (hold z))"
+
+unfoldable pub byNewRule : List ℕ
+byNewRule = codes "(step 0 any () (hold z))(result g 0)"
+
+-- "A refused release may become accepted; nothing is promised there."
+pub record MayBecomeAccepted : Type 0 where
+  pub unknown-before : released R newGoal byNewRule ≡ report 12 0 0 0 0 0
+  pub known-after : released (longer R further) newGoal byNewRule ≡ report 0 1 1 2 36 4
+
+pub may-become-accepted : MayBecomeAccepted
+unfolding openAll R newGoal byNewRule further longer
+may-become-accepted = record { unknown-before = refl; known-after = refl }
+
+-- "Let R be an accepted rulebook": the first part of a text that is accepted need not be. Then no release is accepted under it
+-- (`accepted-under` in Longer), and what is accepted under the whole says nothing of it.
+unfoldable pub brokenOff : List ℕ
+unfolding R
+brokenOff = R ++ codes "(rule any ()"
+
+unfoldable pub itsRest : List ℕ
+itsRest = codes "(hold ?y))"
+
+pub record NotAcceptedAlone : Type 0 where
+  pub part : judged brokenOff ≡ rulebookReport 5 0 0 0 0
+  pub whole : judged (longer brokenOff itsRest) ≡ rulebookReport 0 1 2 1 3
+  pub under-part : released brokenOff G C ≡ report 5 0 0 0 0 0
+  pub under-whole : released (longer brokenOff itsRest) G C ≡ report 0 2 1 4 48 7
+
+pub not-accepted-alone : NotAcceptedAlone
+unfolding openAll R G C brokenOff itsRest longer
+not-accepted-alone = record { part = refl; whole = refl; under-part = refl; under-whole = refl }
+
+-- "Let R, a new line and further text be accepted too": else the release is refused as the longer rulebook is, by a name declared twice or by
+-- its length.
+pub record LongerNotAccepted : Type 0 where
+  pub declared-twice : released (longer R (codes "(sort t)")) G C ≡ report 13 0 0 0 0 0
+  pub one-byte-more : releaseCall (tightFor 48) 16_384 16_384 16_384 16_384 (longer R []) G C ≡ report 2 0 0 0 0 0
+
+pub longer-not-accepted : LongerNotAccepted
+unfolding openAll R G C longer
+longer-not-accepted = record { declared-twice = refl; one-byte-more = refl }
+
+-- "A new line": without it an atom grows, and a comment swallows what is put behind it.
+unfoldable pub commented : List ℕ
+unfolding R
+commented = R ++ codes ";"
+
+unfoldable pub twoLines : List ℕ
+twoLines = codes "(sort u)\n(ctor k () u)"
+
+pub record NoNewLine : Type 0 where
+  -- an atom
+  pub two-atoms : tokens (longer (codes "a") (codes "b")) ≡ atom (codes "a") ▹ atom (codes "b") ▹ end
+  pub one-atom : tokens (codes "a" ++ codes "b") ≡ atom (codes "ab") ▹ end
+  -- the same in a rulebook
+  pub excess : judged (longer (R ++ codes "(sort u") (codes "v)")) ≡ rulebookReport 9 0 0 0 0
+  pub grown : judged (R ++ codes "(sort u" ++ codes "v)") ≡ rulebookReport 0 2 2 1 2
+  -- a comment: what it swallows is not declared, and no release can use it
+  pub rule-declared : released (longer commented (codes "(rule any () (hold ?y))")) newGoal byNewRule ≡ report 0 1 1 2 36 4
+  pub rule-swallowed : released (commented ++ codes "(rule any () (hold ?y))") newGoal byNewRule ≡ report 12 0 0 0 0 0
+  -- or what stands on the next line lacks it: an old release is refused with the rulebook
+  pub sort-declared : released (longer commented twoLines) G C ≡ report 0 2 1 4 48 7
+  pub sort-swallowed : released (commented ++ twoLines) G C ≡ report 12 0 0 0 0 0
+
+pub no-new-line : NoNewLine
+unfolding openAll R G C newGoal byNewRule commented twoLines longer
+no-new-line =
+    record {
+      two-atoms = refl;
+      one-atom = refl;
+      excess = refl;
+      grown = refl;
+      rule-declared = refl;
+      rule-swallowed = refl;
+      sort-declared = refl;
+      sort-swallowed = refl;
+    }

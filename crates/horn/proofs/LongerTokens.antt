@@ -1,0 +1,136 @@
+-- The tokens of a text, a new line and a further text are those of the one, then those of the other: the 0A ends a line, and with it an
+-- atom or a comment that the first text ends in. Where the first text has a bad line, nothing behind that is read.
+use Prim.Native.Nat.{ℕ, _*_, _+_, _-_}
+use mathlib.Core.Path.{_≡_, refl, sym, ap, _∙_}
+use mathlib.Core.Bool.{true, false}
+use mathlib.Core.List.{List, [], _∷_, _++_}
+use mathlib.Core.Option.{Option, none, some, Option·map}
+use lib.Dec.{eqb}
+use Rattle.horn.specs.Utf8.{Range, within, Sequence, sequence, tail, sequences, startedBy, Char, char, resumed, decoded}
+use Rattle.horn.specs.Tokens.{Stream, end, bad, _▹_, before, ontoFirstLine, lines, characters, kind, white, whiteRanges, inSome}
+use Rattle.horn.specs.Tokens.{Token, Place, between, inComment, inAtom, begins, continues, move, unended, tokensFrom, tokens}
+use Rattle.horn.specs.Longer.{longer}
+use Rattle.horn.proofs.Equality.{case}
+use Rattle.horn.proofs.Inversion.{case-option}
+use Rattle.horn.proofs.CompleteUtf8.{All, resumed-done, decoded-begun}
+use Rattle.horn.proofs.CompleteLines.{before-append, Inner, inner}
+
+-- One stream behind another. A stream that breaks off at a bad line has nothing behind it.
+unfoldable pub followedBy : {A : Type 0} → Stream A → Stream A → Stream A
+followedBy end s = s
+followedBy bad s = bad
+followedBy (a ▹ t) s = a ▹ followedBy t s
+
+followed-before : {A : Type 0} (xs : List A) (t s : Stream A) → followedBy (before xs t) s ≡ before xs (followedBy t s)
+unfolding followedBy before
+followed-before [] t s = refl
+followed-before (x ∷ xs) t s = ap (x ▹_) (followed-before xs t s)
+
+-- The character 0A.
+abbrev newline : Char
+newline = char (0x0A ∷ []) 0x0A
+
+-- Bytes with a 0A behind them are UTF-8 exactly if they are so without it, and then have this one character more.
+abbrev withNewline : Option (List Char) → Option (List Char)
+withNewline o = Option·map (λ cs. cs ++ (newline ∷ [])) o
+
+front-newline : (o : Option (List Char)) (c : Char) → Option·map (λ cs. c ∷ cs) (withNewline o) ≡ withNewline (Option·map (λ cs. c ∷ cs) o)
+front-newline none c = refl
+front-newline (some cs) c = refl
+
+case-sequence {ℓ} : {C : Type ℓ} (o : Option Sequence) → (o ≡ none → C)
+    → ((a : Range) (m : ℕ) (r : List Range) → o ≡ some (sequence a m r) → C)
+    → C
+case-sequence none x y = x refl
+case-sequence (some (sequence a m r)) x y = y a m r refl
+
+begun-newline : (b : ℕ) (bs : List ℕ)
+    → ((m : ℕ) (r : List Range) → All Inner r → resumed (b ∷ []) (b - m) r (bs ++ (0x0A ∷ [])) ≡ withNewline (resumed (b ∷ []) (b - m) r bs))
+    → decoded (b ∷ bs ++ (0x0A ∷ [])) ≡ withNewline (decoded (b ∷ bs))
+unfolding decoded
+begun-newline b bs k =
+    case-sequence (startedBy b sequences)
+    (λ n. rw (n, decoded))
+    (λ a m r s. rw (s, decoded) (k m r (inner b s)))
+
+resumed-newline : (bs taken : List ℕ) (value : ℕ) (rs : List Range) → All Inner rs
+    → resumed taken value rs (bs ++ (0x0A ∷ [])) ≡ withNewline (resumed taken value rs bs)
+unfolding resumed startedBy sequences within
+resumed-newline [] taken value (r ∷ rs) i = rw (i .0, resumed)
+resumed-newline [] taken value [] i = refl
+resumed-newline (b ∷ bs) taken value (r ∷ rs) i =
+    case (within r b)
+    (λ w. rw (w, resumed) (resumed-newline bs (taken ++ (b ∷ [])) (value * 0x40 + (b - 0x80)) rs (i .1)))
+    (λ w. rw (w, resumed))
+resumed-newline (b ∷ bs) taken value [] i =
+    resumed-done taken value (b ∷ bs ++ (0x0A ∷ []))
+    ∙ ap (Option·map (λ cs. char taken value ∷ cs)) (begun-newline b bs (λ m r. resumed-newline bs (b ∷ []) (b - m) r))
+    ∙ front-newline (decoded (b ∷ bs)) (char taken value)
+    ∙ ap withNewline (sym (resumed-done taken value (b ∷ bs)))
+
+decoded-newline : (bs : List ℕ) → decoded (bs ++ (0x0A ∷ [])) ≡ withNewline (decoded bs)
+unfolding decoded resumed startedBy sequences within
+decoded-newline [] = refl
+decoded-newline (b ∷ bs) = begun-newline b bs (λ m r. resumed-newline bs (b ∷ []) (b - m) r)
+
+-- The lines of a text, those of the same text with a new line and a further text behind it, and how they are related: the last line, if
+-- nothing ends it, is ended by the 0A, and else the 0A is a line of its own. The further text's lines are behind it.
+data Ended (further : List ℕ) : List (List ℕ) → List (List ℕ) → Type 0 where
+  own-line : Ended further [] ((0x0A ∷ []) ∷ lines further)
+  last-line : (line : List ℕ) → Ended further (line ∷ []) ((line ++ (0x0A ∷ [])) ∷ lines further)
+  next-line : (line : List ℕ) {ls ms : List (List ℕ)} → Ended further ls ms → Ended further (line ∷ ls) (line ∷ ms)
+
+ended-onto : {further : List ℕ} (b : ℕ) {ls ms : List (List ℕ)} → Ended further ls ms → Ended further (ontoFirstLine b ls) (ontoFirstLine b ms)
+unfolding ontoFirstLine
+ended-onto b own-line = last-line (b ∷ [])
+ended-onto b (last-line line) = last-line (b ∷ line)
+ended-onto b (next-line line e) = next-line (b ∷ line) e
+
+lines-ended : (text further : List ℕ) → Ended further (lines text) (lines (text ++ (0x0A ∷ further)))
+unfolding lines
+lines-ended [] further = own-line
+lines-ended (b ∷ bs) further =
+    case (eqb b 0x0A)
+    (λ n. rw (n, lines) (next-line (b ∷ []) (lines-ended bs further)))
+    (λ n. rw (n, lines) (ended-onto b (lines-ended bs further)))
+
+-- So the further text's characters follow, behind a 0A.
+characters-ended : {further : List ℕ} {ls ms : List (List ℕ)} → Ended further ls ms
+    → characters ms ≡ followedBy (characters ls) (newline ▹ characters (lines further))
+unfolding characters followedBy before decoded resumed startedBy sequences within
+characters-ended own-line = refl
+characters-ended {further} (last-line line) =
+    case-option (decoded line)
+    (λ n. rw (decoded-newline line, n, characters))
+    (λ cs e.
+    rw (decoded-newline line, e, characters)
+    (before-append cs (newline ∷ []) (characters (lines further)) ∙ sym (followed-before cs end (newline ▹ characters (lines further)))))
+characters-ended {further} (next-line line {ls} {ms} h) =
+    case-option (decoded line)
+    (λ n. rw (n, characters))
+    (λ cs e.
+    rw (e, characters)
+    (ap (before cs) (characters-ended h) ∙ sym (followed-before cs (characters ls) (newline ▹ characters (lines further)))))
+
+-- Wherever a reader stands, a 0A behind the text does what the text's end does, and the reader stands between tokens behind it.
+tokens-newline : (place : Place) (s : Stream Char) → tokensFrom place (newline ▹ s) ≡ before (unended place) (tokensFrom between s)
+unfolding tokensFrom move begins continues kind white whiteRanges inSome within unended before
+tokens-newline between s = refl
+tokens-newline inComment s = refl
+tokens-newline (inAtom bs) s = refl
+
+tokens-followed : (s : Stream Char) (place : Place) (further : Stream Char)
+    → tokensFrom place (followedBy s (newline ▹ further)) ≡ followedBy (tokensFrom place s) (tokensFrom between further)
+unfolding followedBy tokensFrom
+tokens-followed end place further =
+    tokens-newline place further ∙ sym (followed-before (unended place) end (tokensFrom between further))
+tokens-followed bad place further = sym (followed-before (unended place) bad (tokensFrom between further))
+tokens-followed (c ▹ cs) place further =
+    ap (before ((move place c) .0)) (tokens-followed cs ((move place c) .1) further)
+    ∙ sym (followed-before ((move place c) .0) (tokensFrom ((move place c) .1) cs) (tokensFrom between further))
+
+-- The tokens of R, a new line and further text: those of R, then those of the further text.
+pub tokens-longer : (R further : List ℕ) → tokens (longer R further) ≡ followedBy (tokens R) (tokens further)
+unfolding tokens longer
+tokens-longer R further =
+    ap (tokensFrom between) (characters-ended (lines-ended R further)) ∙ tokens-followed (characters (lines R)) between (characters (lines further))
