@@ -4,12 +4,11 @@ use mathlib.Core.Path.{_≡_, refl}
 use mathlib.Core.Bool.{Bool, true, false}
 use mathlib.Core.List.{List, [], _∷_, _++_}
 use native.Mathlib.Omega.{arith}
-use lib.Dec.{eqb}
 use lib.ListN.{length, length-append}
 use Rattle.horn.specs.Utf8.{Char, char}
 use Rattle.horn.specs.Tokens.{Stream, end, bad, _▹_, before, lines, characters, Kind, blank, opens, closes, comments, ordinary, kind}
-use Rattle.horn.specs.Tokens.{Token, Place, between, inComment, inAtom, Move, begins, continues, move, unended, tokensFrom, tokens}
-use Rattle.horn.proofs.Post.{either}
+use Rattle.horn.specs.Tokens.{Token, Place, between, inComment, inAtom, begins, continues, move, unended, tokensFrom, tokens}
+use Rattle.horn.proofs.Counts.{in-comment}
 use Rattle.capacity.proofs.Characters.{wide-some, wide-all, streamBytes, characters-few}
 use Rattle.capacity.specs.Costs.{wide, atomFirst, cost, gap, atomBytes, bytes}
 
@@ -54,7 +53,7 @@ unfolding move begun before
 after-move between word value s n h = let i = after-begins (kind value) word s n h in omega arith
 after-move (inAtom a) word value s n h = let i = after-continues a (kind value) word s n h in omega arith
 after-move inComment word value s n h =
-    either {A = Move} (λ m. bytes (before (m .0) (s (m .1))) ≤ 0 + (wide word + n)) (eqb value 0x0A) {x = ([], between)} {y = ([], inComment)}
+    in-comment (λ m. bytes (before (m .0) (s (m .1))) ≤ 0 + (wide word + n)) (char word value)
     (let i = h between in omega (arith, wide-some word)) (let i = h inComment in omega (arith, wide-some word))
 
 at-end : (place : Place) (s : Stream Token) → bytes s ≡ 0 → atomFirst s ≡ false → bytes (before (unended place) s) ≤ begun place + 0

@@ -147,7 +147,7 @@ unfolding releaseJudged
 judged-run limits a b c d rulebook text certificate e =
     afterᵣ _ e λ r e₁ e₂. record { release = r; met = read-run limits a b c d rulebook text certificate e₁; answers = ok-equal e₂ }
 
-accepted-answer : (r : Result Report) → (releaseAnswer r) .number ≡ 0 → r ≡ ok (releaseAnswer r)
+pub accepted-answer : (r : Result Report) → (releaseAnswer r) .number ≡ 0 → r ≡ ok (releaseAnswer r)
 unfolding releaseAnswer
 accepted-answer (refused r) e = let h = number-positive r in absurd (omega arith)
 accepted-answer (ok a) e = refl

@@ -31,7 +31,7 @@ abbrev Larger : ℕ → Theory → Theory → Type 0
 Larger n th next = length (next .symbols) ≤ length (th .symbols) + n
 
 larger-declared : {th next : Theory} {n : Sexp} → Declared th n next → Larger 1 th next
-larger-declared (sort-declared e f) = omega arith
+larger-declared (sort-declared e) = omega arith
 larger-declared {th} (symbol-declared {name = name} ins out e f g) = omega (arith, length-append (th .symbols) (symbol name ins out ∷ []))
 larger-declared (rule-declared xs j e₁ e₂ e f) = omega arith
 

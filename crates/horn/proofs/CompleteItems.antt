@@ -1,10 +1,8 @@
 -- The items of printed forms are those forms; and every atom of a text is a word, that is, made of ordinary characters.
 use Prim.Native.Nat.{ℕ, suc}
 use mathlib.Core.Path.{_≡_, refl, sym, ap, _∙_}
-use mathlib.Core.Bool.{Bool, true, false}
 use mathlib.Core.List.{List, [], _∷_, _++_, append-nil, append-assoc}
 use mathlib.Core.Option.{Option, none, some}
-use lib.Dec.{eqb}
 use Rattle.horn.specs.Refusals.{ok}
 use Rattle.horn.specs.Utf8.{Char, char, decoded}
 use Rattle.horn.specs.Tokens.{Stream, end, bad, _▹_, before, lines, characters, Kind, blank, opens, closes, comments, ordinary, kind}
@@ -15,7 +13,7 @@ use Rattle.horn.specs.NestedLists.{add, around, items}
 use Rattle.horn.specs.NestedLists.{Sexp, leaf, list, Sexps, []ₛ, _∷ₛ_, asItem, asItems, topItems, writtenItem, written}
 use Rattle.horn.specs.NestedLists.{absent, askedAt, sexp, members, sexps}
 use Rattle.horn.specs.Layout.{printedLines}
-use Rattle.horn.proofs.Counts.{AllAround, all-end, all-bad, all-inside, all-innermost, all-outer}
+use Rattle.horn.proofs.Counts.{in-comment, AllAround, all-end, all-bad, all-inside, all-innermost, all-outer}
 use Rattle.horn.proofs.Inversion.{afterᵣ, not-ok, ok-equal}
 use Rattle.horn.proofs.CompleteUtf8.{All, all-append, Proper, decoded-append, decoded-proper}
 use Rattle.horn.proofs.CompleteTokens.{Ordinary, bytesOf, Word, WordsIn, leaf-word, list-words, AllWords, no-words, _and-words_, tokens-printed}
@@ -113,15 +111,11 @@ continues-words closes as′ bs v w p e = ((w, (tt, tt)), tt)
 continues-words comments as′ bs v w p e = ((w, tt), tt)
 continues-words ordinary as′ bs v w p e = (tt, word-append w (first-word bs v p e))
 
-comment-words : (b : Bool) → WordMove (elim b [ true ↦ ([], between) | false ↦ ([], inComment) ])
-comment-words true = (tt, tt)
-comment-words false = (tt, tt)
-
 move-words : (place : Place) (c : Char) → WordPlace place → Proper c → WordMove (move place c)
 unfolding move
 move-words between (char bs v) w p = begins-words (kind v) bs v p refl
 move-words (inAtom as′) (char bs v) w p = continues-words (kind v) as′ bs v w p refl
-move-words inComment (char bs v) w p = comment-words (eqb v 0x0A)
+move-words inComment c w p = in-comment WordMove c (tt, tt) (tt, tt)
 
 unended-words : (place : Place) → WordPlace place → All WordToken (unended place)
 unfolding unended

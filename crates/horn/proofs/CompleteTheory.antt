@@ -80,7 +80,7 @@ name-word x w e =
 -- What was found by its name before a declaration is found by it afterwards, and so is what the declaration adds.
 declared-looks : {th next : Theory} {n : Sexp} → Lookups th → WordsIn n → Declared th n next → Lookups next
 unfolding symbolName ruleName
-declared-looks l w (sort-declared e f) =
+declared-looks l w (sort-declared e) =
     record {
       finds-constructor = l .finds-constructor;
       finds-predicate = l .finds-predicate;

@@ -8,7 +8,7 @@ use lib.Dec.{eqb}
 use lib.ListN.{length}
 use Rattle.horn.specs.Utf8.{Range, Sequence, sequence, sequences, Char, char, within, startedBy, resumed, decoded}
 use Rattle.horn.specs.Tokens.{Stream, end, bad, _▹_, before, ontoFirstLine, lines, characters, Kind, blank, opens, closes, comments, ordinary, kind}
-use Rattle.horn.specs.Tokens.{Token, opening, closing, atom, Place, between, inComment, inAtom, Move, begins, continues, move}
+use Rattle.horn.specs.Tokens.{Token, opening, closing, atom, Place, between, inComment, inAtom, Move, begins, continues, endsComment, move}
 use Rattle.horn.specs.Tokens.{unended, tokensFrom, tokens}
 use Rattle.horn.specs.NestedLists.{word, group, Items, closed, ended, badLine, _then_, Around, atEnd, atBadLine, _inside_, innermost, outer}
 use Rattle.horn.specs.NestedLists.{add, around, items}
@@ -95,6 +95,11 @@ pending between = 0
 pending inComment = 0
 pending (inAtom bytes) = 1
 
+-- In a comment a character ends no token: the reader stands in the comment behind it, or between tokens.
+pub in-comment {ℓ} : (P : Move → Type ℓ) (c : Char) → P ([], between) → P ([], inComment) → P (move inComment c)
+unfolding move
+in-comment P (char bytes value) p q = either P (endsComment value) p q
+
 few-begins : (k : Kind) (bytes : List ℕ) → length ((begins k bytes) .0) + pending ((begins k bytes) .1) ≤ 1
 unfolding begins pending
 few-begins blank bytes = omega arith
@@ -115,8 +120,7 @@ few-move : (place : Place) (c : Char) → length ((move place c) .0) + pending (
 unfolding move pending
 few-move between (char bytes value) = few-begins (kind value) bytes
 few-move (inAtom a) (char bytes value) = few-continues a (kind value) bytes
-few-move inComment (char bytes value) =
-    either {A = Move} (λ m. length (m .0) + pending (m .1) ≤ 1) (eqb value 0x0A) {x = ([], between)} {y = ([], inComment)} (omega arith) (omega arith)
+few-move inComment c = in-comment (λ m. length (m .0) + pending (m .1) ≤ 1) c (omega arith) (omega arith)
 
 few-unended : (place : Place) → length (unended place) ≡ pending place
 unfolding unended pending

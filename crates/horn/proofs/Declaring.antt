@@ -1,10 +1,10 @@
 -- What a declaration that is not refused has declared: a sort, a symbol or a rule, by a name that stands behind its head. All that
 -- is proved of theories goes over these.
-use mathlib.Core.Path.{_≡_, sym, ap, subst}
+use mathlib.Core.Path.{_≡_, sym, ap, subst, _∙_}
 use mathlib.Core.Bool.{true, false, true≢false}
 use mathlib.Core.List.{List, [], _∷_, _++_}
 use Rattle.horn.specs.Refusals.{ok, _>>=_}
-use Rattle.horn.specs.Names.{Name, named, someOf}
+use Rattle.horn.specs.Names.{Name, someOf}
 use Rattle.horn.specs.NestedLists.{Sexp, leaf, list, Sexps, []ₛ, _∷ₛ_}
 use Rattle.horn.specs.Rulebook
 use Rattle.horn.specs.Rulebook.{Output, sort, judgment, symbol, Variable, Pattern, rule, Theory, isConstructor, isPredicate, isRule}
@@ -14,10 +14,11 @@ use Rattle.horn.specs.Arising.{Declares, declares-none, declares-next}
 use Rattle.horn.proofs.Equality.{not-true}
 use Rattle.horn.proofs.Inversion.{after-one, after-two, after-three, not-ok, ok-equal, afterᵣ, after-needᵣ}
 
--- What a theory becomes by a declaration whose name is read from this member.
+-- What a theory becomes by a declaration whose name is read from this member. Of a sort nothing is asked but that it is declared: only the laws
+-- of longer rulebooks (LongerNames) need its place.
 pub data Declared (th : Theory) (n : Sexp) : Theory → Type 0 where
-  sort-declared : {name : Name} → declaredName n ≡ ok name → someOf (named name) (th .sorts) ≡ false
-      → Declared th n record { sorts = th .sorts ++ (name ∷ []); symbols = th .symbols; rules = th .rules }
+  sort-declared : {sorts : List Name} → Rulebook.declareSort th n ≡ ok record { sorts = sorts; symbols = th .symbols; rules = th .rules }
+      → Declared th n record { sorts = sorts; symbols = th .symbols; rules = th .rules }
   symbol-declared : {name : Name} (ins : List Name) (out : Output) → declaredName n ≡ ok name
       → (isConstructor name (symbol name ins out) ≡ true → someOf (isConstructor name) (th .symbols) ≡ false)
       → (isPredicate name (symbol name ins out) ≡ true → someOf (isPredicate name) (th .symbols) ≡ false)
@@ -43,7 +44,7 @@ module _ (th : Theory) where
   sort-is n e =
       afterᵣ _ e λ name e₁ e₂.
       after-needᵣ _ _ _ e₂ λ p e₃.
-      subst (Declared th n) (ok-equal e₃) (sort-declared e₁ (not-true _ p))
+      subst (Declared th n) (ok-equal e₃) (sort-declared (e ∙ sym e₃))
 
   constructor-is : (n is o : Sexp) {next : Theory} → Rulebook.declareConstructor th n is o ≡ ok next → Declared th n next
   unfolding Rulebook.declareConstructor withSymbol isPredicate

@@ -1,22 +1,23 @@
 -- Request L4 of document 02, of the definition at any limits and on any areas: an old release under a longer rulebook. What is accepted under
--- R has come to the very same under R, a new line and further text, if that is accepted: goals, steps, results, store and requests.
+-- R comes to the very same under R, a new line and further text, if that is accepted: goals, steps, results, store and requests.
 use Prim.Native.Nat.{ℕ}
 use mathlib.Core.Path.{_≡_, sym, ap, subst, _∙_}
 use mathlib.Core.List.{List}
 use lib.ListN.{length}
 use borrow.Author.Tests.{le-leb}
-use Rattle.horn.specs.Refusals.{Result, ok}
+use Rattle.horn.specs.Refusals.{Result, ok, _>>=_}
 use Rattle.horn.specs.Setting.{Setting}
-use Rattle.horn.specs.Rulebook.{theory}
-use Rattle.horn.specs.Calls.{Report, Release, reportOf, releaseRead, releaseJudged, releaseAnswer, releaseCall}
+use Rattle.horn.specs.Calls.{Release, reportOf, rulebookCall, releaseRead, releaseJudged, releaseAnswer, releaseCall}
 use Rattle.horn.specs.Forced.{LongEnough, Accepted}
 use Rattle.horn.specs.Longer.{longer, Kept}
-use Rattle.horn.proofs.Inversion.{onᵣ, need-on}
-use Rattle.horn.proofs.Accepting.{ReadRun, AcceptedRun, accepted-run, areasLong-ok, gives-accepted, accepted-gives}
+use Rattle.horn.specs.Output.{fitting, outputOf}
+use Rattle.horn.specs.Page.{pageOf, pageJudged, pageCall}
+use Rattle.horn.proofs.Inversion.{afterᵣ, onᵣ, need-on}
+use Rattle.horn.proofs.Accepting.{ReadRun, read-run, accepted-answer, accepted-run, areasLong-ok, answer-gives, gives-accepted, accepted-gives}
 use Rattle.horn.proofs.LongerNames.{theory-extends}
 use Rattle.horn.proofs.LongerReading.{text-alike, certificate-alike}
 
--- What three texts that are not refused have come to, read again on areas long enough.
+-- What a call with three texts has met on its way to a release is met again on any areas long enough.
 pub read-again : {limits : Setting} {a b c d : ℕ} (rulebook text certificate : List ℕ) {r : Release} → LongEnough limits a b c d
     → ReadRun limits rulebook text certificate r
     → releaseRead limits a b c d rulebook text certificate ≡ ok r
@@ -30,7 +31,7 @@ read-again {limits} rulebook text certificate l run =
     ∙ onᵣ _ (run .read)
     ∙ onᵣ _ (run .taken)
 
--- Under the longer rulebook it is met on the way to the same release.
+-- Under the longer rulebook the same is met on the way to the same release.
 pub run-longer : {limits : Setting} (R further text certificate : List ℕ) {r : Release} → Accepted limits (longer R further)
     → ReadRun limits R text certificate r
     → ReadRun limits (longer R further) text certificate r
@@ -55,16 +56,42 @@ accepted-under limits a b c d R text certificate e =
     let run = accepted-run limits a b c d R text certificate e in
     gives-accepted record { short = run .met .short; gives = run .met .gives }
 
+module _ (limits : Setting) (a b c d : ℕ) (long : LongEnough limits a b c d) (i j k l : ℕ) (R further text certificate : List ℕ) where
+  read-kept : Accepted limits (longer R further) → (releaseCall limits i j k l R text certificate) .number ≡ 0
+      → releaseRead limits a b c d (longer R further) text certificate ≡ releaseRead limits i j k l R text certificate
+  unfolding releaseCall releaseJudged
+  read-kept acc zero-number =
+      afterᵣ (releaseRead limits i j k l R text certificate) (accepted-answer (releaseJudged limits i j k l R text certificate) zero-number) λ r e₁ e₂.
+      read-again (longer R further) text certificate long
+      (run-longer R further text certificate acc (read-run limits i j k l R text certificate e₁))
+      ∙ sym e₁
+
+  -- The report is the same, and so is the release page, over any buffer.
+  pub release-kept : Accepted limits (longer R further) → (releaseCall limits i j k l R text certificate) .number ≡ 0
+      → releaseCall limits a b c d (longer R further) text certificate ≡ releaseCall limits i j k l R text certificate
+  unfolding releaseCall releaseJudged
+  release-kept acc zero-number =
+      ap (λ (m : Result Release). releaseAnswer (m >>= λ r. ok (reportOf (length certificate) r))) (read-kept acc zero-number)
+
+  pub page-kept : (buffer : List ℕ) → Accepted limits (longer R further) → (releaseCall limits i j k l R text certificate) .number ≡ 0
+      → pageCall limits a b c d (longer R further) text certificate buffer ≡ pageCall limits i j k l R text certificate buffer
+  unfolding pageCall pageJudged
+  page-kept buffer acc zero-number =
+      ap (λ (m : Result Release). outputOf (m >>= λ r. fitting (length buffer) (pageOf r)) buffer) (read-kept acc zero-number)
+
+  -- The call with the rulebook alone tells whether the longer one is accepted: one answer 0, on whatever areas, is enough.
+  pub kept-by-calls : (a′ b′ c′ d′ : ℕ) → (rulebookCall limits a′ b′ c′ d′ (longer R further)) .number ≡ 0
+      → (releaseCall limits i j k l R text certificate) .number ≡ 0
+      → releaseCall limits a b c d (longer R further) text certificate ≡ releaseCall limits i j k l R text certificate
+  kept-by-calls a′ b′ c′ d′ e zero-number =
+      release-kept (gives-accepted (answer-gives limits a′ b′ c′ d′ (longer R further) e .1)) zero-number
+
 -- L4 of the call with three texts, from bytes to report.
 pub kept : (limits : Setting) (a b c d : ℕ) (rulebook text certificate : List ℕ)
     → Kept limits a b c d rulebook text certificate (releaseCall limits a b c d rulebook text certificate)
-unfolding releaseCall releaseJudged releaseAnswer
 kept limits a b c d rulebook text certificate =
     record {
       keeps = λ R further i j k l e accR acc long zero-number.
-          let run = accepted-run limits i j k l R text certificate zero-number in
-          let h = run-longer R further text certificate (subst (Accepted limits) e acc) (run .met) in
           ap (λ rs. releaseCall limits a b c d rs text certificate) e
-          ∙ ap releaseAnswer (onᵣ _ (read-again (longer R further) text certificate long h))
-          ∙ run .answers;
+          ∙ release-kept limits a b c d long i j k l R further text certificate (subst (Accepted limits) e acc) zero-number;
     }

@@ -55,10 +55,14 @@ bench-kept =
 pub record LongerBench : Type 0 where
   pub declared : judged (longer R further) ≡ rulebookReport 0 2 3 2 3
   pub computed : released (longer R further) G C ≡ report 0 2 1 4 48 7
+  -- a goal with the name of a rule, an abbreviation with that of a constructor, that only the further text declares: not 11, not 13
+  pub named-alike :
+      released (longer R further) (codes "(goal any (hold (s z)))") (codes "(def ?base z)(step 0 base ())(step 1 more (0) (?x ?base))(result any 1)")
+      ≡ report 0 2 1 4 71 8
 
 pub longer-bench : LongerBench
 unfolding openAll R G C further longer
-longer-bench = record { declared = refl; computed = refl }
+longer-bench = record { declared = refl; computed = refl; named-alike = refl }
 
 -- A goal and a certificate by the rule that only the further text declares.
 unfoldable pub newGoal : List ℕ

@@ -10,11 +10,11 @@ use Rattle.horn.specs.Refusals.{Refusal, ok, found}
 use Rattle.horn.specs.Names.{Name, named, first, someOf}
 use Rattle.horn.specs.NestedLists.{Sexp, Sexps}
 use Rattle.horn.specs.Rulebook.{Output, sort, judgment, Symbol, symbol, Rule, rule, Theory, isConstructor, isPredicate, isRule}
-use Rattle.horn.specs.Rulebook.{constructor, predicate, ruleNamed, emptyTheory, theory}
+use Rattle.horn.specs.Rulebook.{constructor, predicate, ruleNamed, declareSort, emptyTheory, theory}
 use Rattle.horn.specs.Arising.{Declares, declares-none, declares-next}
 use Rattle.horn.specs.Longer.{longer}
-use Rattle.horn.proofs.Equality.{named-decides, some-of-member, at-member, at-longer, at-or-last}
-use Rattle.horn.proofs.Inversion.{none-some, afterᵣ, was-found, found-on}
+use Rattle.horn.proofs.Equality.{not-true, named-decides, some-of-member, at-member, at-longer, at-or-last}
+use Rattle.horn.proofs.Inversion.{none-some, ok-equal, afterᵣ, after-needᵣ, was-found, found-on}
 use Rattle.horn.proofs.Declaring.{Declared, sort-declared, symbol-declared, rule-declared, declaration-by, declares-last}
 use Rattle.horn.proofs.CompleteTheory.{first-longer}
 use Rattle.horn.proofs.LongerTheory.{theory-longer}
@@ -39,9 +39,24 @@ pub record Extends (th later : Theory) : Type 0 where
   pub symbols-kept : Begins (th .symbols) (later .symbols)
   pub rules-kept : Begins (th .rules) (later .rules)
 
+-- A sort that was declared is behind those before it, and none of them has its name.
+after-sort {ℓ} : {C : Type ℓ} (th : Theory) (n : Sexp) {next : Theory} → declareSort th n ≡ ok next
+    → ((name : Name) → next .sorts ≡ th .sorts ++ (name ∷ []) → someOf (named name) (th .sorts) ≡ false → C)
+    → C
+unfolding declareSort
+after-sort th n e k =
+    afterᵣ _ e λ name e₁ e₂.
+    after-needᵣ _ _ _ e₂ λ p e₃.
+    k name (ap (λ (t : Theory). t .sorts) (sym (ok-equal e₃))) (not-true _ p)
+
 declared-extends : {th next later : Theory} {n : Sexp} → Declared th n next → Extends next later → Extends th later
-declared-extends {th} (sort-declared {name = name} e f) x =
-    record { sorts-kept = begins-more (th .sorts) name (x .sorts-kept); symbols-kept = x .symbols-kept; rules-kept = x .rules-kept }
+declared-extends {th} {later = later} {n = n} (sort-declared e) x =
+    after-sort th n e λ name at new.
+    record {
+      sorts-kept = begins-more (th .sorts) name (subst (λ ss. Begins ss (later .sorts)) at (x .sorts-kept));
+      symbols-kept = x .symbols-kept;
+      rules-kept = x .rules-kept;
+    }
 declared-extends {th} (symbol-declared {name = name} ins out e f g) x =
     record {
       sorts-kept = x .sorts-kept;
@@ -119,9 +134,10 @@ predicate-by-name own ins judgment name t = by-name own name t
 
 declared-distinct : {th next : Theory} {n : Sexp} → DistinctNames th → Declared th n next → DistinctNames next
 unfolding isRule
-declared-distinct {th} d (sort-declared {name = name} e f) =
+declared-distinct {th} {n = n} d (sort-declared e) =
+    after-sort th n e λ name at new.
     record {
-      one-sort = named-more named (th .sorts) name name (by-name name) (λ t. f) (d .one-sort);
+      one-sort = λ m. subst (AtOnePlace (named m)) (sym at) (named-more named (th .sorts) name name (by-name name) (λ t. new) (d .one-sort) m);
       one-constructor = d .one-constructor;
       one-predicate = d .one-predicate;
       one-rule = d .one-rule;

@@ -8,7 +8,7 @@ use mathlib.Core.Option.{Option, none, some, Option·map}
 use lib.Dec.{eqb}
 use Rattle.horn.specs.Utf8.{Range, within, Sequence, sequence, tail, sequences, startedBy, Char, char, resumed, decoded}
 use Rattle.horn.specs.Tokens.{Stream, end, bad, _▹_, before, ontoFirstLine, lines, characters, kind, white, whiteRanges, inSome}
-use Rattle.horn.specs.Tokens.{Token, Place, between, inComment, inAtom, begins, continues, move, unended, tokensFrom, tokens}
+use Rattle.horn.specs.Tokens.{Token, Place, between, inComment, inAtom, begins, continues, endsComment, move, unended, tokensFrom, tokens}
 use Rattle.horn.specs.Longer.{longer}
 use Rattle.horn.proofs.Equality.{case}
 use Rattle.horn.proofs.Inversion.{case-option}
@@ -114,7 +114,7 @@ characters-ended {further} (next-line line {ls} {ms} h) =
 
 -- Wherever a reader stands, a 0A behind the text does what the text's end does, and the reader stands between tokens behind it.
 tokens-newline : (place : Place) (s : Stream Char) → tokensFrom place (newline ▹ s) ≡ before (unended place) (tokensFrom between s)
-unfolding tokensFrom move begins continues kind white whiteRanges inSome within unended before
+unfolding tokensFrom move begins continues endsComment kind white whiteRanges inSome within unended before
 tokens-newline between s = refl
 tokens-newline inComment s = refl
 tokens-newline (inAtom bs) s = refl

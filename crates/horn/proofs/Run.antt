@@ -33,7 +33,7 @@ openUtf8 = tt
 
 unfoldable pub openTokens : Unit {0}
 unfolding Tokens.before Tokens.ontoFirstLine Tokens.lines Tokens.characters Tokens.whiteRanges Tokens.inSome Tokens.white Tokens.kind
-    Tokens.begins Tokens.continues Tokens.move Tokens.unended Tokens.tokensFrom Tokens.tokens
+    Tokens.begins Tokens.continues Tokens.endsComment Tokens.move Tokens.unended Tokens.tokensFrom Tokens.tokens
 openTokens = tt
 
 unfoldable pub openNestedLists : Unit {0}

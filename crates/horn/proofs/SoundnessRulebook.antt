@@ -44,7 +44,7 @@ rule-formed name x y =
 
 -- A declaration keeps a theory well-formed.
 declared-formed : {th next : Theory} {n : Sexp} → WellFormed th → Declared th n next → WellFormed next
-declared-formed w (sort-declared e f) = record { formed = w .formed }
+declared-formed w (sort-declared e) = record { formed = w .formed }
 declared-formed w (symbol-declared ins out e f g) = record { formed = λ r m. formed-in-more (λ d k. Memᴰ·append-left _ k) (w .formed r m) }
 declared-formed {th} w (rule-declared {name = name} xs j {q = q} e₁ e₂ e f) =
     record {

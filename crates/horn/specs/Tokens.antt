@@ -105,12 +105,15 @@ continues atomBytes opens bytes = (atom atomBytes ∷ opening ∷ [], between)
 continues atomBytes closes bytes = (atom atomBytes ∷ closing ∷ [], between)
 continues atomBytes comments bytes = (atom atomBytes ∷ [], inComment)
 
+-- "`;` runs to the end of its line": whether a character, by its value, ends the comment that it stands in.
+unfoldable pub endsComment : ℕ → Bool
+endsComment value = eqb value 0x0A
+
 -- One character, wherever the reader stands.
 unfoldable pub move : Place → Char → Move
 move between (char bytes value) = begins (kind value) bytes
 move (inAtom atomBytes) (char bytes value) = continues atomBytes (kind value) bytes
--- "`;` runs to the end of its line."
-move inComment (char bytes value) = elim (eqb value 0x0A) [ true ↦ ([], between) | false ↦ ([], inComment) ]
+move inComment (char bytes value) = elim (endsComment value) [ true ↦ ([], between) | false ↦ ([], inComment) ]
 
 -- The atom that the end of the text ends, if the reader stands in one: an atom runs to that end too.
 unfoldable pub unended : Place → List Token

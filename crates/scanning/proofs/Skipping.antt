@@ -10,7 +10,7 @@ use lib.Seq.{drop-drop, take-add}
 use Rattle.horn.specs.Utf8.{Char, char, within}
 use Rattle.horn.specs.Tokens.{Stream, _▹_, before, Token, opening, closing, atom}
 use Rattle.horn.specs.Tokens.{kind, Kind, blank, opens, closes, comments, ordinary, white, whiteRanges, inSome}
-use Rattle.horn.specs.Tokens.{Place, between, inComment, inAtom, begins, continues, move, unended, tokensFrom}
+use Rattle.horn.specs.Tokens.{Place, between, inComment, inAtom, begins, continues, endsComment, move, unended, tokensFrom}
 use Rattle.words.specs.Parts.{part}
 use Rattle.utf8.specs.Classes.{isOrdinary, isWhite, isComment, kindNumber}
 use Rattle.utf8.specs.Characters.{found, first, width, kindAt}
@@ -64,11 +64,11 @@ module _ (bytes : List ℕ) (v : ℕ) (cs : Stream Char) where
     by ordinary d = absurd (d refl)
 
   in-comment-move : (v ≡ 0x0A → ⊥) → tokensFrom inComment (char bytes v ▹ cs) ≡ tokensFrom inComment cs
-  unfolding tokensFrom move before
+  unfolding tokensFrom move endsComment before
   in-comment-move d = rw (ne-eqb v 0x0A d, move)
 
   out-move : v ≡ 0x0A → tokensFrom inComment (char bytes v ▹ cs) ≡ tokensFrom between cs
-  unfolding tokensFrom move before
+  unfolding tokensFrom move endsComment before
   out-move e = rw (e, move)
 
 module _ (text : List ℕ) where

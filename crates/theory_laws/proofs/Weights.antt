@@ -4,12 +4,11 @@ use Prim.Native.Nat.{ℕ, suc, _+_, _≤_}
 use mathlib.Core.Path.{_≡_, refl}
 use mathlib.Core.List.{List, [], _∷_}
 use native.Mathlib.Omega.{arith}
-use lib.Dec.{eqb}
 use lib.ListN.{length, length-append}
 use Rattle.horn.specs.Utf8.{Char, char}
 use Rattle.horn.specs.Tokens.{Stream, end, bad, _▹_, before, lines, characters, Kind, blank, opens, closes, comments, ordinary, kind}
-use Rattle.horn.specs.Tokens.{Token, opening, closing, atom, Place, between, inComment, inAtom, Move, begins, continues, move, unended, tokensFrom, tokens}
-use Rattle.horn.proofs.Post.{either}
+use Rattle.horn.specs.Tokens.{Token, opening, closing, atom, Place, between, inComment, inAtom, begins, continues, move, unended, tokensFrom, tokens}
+use Rattle.horn.proofs.Counts.{in-comment}
 use Rattle.capacity.specs.Costs.{wide}
 use Rattle.capacity.proofs.Characters.{wide-some, wide-all, streamBytes, characters-few}
 use Rattle.theory_laws.specs.Reading.{weight}
@@ -51,7 +50,7 @@ unfolding move begun weight before
 light-move between bytes value = let h = light-begins (kind value) bytes in omega arith
 light-move (inAtom a) bytes value = light-continues a (kind value) bytes
 light-move inComment bytes value =
-    either {A = Move} (λ m. weight (before (m .0) end) + begun (m .1) ≤ 0 + wide bytes) (eqb value 0x0A) {x = ([], between)} {y = ([], inComment)}
+    in-comment (λ m. weight (before (m .0) end) + begun (m .1) ≤ 0 + wide bytes) (char bytes value)
     (omega (arith, wide-some bytes)) (omega (arith, wide-some bytes))
 
 light-unended : (place : Place) (s : Stream Token) → weight s ≡ 0 → weight (before (unended place) s) ≤ suc (begun place)
