@@ -65,15 +65,15 @@ alone b {a} {m} {r} h e =
     let k : some (sequence a m r) ≡ some (sequence (range 0x00 0x7F) 0x00 []) = sym e ∙ ap (λ x. startedBy x sequences) h in
     cc
 
-headLine : List (List ℕ) → List ℕ
+unfoldable pub headLine : List (List ℕ) → List ℕ
 headLine [] = []
 headLine (l ∷ ls) = l
 
-tailLines : List (List ℕ) → List (List ℕ)
+unfoldable pub tailLines : List (List ℕ) → List (List ℕ)
 tailLines [] = []
 tailLines (l ∷ ls) = ls
 
-onto-parts : (b : ℕ) (ls : List (List ℕ)) → ontoFirstLine b ls ≡ (b ∷ headLine ls) ∷ tailLines ls
+pub onto-parts : (b : ℕ) (ls : List (List ℕ)) → ontoFirstLine b ls ≡ (b ∷ headLine ls) ∷ tailLines ls
 unfolding ontoFirstLine headLine tailLines
 onto-parts b [] = refl
 onto-parts b (l ∷ ls) = refl

@@ -36,29 +36,42 @@ pub mapped {ℓ} : {A : Type 0} {C : Type ℓ} (o : Option A) {g : A → A} {z :
 mapped none e k = none-some e
 mapped (some a) e k = k a refl (some-equal e)
 
-resumed-append : (bs rest taken : List ℕ) (value : ℕ) (rs : List Range) {cs ds : List Char} → decoded rest ≡ some ds
-    → resumed taken value rs bs ≡ some cs
-    → resumed taken value rs (bs ++ rest) ≡ some (cs ++ ds)
+-- What stands behind bytes that are decoded is decoded by itself.
+front-map : (c : Char) (cs : List Char) (o : Option (List Char))
+    → Option·map (λ ds. c ∷ ds) (Option·map (λ ds. cs ++ ds) o) ≡ Option·map (λ ds. c ∷ cs ++ ds) o
+front-map c cs none = refl
+front-map c cs (some ds) = refl
+
+resumed-before : (bs rest taken : List ℕ) (value : ℕ) (rs : List Range) {cs : List Char} → resumed taken value rs bs ≡ some cs
+    → resumed taken value rs (bs ++ rest) ≡ Option·map (λ ds. cs ++ ds) (decoded rest)
 unfolding resumed decoded
-resumed-append [] rest taken value (r ∷ rs) p e = none-some e
-resumed-append (b ∷ bs) rest taken value (r ∷ rs) p e =
+resumed-before [] rest taken value (r ∷ rs) e = none-some e
+resumed-before (b ∷ bs) rest taken value (r ∷ rs) e =
     chosen (within r b) e
-    (λ w q. rw (w, resumed) (resumed-append bs rest (taken ++ (b ∷ [])) (value * 0x40 + (b - 0x80)) rs p q))
+    (λ w q. rw (w, resumed) (resumed-before bs rest (taken ++ (b ∷ [])) (value * 0x40 + (b - 0x80)) rs q))
     (λ w q. none-some q)
-resumed-append [] rest taken value [] {cs} {ds} p e =
-    resumed-done taken value rest ∙ ap (Option·map (λ ks. char taken value ∷ ks)) p ∙ ap (λ ks. some (ks ++ ds)) (some-equal e)
-resumed-append (b ∷ bs) rest taken value [] {cs} {ds} p e =
+resumed-before [] rest taken value [] e =
+    resumed-done taken value rest ∙ ap (λ ks. Option·map (λ ds. ks ++ ds) (decoded rest)) (some-equal e)
+resumed-before (b ∷ bs) rest taken value [] e =
     mapped (decoded (b ∷ bs)) (sym (resumed-done taken value (b ∷ bs)) ∙ e) λ ks e₁ e₂.
     started (startedBy b sequences) e₁ λ a m r s q.
-    rw (s, resumed) (ap (Option·map (λ us. char taken value ∷ us)) (resumed-append bs rest (b ∷ []) (b - m) r p q)
-    ∙ ap (λ us. some (us ++ ds)) e₂)
+    rw (s, resumed) (ap (Option·map (λ us. char taken value ∷ us)) (resumed-before bs rest (b ∷ []) (b - m) r q)
+    ∙ front-map (char taken value) ks (decoded rest)
+    ∙ ap (λ us. Option·map (λ ds. us ++ ds) (decoded rest)) e₂)
+
+map-same : (o : Option (List Char)) → o ≡ Option·map (λ ds. [] ++ ds) o
+map-same none = refl
+map-same (some ds) = refl
+
+pub decoded-before : (bs rest : List ℕ) {cs : List Char} → decoded bs ≡ some cs → decoded (bs ++ rest) ≡ Option·map (λ ds. cs ++ ds) (decoded rest)
+unfolding decoded
+decoded-before [] rest e = map-same (decoded rest) ∙ ap (λ ks. Option·map (λ ds. ks ++ ds) (decoded rest)) (some-equal e)
+decoded-before (b ∷ bs) rest e =
+    started (startedBy b sequences) e λ a m r s q. rw (s, decoded) (resumed-before bs rest (b ∷ []) (b - m) r q)
 
 pub decoded-append : (bs rest : List ℕ) {cs ds : List Char} → decoded bs ≡ some cs → decoded rest ≡ some ds
     → decoded (bs ++ rest) ≡ some (cs ++ ds)
-unfolding decoded
-decoded-append [] rest {cs} {ds} e p = p ∙ ap (λ ks. some (ks ++ ds)) (some-equal e)
-decoded-append (b ∷ bs) rest e p =
-    started (startedBy b sequences) e λ a m r s q. rw (s, decoded) (resumed-append bs rest (b ∷ []) (b - m) r p q)
+decoded-append bs rest {cs} e p = decoded-before bs rest e ∙ ap (Option·map (λ ds. cs ++ ds)) p
 
 pub decoded-of {ℓ} : {C : Type ℓ} (b : ℕ) (bs : List ℕ) {cs : List Char} → decoded (b ∷ bs) ≡ some cs
     → ((a : Range) (m : ℕ) (r : List Range) → startedBy b sequences ≡ some (sequence a m r)

@@ -57,6 +57,7 @@ pub mod Complete
 pub mod LongerTokens
 pub mod LongerTheory
 pub mod LongerNames
+pub mod LongerDirectly
 pub mod LongerReading
 pub mod Longer
 pub mod LongerBench

@@ -2,11 +2,12 @@
 -- R comes to the very same under R, a new line and further text, if that is accepted: goals, steps, results, store and requests.
 use Prim.Native.Nat.{ℕ}
 use mathlib.Core.Path.{_≡_, sym, ap, subst, _∙_}
-use mathlib.Core.List.{List}
+use mathlib.Core.List.{List, _++_}
 use lib.ListN.{length}
 use borrow.Author.Tests.{le-leb}
 use Rattle.horn.specs.Refusals.{Result, ok, _>>=_}
 use Rattle.horn.specs.Setting.{Setting}
+use Rattle.horn.specs.Rulebook.{Theory, theory}
 use Rattle.horn.specs.Calls.{Release, reportOf, rulebookCall, releaseRead, releaseJudged, releaseAnswer, releaseCall}
 use Rattle.horn.specs.Forced.{LongEnough, Accepted}
 use Rattle.horn.specs.Longer.{longer, Kept}
@@ -14,7 +15,8 @@ use Rattle.horn.specs.Output.{fitting, outputOf}
 use Rattle.horn.specs.Page.{pageOf, pageJudged, pageCall}
 use Rattle.horn.proofs.Inversion.{afterᵣ, onᵣ, need-on}
 use Rattle.horn.proofs.Accepting.{ReadRun, read-run, accepted-answer, accepted-run, areasLong-ok, answer-gives, gives-accepted, accepted-gives}
-use Rattle.horn.proofs.LongerNames.{theory-extends}
+use Rattle.horn.proofs.LongerNames.{Extends, theory-extends}
+use Rattle.horn.proofs.LongerDirectly.{theory-directly}
 use Rattle.horn.proofs.LongerReading.{text-alike, certificate-alike}
 
 -- What a call with three texts has met on its way to a release is met again on any areas long enough.
@@ -31,13 +33,17 @@ read-again {limits} rulebook text certificate l run =
     ∙ onᵣ _ (run .read)
     ∙ onᵣ _ (run .taken)
 
--- Under the longer rulebook the same is met on the way to the same release.
-pub run-longer : {limits : Setting} (R further text certificate : List ℕ) {r : Release} → Accepted limits (longer R further)
+-- One rulebook extends another if its theory does, where both give one.
+pub record Extending (R rulebook : List ℕ) : Type 0 where
+  pub extending : (th later : Theory) → theory R ≡ ok th → theory rulebook ≡ ok later → Extends th later
+
+-- Under a rulebook that extends R the same is met on the way to the same release.
+run-extending : {limits : Setting} (R rulebook text certificate : List ℕ) {r : Release} → Extending R rulebook → Accepted limits rulebook
     → ReadRun limits R text certificate r
-    → ReadRun limits (longer R further) text certificate r
-run-longer {limits} R further text certificate acc run =
+    → ReadRun limits rulebook text certificate r
+run-extending {limits} R rulebook text certificate ext acc run =
     let (later, g) = accepted-gives acc in
-    let x = theory-extends R further (run .gives) (g .gives) in
+    let x = ext .extending (run .th) later (run .gives) (g .gives) in
     record {
       th = later;
       store = run .store;
@@ -56,35 +62,40 @@ accepted-under limits a b c d R text certificate e =
     let run = accepted-run limits a b c d R text certificate e in
     gives-accepted record { short = run .met .short; gives = run .met .gives }
 
-module _ (limits : Setting) (a b c d : ℕ) (long : LongEnough limits a b c d) (i j k l : ℕ) (R further text certificate : List ℕ) where
-  read-kept : Accepted limits (longer R further) → (releaseCall limits i j k l R text certificate) .number ≡ 0
-      → releaseRead limits a b c d (longer R further) text certificate ≡ releaseRead limits i j k l R text certificate
+module _ (limits : Setting) (a b c d : ℕ) (long : LongEnough limits a b c d) (i j k l : ℕ) (R rulebook text certificate : List ℕ) (ext : Extending R rulebook) where
+  pub read-kept : Accepted limits rulebook → (releaseCall limits i j k l R text certificate) .number ≡ 0
+      → releaseRead limits a b c d rulebook text certificate ≡ releaseRead limits i j k l R text certificate
   unfolding releaseCall releaseJudged
   read-kept acc zero-number =
       afterᵣ (releaseRead limits i j k l R text certificate) (accepted-answer (releaseJudged limits i j k l R text certificate) zero-number) λ r e₁ e₂.
-      read-again (longer R further) text certificate long
-      (run-longer R further text certificate acc (read-run limits i j k l R text certificate e₁))
+      read-again rulebook text certificate long (run-extending R rulebook text certificate ext acc (read-run limits i j k l R text certificate e₁))
       ∙ sym e₁
 
   -- The report is the same, and so is the release page, over any buffer.
-  pub release-kept : Accepted limits (longer R further) → (releaseCall limits i j k l R text certificate) .number ≡ 0
-      → releaseCall limits a b c d (longer R further) text certificate ≡ releaseCall limits i j k l R text certificate
+  pub release-kept : Accepted limits rulebook → (releaseCall limits i j k l R text certificate) .number ≡ 0
+      → releaseCall limits a b c d rulebook text certificate ≡ releaseCall limits i j k l R text certificate
   unfolding releaseCall releaseJudged
   release-kept acc zero-number =
       ap (λ (m : Result Release). releaseAnswer (m >>= λ r. ok (reportOf (length certificate) r))) (read-kept acc zero-number)
 
-  pub page-kept : (buffer : List ℕ) → Accepted limits (longer R further) → (releaseCall limits i j k l R text certificate) .number ≡ 0
-      → pageCall limits a b c d (longer R further) text certificate buffer ≡ pageCall limits i j k l R text certificate buffer
+  pub page-kept : (buffer : List ℕ) → Accepted limits rulebook → (releaseCall limits i j k l R text certificate) .number ≡ 0
+      → pageCall limits a b c d rulebook text certificate buffer ≡ pageCall limits i j k l R text certificate buffer
   unfolding pageCall pageJudged
   page-kept buffer acc zero-number =
       ap (λ (m : Result Release). outputOf (m >>= λ r. fitting (length buffer) (pageOf r)) buffer) (read-kept acc zero-number)
 
-  -- The call with the rulebook alone tells whether the longer one is accepted: one answer 0, on whatever areas, is enough.
-  pub kept-by-calls : (a′ b′ c′ d′ : ℕ) → (rulebookCall limits a′ b′ c′ d′ (longer R further)) .number ≡ 0
+  -- The call with the rulebook alone tells whether it is accepted: one answer 0, on whatever areas, is enough.
+  pub kept-by-calls : (a′ b′ c′ d′ : ℕ) → (rulebookCall limits a′ b′ c′ d′ rulebook) .number ≡ 0
       → (releaseCall limits i j k l R text certificate) .number ≡ 0
-      → releaseCall limits a b c d (longer R further) text certificate ≡ releaseCall limits i j k l R text certificate
-  kept-by-calls a′ b′ c′ d′ e zero-number =
-      release-kept (gives-accepted (answer-gives limits a′ b′ c′ d′ (longer R further) e .1)) zero-number
+      → releaseCall limits a b c d rulebook text certificate ≡ releaseCall limits i j k l R text certificate
+  kept-by-calls a′ b′ c′ d′ e zero-number = release-kept (gives-accepted (answer-gives limits a′ b′ c′ d′ rulebook e .1)) zero-number
+
+-- R, a new line and further text is such a rulebook; and so is R with a text directly behind it.
+pub longer-extends : (R further : List ℕ) → Extending R (longer R further)
+longer-extends R further = record { extending = λ th later e e₁. theory-extends R further e e₁ }
+
+pub directly-extends : (R further : List ℕ) → Extending R (R ++ further)
+directly-extends R further = record { extending = λ th later e e₁. theory-directly R further e e₁ }
 
 -- L4 of the call with three texts, from bytes to report.
 pub kept : (limits : Setting) (a b c d : ℕ) (rulebook text certificate : List ℕ)
@@ -92,6 +103,5 @@ pub kept : (limits : Setting) (a b c d : ℕ) (rulebook text certificate : List 
 kept limits a b c d rulebook text certificate =
     record {
       keeps = λ R further i j k l e accR acc long zero-number.
-          ap (λ rs. releaseCall limits a b c d rs text certificate) e
-          ∙ release-kept limits a b c d long i j k l R further text certificate (subst (Accepted limits) e acc) zero-number;
+          release-kept limits a b c d long i j k l R rulebook text certificate (subst (Extending R) (sym e) (longer-extends R further)) acc zero-number;
     }

@@ -130,6 +130,8 @@ pub record NoNewLine : Type 0 where
   -- or what stands on the next line lacks it: an old release is refused with the rulebook
   pub sort-declared : released (longer commented twoLines) G C ≡ report 0 2 1 4 48 7
   pub sort-swallowed : released (commented ++ twoLines) G C ≡ report 12 0 0 0 0 0
+  -- where the rulebook is accepted all the same, so is the old release (`directly-extends` in Longer)
+  pub kept-directly : released (commented ++ codes "(rule any () (hold ?y))") G C ≡ report 0 2 1 4 48 7
 
 pub no-new-line : NoNewLine
 unfolding openAll R G C newGoal byNewRule commented twoLines longer
@@ -143,4 +145,5 @@ no-new-line =
       rule-swallowed = refl;
       sort-declared = refl;
       sort-swallowed = refl;
+      kept-directly = refl;
     }

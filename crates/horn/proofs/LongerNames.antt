@@ -8,6 +8,7 @@ use mathlib.Core.Option.{some}
 use lib.ListN.{getElem?}
 use Rattle.horn.specs.Refusals.{Refusal, ok, found}
 use Rattle.horn.specs.Names.{Name, named, first, someOf}
+use Rattle.horn.specs.Tokens.{Stream, Token, tokens}
 use Rattle.horn.specs.NestedLists.{Sexp, Sexps}
 use Rattle.horn.specs.Rulebook.{Output, sort, judgment, Symbol, symbol, Rule, rule, Theory, isConstructor, isPredicate, isRule}
 use Rattle.horn.specs.Rulebook.{constructor, predicate, ruleNamed, declareSort, emptyTheory, theory}
@@ -17,7 +18,8 @@ use Rattle.horn.proofs.Equality.{not-true, named-decides, some-of-membe
 use Rattle.horn.proofs.Inversion.{none-some, ok-equal, afterᵣ, after-needᵣ, was-found, found-on}
 use Rattle.horn.proofs.Declaring.{Declared, sort-declared, symbol-declared, rule-declared, declaration-by, declares-last}
 use Rattle.horn.proofs.CompleteTheory.{first-longer}
-use Rattle.horn.proofs.LongerTheory.{theory-longer}
+use Rattle.horn.proofs.LongerTokens.{followedBy, tokens-longer}
+use Rattle.horn.proofs.LongerTheory.{theory-followed}
 
 -- One list begins another: what it has stands there at the same places, and whatever else behind it.
 pub record Begins {A : Type 0} (xs ys : List A) : Type 0 where
@@ -75,9 +77,15 @@ declares-extend {th} declares-none =
     record { sorts-kept = begins-same (th .sorts); symbols-kept = begins-same (th .symbols); rules-kept = begins-same (th .rules) }
 declares-extend (declares-next {th} {x = x} e d) = declared-extends ((declaration-by th x e) .has-declared) (declares-extend d)
 
--- So it is where a new line and further text are put behind a rulebook that gives a theory, if these give one too.
+-- So it is where what follows the tokens of a rulebook is read and declared without a refusal.
+pub followed-extends : (R text : List ℕ) (us : Stream Token) {th later : Theory} → theory R ≡ ok th → tokens text ≡ followedBy (tokens R) us
+    → theory text ≡ ok later
+    → Extends th later
+followed-extends R text us {th} e same e₁ =
+    afterᵣ _ (sym (theory-followed R text us e same) ∙ e₁) λ xs e₂ e₃. declares-extend (declares-last xs th e₃)
+
 pub theory-extends : (R further : List ℕ) {th later : Theory} → theory R ≡ ok th → theory (longer R further) ≡ ok later → Extends th later
-theory-extends R further {th} e e₁ = afterᵣ _ (sym (theory-longer R further e) ∙ e₁) λ xs e₂ e₃. declares-extend (declares-last xs th e₃)
+theory-extends R further e e₁ = followed-extends R (longer R further) (tokens further) e (tokens-longer R further) e₁
 
 -- At most one entry of a list passes a test.
 abbrev pub AtOnePlace : {A : Type 0} → (A → Bool) → List A → Type 0

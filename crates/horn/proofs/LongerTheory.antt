@@ -69,13 +69,16 @@ front-followed (x ∷ₛ xs) ts us =
     ∙ ap innermost (around-item x (followedBy (written (inFront xs ended) ts) us))
     ∙ ap (asItem x then_) (front-followed xs ts us)
 
+-- Tokens that were read whole are those of the nested lists.
+pub written-whole : (ts : Stream Token) {xs : Sexps} → sexps (items ts) ≡ ok xs → ts ≡ written (inFront xs ended) (writtenOut (outer (around ts)))
+unfolding items
+written-whole ts e =
+    sym (cut ts) ∙ in-front (around ts) ∙ ap (λ is. written is (writtenOut (outer (around ts)))) (sexps-stand (items ts) e)
+
 -- The items of tokens that were read whole, followed by others: the nested lists of the ones, then the items of the others.
 pub items-followed-by : (ts us : Stream Token) {xs : Sexps} → sexps (items ts) ≡ ok xs → items (followedBy ts us) ≡ inFront xs (items us)
-unfolding items
 items-followed-by ts us {xs} e =
-    ap (λ vs. items (followedBy vs us))
-    (sym (cut ts) ∙ in-front (around ts) ∙ ap (λ is. written is (writtenOut (outer (around ts)))) (sexps-stand (items ts) e))
-    ∙ front-followed xs (writtenOut (outer (around ts))) us
+    ap (λ vs. items (followedBy vs us)) (written-whole ts e) ∙ front-followed xs (writtenOut (outer (around ts))) us
 
 -- Nested lists that were read and declared, with items behind them: what is behind is read, and declared after them.
 declared-next : (m : Result Sexps) (x : Sexp) (th : Theory) {next : Theory} → declaration th x ≡ ok next
@@ -98,12 +101,17 @@ sexps-in-front (x ∷ₛ xs) is th {next} e d =
     ∙ declared-next (sexps (inFront xs is)) x th d₁
     ∙ sexps-in-front xs is t (e₃ ∙ ap ok k) d₂
 
--- The theory of R, a new line and further text, refusals of the further text included.
+-- The theory of a text whose tokens are those of R and then others: refusals of the others included.
+pub theory-followed : (R text : List ℕ) (us : Stream Token) {th : Theory} → theory R ≡ ok th → tokens text ≡ followedBy (tokens R) us
+    → theory text ≡ (sexps (items us) >>= declarations th)
+unfolding theory
+theory-followed R text us e same =
+    afterᵣ _ e λ xs e₁ e₂.
+    ap (λ ts. sexps (items ts) >>= declarations emptyTheory) same
+    ∙ ap (λ is. sexps is >>= declarations emptyTheory) (items-followed-by (tokens R) us e₁)
+    ∙ sexps-in-front xs (items us) emptyTheory (ap sexps (sym (sexps-stand (items (tokens R)) e₁)) ∙ e₁) e₂
+
+-- The theory of R, a new line and further text.
 pub theory-longer : (R further : List ℕ) {th : Theory} → theory R ≡ ok th
     → theory (longer R further) ≡ (sexps (items (tokens further)) >>= declarations th)
-unfolding theory
-theory-longer R further e =
-    afterᵣ _ e λ xs e₁ e₂.
-    ap (λ ts. sexps (items ts) >>= declarations emptyTheory) (tokens-longer R further)
-    ∙ ap (λ is. sexps is >>= declarations emptyTheory) (items-followed-by (tokens R) (tokens further) e₁)
-    ∙ sexps-in-front xs (items (tokens further)) emptyTheory (ap sexps (sym (sexps-stand (items (tokens R)) e₁)) ∙ e₁) e₂
+theory-longer R further e = theory-followed R (longer R further) (tokens further) e (tokens-longer R further)

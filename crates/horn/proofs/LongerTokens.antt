@@ -21,7 +21,7 @@ followedBy end s = s
 followedBy bad s = bad
 followedBy (a ▹ t) s = a ▹ followedBy t s
 
-followed-before : {A : Type 0} (xs : List A) (t s : Stream A) → followedBy (before xs t) s ≡ before xs (followedBy t s)
+pub followed-before : {A : Type 0} (xs : List A) (t s : Stream A) → followedBy (before xs t) s ≡ before xs (followedBy t s)
 unfolding followedBy before
 followed-before [] t s = refl
 followed-before (x ∷ xs) t s = ap (x ▹_) (followed-before xs t s)
