@@ -3,22 +3,19 @@
 -- on its line.
 use Prim.Native.Nat.{ℕ}
 use mathlib.Core.Path.{_≡_, refl, sym, ap, subst, _∙_}
-use mathlib.Core.Bool.{true, false}
 use mathlib.Core.List.{List, [], _∷_, _++_}
 use mathlib.Core.Option.{Option, none, some, Option·map}
-use lib.Dec.{eqb}
 use Rattle.horn.specs.Refusals.{ok}
 use Rattle.horn.specs.Utf8.{Char, decoded}
-use Rattle.horn.specs.Tokens.{Stream, end, bad, _▹_, before, ontoFirstLine, lines, characters}
+use Rattle.horn.specs.Tokens.{Stream, end, bad, _▹_, before, lines, characters}
 use Rattle.horn.specs.Tokens.{Token, opening, closing, atom, Place, between, inComment, inAtom, move, unended, tokensFrom, tokens}
 use Rattle.horn.specs.NestedLists.{ended, Sexp, leaf, list, Sexps, []ₛ, _∷ₛ_, asItem, asItems, writtenItem, written, sexps, items}
 use Rattle.horn.specs.Rulebook.{Theory, declarations, theory}
-use Rattle.horn.proofs.Equality.{case}
 use Rattle.horn.proofs.Inversion.{some-equal, case-option, afterᵣ}
 use Rattle.horn.proofs.Declaring.{declaration-by}
 use Rattle.horn.proofs.CompleteUtf8.{mapped, decoded-before}
-use Rattle.horn.proofs.CompleteLines.{before-append, headLine, tailLines, onto-parts}
-use Rattle.horn.proofs.LongerTokens.{followedBy, followed-before}
+use Rattle.horn.proofs.CompleteLines.{before-append, headLine, tailLines}
+use Rattle.horn.proofs.LongerTokens.{followedBy, followed-before, onto-line, Joined, at-line, in-line, next-line, lines-joined}
 use Rattle.horn.proofs.LongerTheory.{inFront, written-whole}
 use Rattle.horn.proofs.LongerNames.{Extends, followed-extends}
 
@@ -91,36 +88,6 @@ shut-closes bad place h = elim (shut-before (unended place) h) [ ]
 shut-closes (c ▹ cs) place h =
     let k = shut-closes cs ((move place c) .1) (shut-before ((move place c) .0) h) in
     record { whole = whole-next (k .whole); nothing-unended = k .nothing-unended }
-
--- Bytes put at the beginning of the first line, all of them.
-unfoldable ontoLine : List ℕ → List (List ℕ) → List (List ℕ)
-ontoLine [] ls = ls
-ontoLine (b ∷ bs) ls = ontoFirstLine b (ontoLine bs ls)
-
-onto-line : (b : ℕ) (bs : List ℕ) (ls : List (List ℕ)) → ontoLine (b ∷ bs) ls ≡ (b ∷ bs ++ headLine ls) ∷ tailLines ls
-unfolding ontoLine ontoFirstLine
-onto-line b [] ls = onto-parts b ls
-onto-line b (c ∷ bs) ls = ap (ontoFirstLine b) (onto-line c bs ls)
-
--- The lines of a text, and those of the same text with another directly behind it: this goes on with the last line, if nothing ends that.
-data Joined (further : List ℕ) : List (List ℕ) → List (List ℕ) → Type 0 where
-  at-line : Joined further [] (lines further)
-  in-line : (b : ℕ) (line : List ℕ) → Joined further ((b ∷ line) ∷ []) (ontoLine (b ∷ line) (lines further))
-  next-line : (line : List ℕ) {ls ms : List (List ℕ)} → Joined further ls ms → Joined further (line ∷ ls) (line ∷ ms)
-
-joined-onto : {further : List ℕ} (b : ℕ) {ls ms : List (List ℕ)} → Joined further ls ms → Joined further (ontoFirstLine b ls) (ontoFirstLine b ms)
-unfolding ontoFirstLine ontoLine
-joined-onto b at-line = in-line b []
-joined-onto b (in-line c line) = in-line b (c ∷ line)
-joined-onto b (next-line line j) = next-line (b ∷ line) j
-
-lines-joined : (text further : List ℕ) → Joined further (lines text) (lines (text ++ further))
-unfolding lines
-lines-joined [] further = at-line
-lines-joined (b ∷ bs) further =
-    case (eqb b 0x0A)
-    (λ n. rw (n, lines) (next-line (b ∷ []) (lines-joined bs further)))
-    (λ n. rw (n, lines) (joined-onto b (lines-joined bs further)))
 
 -- The characters of lines, by the first.
 characters-first : (line : List ℕ) (ls : List (List ℕ)) {cs : List Char} → decoded line ≡ some cs → characters (line ∷ ls) ≡ before cs (characters ls)

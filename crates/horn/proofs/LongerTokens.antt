@@ -13,7 +13,7 @@ use Rattle.horn.specs.Longer.{longer}
 use Rattle.horn.proofs.Equality.{case}
 use Rattle.horn.proofs.Inversion.{case-option}
 use Rattle.horn.proofs.CompleteUtf8.{All, resumed-done, decoded-begun}
-use Rattle.horn.proofs.CompleteLines.{before-append, Inner, inner}
+use Rattle.horn.proofs.CompleteLines.{before-append, Inner, inner, headLine, tailLines, onto-parts}
 
 -- One stream behind another. A stream that breaks off at a bad line has nothing behind it.
 unfoldable pub followedBy : {A : Type 0} → Stream A → Stream A → Stream A
@@ -73,37 +73,47 @@ unfolding decoded resumed startedBy sequences within
 decoded-newline [] = refl
 decoded-newline (b ∷ bs) = begun-newline b bs (λ m r. resumed-newline bs (b ∷ []) (b - m) r)
 
--- The lines of a text, those of the same text with a new line and a further text behind it, and how they are related: the last line, if
--- nothing ends it, is ended by the 0A, and else the 0A is a line of its own. The further text's lines are behind it.
-data Ended (further : List ℕ) : List (List ℕ) → List (List ℕ) → Type 0 where
-  own-line : Ended further [] ((0x0A ∷ []) ∷ lines further)
-  last-line : (line : List ℕ) → Ended further (line ∷ []) ((line ++ (0x0A ∷ [])) ∷ lines further)
-  next-line : (line : List ℕ) {ls ms : List (List ℕ)} → Ended further ls ms → Ended further (line ∷ ls) (line ∷ ms)
+-- Bytes put at the beginning of the first line, all of them.
+unfoldable pub ontoLine : List ℕ → List (List ℕ) → List (List ℕ)
+ontoLine [] ls = ls
+ontoLine (b ∷ bs) ls = ontoFirstLine b (ontoLine bs ls)
 
-ended-onto : {further : List ℕ} (b : ℕ) {ls ms : List (List ℕ)} → Ended further ls ms → Ended further (ontoFirstLine b ls) (ontoFirstLine b ms)
-unfolding ontoFirstLine
-ended-onto b own-line = last-line (b ∷ [])
-ended-onto b (last-line line) = last-line (b ∷ line)
-ended-onto b (next-line line e) = next-line (b ∷ line) e
+pub onto-line : (b : ℕ) (bs : List ℕ) (ls : List (List ℕ)) → ontoLine (b ∷ bs) ls ≡ (b ∷ bs ++ headLine ls) ∷ tailLines ls
+unfolding ontoLine ontoFirstLine
+onto-line b [] ls = onto-parts b ls
+onto-line b (c ∷ bs) ls = ap (ontoFirstLine b) (onto-line c bs ls)
 
-lines-ended : (text further : List ℕ) → Ended further (lines text) (lines (text ++ (0x0A ∷ further)))
+-- The lines of a text, and those of the same text with another directly behind it: this goes on with the last line, if nothing ends that.
+pub data Joined (further : List ℕ) : List (List ℕ) → List (List ℕ) → Type 0 where
+  at-line : Joined further [] (lines further)
+  in-line : (b : ℕ) (line : List ℕ) → Joined further ((b ∷ line) ∷ []) (ontoLine (b ∷ line) (lines further))
+  next-line : (line : List ℕ) {ls ms : List (List ℕ)} → Joined further ls ms → Joined further (line ∷ ls) (line ∷ ms)
+
+joined-onto : {further : List ℕ} (b : ℕ) {ls ms : List (List ℕ)} → Joined further ls ms → Joined further (ontoFirstLine b ls) (ontoFirstLine b ms)
+unfolding ontoFirstLine ontoLine
+joined-onto b at-line = in-line b []
+joined-onto b (in-line c line) = in-line b (c ∷ line)
+joined-onto b (next-line line j) = next-line (b ∷ line) j
+
+pub lines-joined : (text further : List ℕ) → Joined further (lines text) (lines (text ++ further))
 unfolding lines
-lines-ended [] further = own-line
-lines-ended (b ∷ bs) further =
+lines-joined [] further = at-line
+lines-joined (b ∷ bs) further =
     case (eqb b 0x0A)
-    (λ n. rw (n, lines) (next-line (b ∷ []) (lines-ended bs further)))
-    (λ n. rw (n, lines) (ended-onto b (lines-ended bs further)))
+    (λ n. rw (n, lines) (next-line (b ∷ []) (lines-joined bs further)))
+    (λ n. rw (n, lines) (joined-onto b (lines-joined bs further)))
 
--- So the further text's characters follow, behind a 0A.
-characters-ended : {further : List ℕ} {ls ms : List (List ℕ)} → Ended further ls ms
+-- Behind a 0A the characters of the further text follow, whatever line the 0A ends.
+characters-ended : {further : List ℕ} {ls ms : List (List ℕ)} → Joined (0x0A ∷ further) ls ms
     → characters ms ≡ followedBy (characters ls) (newline ▹ characters (lines further))
-unfolding characters followedBy before decoded resumed startedBy sequences within
-characters-ended own-line = refl
-characters-ended {further} (last-line line) =
-    case-option (decoded line)
-    (λ n. rw (decoded-newline line, n, characters))
+unfolding characters followedBy before decoded resumed startedBy sequences within lines headLine tailLines
+characters-ended at-line = refl
+characters-ended {further} (in-line b line) =
+    ap characters (onto-line b line (lines (0x0A ∷ further)))
+    ∙ case-option (decoded (b ∷ line))
+    (λ n. rw (decoded-newline (b ∷ line), n, characters))
     (λ cs e.
-    rw (decoded-newline line, e, characters)
+    rw (decoded-newline (b ∷ line), e, characters)
     (before-append cs (newline ∷ []) (characters (lines further)) ∙ sym (followed-before cs end (newline ▹ characters (lines further)))))
 characters-ended {further} (next-line line {ls} {ms} h) =
     case-option (decoded line)
@@ -133,4 +143,4 @@ tokens-followed (c ▹ cs) place further =
 pub tokens-longer : (R further : List ℕ) → tokens (longer R further) ≡ followedBy (tokens R) (tokens further)
 unfolding tokens longer
 tokens-longer R further =
-    ap (tokensFrom between) (characters-ended (lines-ended R further)) ∙ tokens-followed (characters (lines R)) between (characters (lines further))
+    ap (tokensFrom between) (characters-ended (lines-joined R (0x0A ∷ further))) ∙ tokens-followed (characters (lines R)) between (characters (lines further))
