@@ -12,7 +12,7 @@ mod rulebook;
 mod steps;
 mod store;
 
-pub use misreadings::{COUNT, name, of_page, plant};
+pub use misreadings::{COUNT, LONGER, name, of_page, plant};
 pub use page::{Judged, Line, Page, Written};
 
 use reader::Reader;

@@ -29,6 +29,15 @@ pub fn name(misreading: usize) -> String {
     }
 }
 
+/// Those under which a release may be answered otherwise once its rulebook is longer.
+pub const LONGER: [usize; 5] = [
+    index("a name is found by its beginning"),
+    index("rule patterns without variables are stored"),
+    index("constants are stored as they are declared"),
+    index("goals and predicates share names"),
+    index("abbreviations and constructors share names"),
+];
+
 /// Whether a misreading is one of the page, which stand last in the list: only the call that writes it can show them.
 pub fn of_page(misreading: usize) -> bool {
     (const { index("31 before the certificate's refusals") }..NAMES.len()).contains(&misreading)
@@ -134,6 +143,7 @@ const NAMES: &[&str] = &[
     "an empty list for a name is 8",
     "declared names may lead with ?",
     "declared names hold no ? at all",
+    "a name is found by its beginning",
     "declarations are judged as they are read",
     "an empty declaration is 9",
     "a declaration's head that is a list is 9",
@@ -199,6 +209,7 @@ const NAMES: &[&str] = &[
     "numbers are cut to 32 bits",
     "numbers are cut to 16 bits",
     "rule patterns without variables are stored",
+    "constants are stored as they are declared",
     "the number of arguments is not tested",
     "the sorts of arguments are not tested",
     "an argument too many is refused unread",
@@ -228,6 +239,7 @@ const NAMES: &[&str] = &[
     "a goal's name may lead with ?",
     "a goal's name after its judgment",
     "a goal's name holds no ? at all",
+    "goals and predicates share names",
     "a duplicate goal passes",
     "a goal's duplicate before its judgment",
     "goals request nothing",
@@ -242,6 +254,7 @@ const NAMES: &[&str] = &[
     "requested is at most 65,535",
     "an abbreviation may lack ?",
     "an abbreviation may be ? alone",
+    "abbreviations and constructors share names",
     "an abbreviation's name after its term",
     "a duplicate abbreviation passes",
     "an abbreviation's duplicate before its term",

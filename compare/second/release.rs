@@ -79,12 +79,7 @@ impl<'a> Checker<'a> {
     pub fn new(book: &'a Rulebook<'a>, limits: Limits) -> Self {
         let (store, goals, abbreviations) = (Store::new(limits), Vec::new(), HashMap::new());
         let mut new = Self { book, store, goals, abbreviations, steps: Vec::new(), results: Vec::new(), bytes: 0 };
-        if misread!("rule patterns without variables are stored") {
-            for rule in &book.rules {
-                let values = vec![None; rule.variables.len()];
-                let _ = new.build(&rule.conclusion, &values, true);
-            }
-        }
+        new.store_rulebook();
         new
     }
 
@@ -246,7 +241,8 @@ impl<'a> Checker<'a> {
         if name.contains(&b'?') && misread!("a goal's name holds no ? at all") {
             return Err(11);
         }
-        let duplicate = self.goals.iter().any(|g| g.name == name) && !misread!("a duplicate goal passes");
+        let shared = misread!("goals and predicates share names") && find(&self.book.predicates, name).is_some();
+        let duplicate = self.goals.iter().any(|g| g.name == name) && !misread!("a duplicate goal passes") || shared;
         if duplicate && misread!("a goal's duplicate before its judgment") {
             return Err(13);
         }
@@ -328,7 +324,9 @@ impl<'a> Checker<'a> {
         if wrong && !misread!("an abbreviation's name after its term") {
             return Err(11);
         }
-        let duplicate = self.abbreviations.contains_key(name) && !misread!("a duplicate abbreviation passes");
+        let shared = misread!("abbreviations and constructors share names")
+            && name.strip_prefix(b"?").is_some_and(|n| find(&self.book.constructors, n).is_some());
+        let duplicate = self.abbreviations.contains_key(name) && !misread!("a duplicate abbreviation passes") || shared;
         if duplicate && misread!("an abbreviation's duplicate before its term") {
             return Err(13);
         }

@@ -44,8 +44,23 @@ pub struct Rulebook<'a> {
     pub rules: Vec<Rule<'a>>,
 }
 
+/// The place of a name among those of one kind.
+fn place_of<'a>(
+    mut names: impl DoubleEndedIterator<Item = &'a [u8]> + ExactSizeIterator,
+    name: &[u8],
+) -> Option<usize> {
+    if misread!("a name is found by its beginning") {
+        return names.rposition(|n| n.starts_with(name));
+    }
+    names.position(|n| n == name)
+}
+
 pub fn find(symbols: &[Symbol], name: &[u8]) -> Option<usize> {
-    symbols.iter().position(|s| s.name == name)
+    place_of(symbols.iter().map(|s| s.name), name)
+}
+
+pub fn find_rule<'a, 'b>(rules: &'b [Rule<'a>], name: &[u8]) -> Option<&'b Rule<'a>> {
+    place_of(rules.iter().map(|r| r.name), name).map(|i| &rules[i])
 }
 
 fn tree<'a>(reader: &mut Reader<'a>, depth: usize) -> Outcome<Tree<'a>> {

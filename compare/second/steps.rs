@@ -2,7 +2,7 @@
 use crate::Outcome;
 use crate::reader::Reader;
 use crate::release::{Checker, number};
-use crate::rulebook::{Pattern, Rule, find};
+use crate::rulebook::{Pattern, Rule, find, find_rule};
 use crate::store::Head;
 
 /// A step: its judgment, its rule's name, and the numbers of the steps that it refers to.
@@ -57,7 +57,7 @@ impl<'a> Checker<'a> {
             return Err(19);
         }
         let name = reader.atom_item(1)?;
-        let rule = self.book.rules.iter().find(|r| r.name == name);
+        let rule = find_rule(&self.book.rules, name);
         if rule.is_none() && misread!("a rule after its references") {
             self.references(reader, 0)?;
         }
@@ -294,6 +294,21 @@ impl<'a> Checker<'a> {
             return Err(26);
         }
         if matched || misread!("a stated conclusion is not matched") { Ok(()) } else { Err(23) }
+    }
+
+    /// For misreadings only: terms and judgments of the rulebook are stored before all else.
+    pub fn store_rulebook(&mut self) {
+        if misread!("rule patterns without variables are stored") {
+            for rule in &self.book.rules {
+                let values = vec![None; rule.variables.len()];
+                let _ = self.build(&rule.conclusion, &values, true);
+            }
+        }
+        if misread!("constants are stored as they are declared") {
+            for (c, _) in self.book.constructors.iter().enumerate().filter(|(_, c)| c.inputs.is_empty()) {
+                let _ = self.store.put(Head::Constructor(c), Vec::new());
+            }
+        }
     }
 
     /// Built left to right, each node after its arguments.

@@ -165,6 +165,33 @@ pub fn due(rust: Option<(Answer, Source)>, second: Answer, lengths: [usize; 4]) 
     }
 }
 
+/// A call held to what is due.
+pub struct Held {
+    pub due: Answer,
+    pub source: Source,
+    pub said: Answer,
+    /// What differs, the second opinion, texts and areas included.
+    pub difference: Option<String>,
+}
+
+/// Calls over areas of these lengths.
+pub fn held<C: Call>(case: &C::Case, lengths: [usize; 4], desk: &mut Desk, rng: &mut Random) -> Held {
+    let second = C::second(case, lengths);
+    let (due, source) = due(C::rust(case), second, lengths);
+    let texts = C::texts(case);
+    let call = |texts: &[_], areas| C::call(texts, areas, lengths);
+    let (said, wrong) = desk.lend(&texts, lengths, second::clears(due.number), rng, call);
+    let differs = said != due || second != due || !wrong.is_empty();
+    let difference = differs.then(|| {
+        let texts: Vec<_> = texts.into_iter().map(hex).collect();
+        format!(
+            "{}: areas {lengths:?}, expected {due} ({source:?}), second opinion {second}, answered {said}, wrong afterwards: {wrong:?}",
+            texts.join("\t")
+        )
+    });
+    Held { due, source, said, difference }
+}
+
 /// What was seen of all cases.
 pub struct Seen {
     desk: Desk,
@@ -185,22 +212,12 @@ impl Seen {
         self.tally.cases += 1;
         lent::CASE.store(self.tally.cases, Relaxed);
         let lengths = lent::lengths(rng);
-        let second = C::second(case, lengths);
-        let (answer, source) = due(C::rust(case), second, lengths);
-        self.tally.due(answer.number, source);
+        let held = held::<C>(case, lengths, &mut self.desk, rng);
+        self.tally.due(held.due.number, held.source);
         self.longer += usize::from(lengths.iter().all(|&n| n > AREA));
         self.short += usize::from(lengths.iter().filter(|&&n| n < AREA).count() > 1);
-        self.most.iter_mut().zip(answer.counts()).for_each(|(most, n)| *most = n.max(*most));
-        let texts = C::texts(case);
-        let call = |texts: &[_], areas| C::call(texts, areas, lengths);
-        let (said, wrong) = self.desk.lend(&texts, lengths, second::clears(answer.number), rng, call);
-        if said != answer || second != answer || !wrong.is_empty() {
-            let texts: Vec<_> = texts.into_iter().map(hex).collect();
-            self.tally.differs(format!(
-                "{}: areas {lengths:?}, expected {answer} ({source:?}), second opinion {second}, answered {said}, wrong afterwards: {wrong:?}",
-                texts.join("\t")
-            ));
-        }
+        self.most.iter_mut().zip(held.due.counts()).for_each(|(most, n)| *most = n.max(*most));
+        held.difference.into_iter().for_each(|line| self.tally.differs(line));
     }
 
     /// The histogram, and the shortest of the differences.

@@ -10,7 +10,7 @@ pub const G: usize = 1;
 pub const C: usize = 2;
 
 /// Whether an item of a step is a binding.
-fn binds(item: &Tree) -> bool {
+pub fn binds(item: &Tree) -> bool {
     item.members().first().is_some_and(Tree::variable)
 }
 

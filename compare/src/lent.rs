@@ -256,9 +256,14 @@ impl Desk {
     }
 }
 
-/// Lengths of the four areas, each its own; now and then one or several are short.
+/// Lengths of the four areas, each its own and long enough.
+pub fn long_enough(rng: &mut Random) -> [usize; 4] {
+    [AREA; 4].map(|n| if rng.chance(50) { n } else { n + rng.from(1, LONGER) })
+}
+
+/// The same; now and then one or several are short.
 pub fn lengths(rng: &mut Random) -> [usize; 4] {
-    let mut lengths = [AREA; 4].map(|n| if rng.chance(50) { n } else { n + rng.from(1, LONGER) });
+    let mut lengths = long_enough(rng);
     if rng.below(100) == 0 {
         let most = if rng.chance(60) { 1 } else { 4 };
         for _ in 0..rng.from(1, most) {

@@ -15,6 +15,10 @@ mod graphs;
 mod histogram;
 #[cfg(library)]
 mod lent;
+#[cfg(library)]
+mod longer;
+#[cfg(library)]
+mod longer_texts;
 mod messages;
 mod names;
 mod oracle;
@@ -59,6 +63,7 @@ const USAGE: &str = "usage: compare/run COMMAND
   rulebook-call N SEED  N generated rulebooks: the static library's call beside the Rust
   release-call N SEED   N generated cases: the static library's call with three texts beside the Rust
   page-call N SEED      N generated cases: its call that writes the release page, over buffers of several lengths
+  longer N SEED         N releases accepted under a rulebook and under a longer one: the same counts
   rulebook-cases N SEED | release-cases N SEED  such cases themselves, with the library's answers
   exhaustive bytes N  every text of at most N bytes over an alphabet, as each of the three texts
   exhaustive characters  every character, alone, within an atom and between two tokens
@@ -121,6 +126,8 @@ fn main() {
         ["release-call", n, seed] => call::<call::Release>(number(n) as usize, number(seed), &mut out),
         #[cfg(library)]
         ["page-call", n, seed] => same(page::compare(number(n) as usize, number(seed), &mut out), &mut out),
+        #[cfg(library)]
+        ["longer", n, seed] => same(longer::compare(number(n) as usize, number(seed), &mut out), &mut out),
         #[cfg(library)]
         ["rulebook-cases", n, seed] => {
             call::answers::<call::RulebookAlone>("rulebook", number(n) as usize, number(seed), &mut out)

@@ -197,7 +197,7 @@ fn other_results(draft: &mut Draft, grown: &Grown, rng: &mut Random) {
 }
 
 /// An accepted release of the generator, grown and renamed.
-fn grown(rng: &mut Random) -> Texts {
+pub fn grown(rng: &mut Random) -> Texts {
     let size = generate::size(rng);
     let mut draft = Draft::random(rng, size);
     let rules = more_rules(&mut draft, rng);

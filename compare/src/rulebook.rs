@@ -42,7 +42,7 @@ pub struct Rulebook {
 /// How large a case becomes: 0 is small, 2 large.
 pub type Size = usize;
 
-fn inputs(rng: &mut Random, sorts: usize, most: usize) -> Vec<usize> {
+pub fn inputs(rng: &mut Random, sorts: usize, most: usize) -> Vec<usize> {
     (0..rng.from(0, most)).map(|_| rng.below(sorts)).collect()
 }
 
@@ -100,7 +100,32 @@ impl Rulebook {
         book
     }
 
-    fn rule(&mut self, rng: &mut Random, conclusion: usize, premises: usize, depth: usize, used: &mut Vec<Vec<u8>>) {
+    /// What these declarations, which must be accepted, make known, but for their rules.
+    #[cfg(library)]
+    pub fn of(forms: &[Tree]) -> Self {
+        let declared = |head: &'static str| forms.iter().filter(move |f| f.form(head)).map(Tree::members);
+        let sorts: Vec<Vec<u8>> = declared("sort").map(|xs| xs[1].bytes().to_vec()).collect();
+        let sort = |tree: &Tree| sorts.iter().position(|s| s == tree.bytes()).expect("a known sort");
+        let symbol = |xs: &[Tree]| Symbol {
+            name: xs[1].bytes().to_vec(),
+            inputs: xs[2].members().iter().map(sort).collect(),
+            output: xs.get(3).map_or(0, sort),
+        };
+        let (ctors, preds): (Vec<_>, _) =
+            (declared("ctor").map(symbol).collect(), declared("pred").map(symbol).collect());
+        let smallest = Self::smallest(sorts.len(), &ctors);
+        Self { sorts, ctors, preds, rules: Vec::new(), smallest }
+    }
+
+    /// One rule more.
+    pub fn rule(
+        &mut self,
+        rng: &mut Random,
+        conclusion: usize,
+        premises: usize,
+        depth: usize,
+        used: &mut Vec<Vec<u8>>,
+    ) {
         let mut names = Vec::new();
         let mut vars = Vars { list: Vec::new(), used: &mut names };
         let mut found = Vec::new();
@@ -179,6 +204,14 @@ impl Rulebook {
         }
     }
 
+    pub fn ctor_tree(&self, c: &Symbol) -> Tree {
+        list([atom("ctor"), atom(&c.name), self.names(&c.inputs), atom(&self.sorts[c.output])])
+    }
+
+    pub fn pred_tree(&self, p: &Symbol) -> Tree {
+        list([atom("pred"), atom(&p.name), self.names(&p.inputs)])
+    }
+
     pub fn rule_tree(&self, rule: &Rule) -> Tree {
         let premises = rule.premises.iter().map(|p| self.pattern_tree(rule, p, true));
         let conclusion = self.pattern_tree(rule, &rule.conclusion, true);
@@ -188,11 +221,8 @@ impl Rulebook {
     /// The declarations, now and then in another order in which each comes after what it names.
     pub fn trees(&self, rng: &mut Random) -> Vec<Tree> {
         let sorts = self.sorts.iter().map(|s| list([atom("sort"), atom(s)]));
-        let ctors = self
-            .ctors
-            .iter()
-            .map(|c| list([atom("ctor"), atom(&c.name), self.names(&c.inputs), atom(&self.sorts[c.output])]));
-        let preds = self.preds.iter().map(|p| list([atom("pred"), atom(&p.name), self.names(&p.inputs)]));
+        let ctors = self.ctors.iter().map(|c| self.ctor_tree(c));
+        let preds = self.preds.iter().map(|p| self.pred_tree(p));
         let (mut symbols, mut rules): (Vec<Tree>, Vec<Tree>) = (ctors.chain(preds).collect(), Vec::new());
         rules.extend(self.rules.iter().map(|r| self.rule_tree(r)));
         if rng.chance(40) {

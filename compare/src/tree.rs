@@ -40,8 +40,16 @@ impl Tree {
         matches!(self, Tree::Atom(_))
     }
 
+    /// The bytes of an atom; a list has none of its own.
+    pub fn bytes(&self) -> &[u8] {
+        match self {
+            Tree::Atom(a) => a,
+            Tree::List(_) => &[],
+        }
+    }
+
     pub fn variable(&self) -> bool {
-        matches!(self, Tree::Atom(a) if a.first() == Some(&b'?'))
+        self.bytes().first() == Some(&b'?')
     }
 
     /// The head of a form, as in `step`.
@@ -100,6 +108,20 @@ pub fn tokens(forms: &[Tree]) -> Vec<Token> {
     out
 }
 
+/// The forms of a text that the unchanged reader reads whole.
+#[cfg(library)]
+pub fn read(text: &[u8]) -> Vec<Tree> {
+    use reference::sexp::{Sexp, parse};
+    fn tree(form: &Sexp) -> Tree {
+        match form {
+            Sexp::Atom(a) => atom(a),
+            Sexp::List(xs) => list(xs.iter().map(tree)),
+        }
+    }
+    let text = std::str::from_utf8(text).expect("UTF-8");
+    parse(text).expect("forms").iter().map(tree).collect()
+}
+
 #[derive(Clone, Copy)]
 pub enum Style {
     /// A space only where two atoms meet.
@@ -127,7 +149,7 @@ pub const WHITE: &[&str] = &[
     "\u{2029}", "\u{202f}", "\u{205f}", "\u{3000}",
 ];
 
-fn comment(rng: &mut Random, out: &mut Vec<u8>) {
+pub fn comment(rng: &mut Random, out: &mut Vec<u8>) {
     out.push(b';');
     for _ in 0..rng.below(5) {
         out.extend(rng.pick(&["(", ")", ";", "a", " ", "é", "\u{2028}", "\u{85}", "\r", "\0", "😀"]).bytes());
