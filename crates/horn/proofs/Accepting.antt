@@ -10,8 +10,8 @@ use Rattle.horn.specs.Refusals.{Refusal, number, Result, ok, refused}
 use Rattle.horn.specs.Setting.{Setting}
 use Rattle.horn.specs.Rulebook.{Theory, theory}
 use Rattle.horn.specs.StoredTerms.{Store, emptyStore}
-use Rattle.horn.specs.Checker.{goalsOf}
-use Rattle.horn.specs.Certificate.{certificateOf}
+use Rattle.horn.specs.Checker.{Goal, goalsOf}
+use Rattle.horn.specs.Certificate.{Progress, certificateOf}
 use Rattle.horn.specs.Calls.{areasLong, rulebookJudged, rulebookAnswer, rulebookCall, Report, Release, reportOf, releaseRead, releaseJudged}
 use Rattle.horn.specs.Calls.{releaseAnswer, releaseCall}
 use Rattle.horn.specs.Forced.{LongEnough, Accepted}
@@ -133,6 +133,26 @@ read-run limits a b c d rulebook text certificate e =
       read = e₈;
       taken = f;
     }
+
+-- The way back: areas long enough, texts short enough, a theory, goals and a certificate that is taken give the release.
+pub read-on : {limits : Setting} {a b c d : ℕ} (rulebook text certificate : List ℕ) {th : Theory} {goals : List Goal} {s t : Store} {last : Progress}
+    → LongEnough limits a b c d
+    → length rulebook ≤ limits .rulebookBytes
+    → length text ≤ limits .goalsBytes
+    → length certificate ≤ limits .certificateBytes
+    → theory rulebook ≡ ok th
+    → goalsOf limits th text emptyStore ≡ ok (goals, s)
+    → certificateOf limits th goals certificate s ≡ ok (last, t)
+    → releaseRead limits a b c d rulebook text certificate ≡ ok record { goals = goals; progress = last; store = t }
+unfolding releaseRead
+read-on {limits} rulebook text certificate l short short-text short-certificate gives read taken =
+    onᵣ _ (areasLong-ok l)
+    ∙ onᵣ _ (need-on _ (le-leb (length rulebook) (limits .rulebookBytes) short))
+    ∙ onᵣ _ (need-on _ (le-leb (length text) (limits .goalsBytes) short-text))
+    ∙ onᵣ _ (need-on _ (le-leb (length certificate) (limits .certificateBytes) short-certificate))
+    ∙ onᵣ _ gives
+    ∙ onᵣ _ read
+    ∙ onᵣ _ taken
 
 -- The same of a report.
 pub record AcceptedRun (limits : Setting) (rulebook text certificate : List ℕ) (answer : Report) : Type 0 where

@@ -6,7 +6,6 @@ use mathlib.Core.Bool.{true}
 use mathlib.Core.List.{List, [], _∷_, _++_, map, map-append, List·Memᴰ, Memᴰ·append-left, Memᴰ·append-right, List·Memᴰ·append-cases, append-assoc, append-nil}
 use mathlib.Core.Logic.{⊎-elim}
 use lib.ListN.{length, length-append}
-use borrow.Author.Tests.{le-leb}
 use Rattle.horn.specs.Refusals.{ok}
 use Rattle.horn.specs.Setting.{Setting, document01}
 use Rattle.horn.specs.Names.{isZero}
@@ -16,14 +15,14 @@ use Rattle.horn.specs.StoredTerms.{Term, Store, emptyStore, withinLimits
 use Rattle.horn.specs.Checker.{Goal, goalJudgment, goalsOf, give}
 use Rattle.horn.specs.Matching.{Step, judgmentOf}
 use Rattle.horn.specs.Certificate.{Witness, certificateForm, certificateForms, certificateOf}
-use Rattle.horn.specs.Calls.{report, reportOf, releaseRead, releaseJudged, releaseAnswer, releaseCall}
+use Rattle.horn.specs.Calls.{report, reportOf, releaseJudged, releaseAnswer, releaseCall}
 use Rattle.horn.specs.Forced.{Instance, premises, conclusion, Each, judgments}
 use Rattle.horn.specs.Layout
 use Rattle.horn.specs.Layout.{stepSexps, layoutForms, laidOut, height, depth}
 use Rattle.horn.specs.Layout.{subterms, allSubterms, distinct, distinctTerms, requestedNodes, WithinLimits, Supported, no-instance, instance-then, Proves}
 use Rattle.horn.specs.Demand3.{Complete}
 use Rattle.horn.proofs.Inversion.{onᵣ, on, need-on}
-use Rattle.horn.proofs.Accepting.{areasLong-ok, accepted-gives}
+use Rattle.horn.proofs.Accepting.{accepted-gives, read-on}
 use Rattle.horn.proofs.GoalsWritten.{read-has, reading-gives}
 use Rattle.horn.proofs.GoalsFixed.{goals-fixed}
 use Rattle.horn.proofs.SoundnessWords.{WellFormed, conclusion-well-sorted}
@@ -155,7 +154,7 @@ module _ (limits : Setting) (a b c d : ℕ) (rulebook text : List ℕ) {th : The
       → WithinLimits limits a b c d goals is
       → releaseCall limits a b c d rulebook text (laidOut goals is)
       ≡ report 0 (length is) (length goals) (length (distinctTerms goals is)) (length (laidOut goals is)) (requestedNodes goals is)
-  unfolding releaseCall releaseJudged releaseRead reportOf releaseAnswer distinctTerms requestedNodes
+  unfolding releaseCall releaseJudged reportOf releaseAnswer distinctTerms requestedNodes
   complete-read bound short-text read p w =
       let js = judgments goals ++ map conclusion is in
       let us = distinct (allSubterms js) in
@@ -172,14 +171,7 @@ module _ (limits : Setting) (a b c d : ℕ) (rulebook text : List ℕ) {th : The
       let final = ap (withAll (map conclusion is)) (k .has) ∙ sym (withAll-append (judgments goals) (map conclusion is) emptyStore) in
       let count : length (stepsMade [] is) ≡ length is = let h = stepsMade-length [] is in omega arith in
       ap releaseAnswer
-      (onᵣ _
-      (onᵣ _ (areasLong-ok (w .areas))
-      ∙ onᵣ _ (need-on _ (le-leb (length rulebook) (limits .rulebookBytes) short))
-      ∙ onᵣ _ (need-on _ (le-leb (length text) (limits .goalsBytes) short-text))
-      ∙ onᵣ _ (need-on _ (le-leb (length (laidOut goals is)) (limits .certificateBytes) (w .short)))
-      ∙ onᵣ _ e
-      ∙ onᵣ _ read
-      ∙ onᵣ _ certificate))
+      (onᵣ _ (read-on rulebook text (laidOut goals is) (w .areas) short short-text (w .short) e read certificate))
       ∙ ap
       (λ x. report 0 x (length goals) (length ((withAll (map conclusion is) store) .terms)) (length (laidOut goals is))
       (length ((withAll (map conclusion is) store) .requests)))

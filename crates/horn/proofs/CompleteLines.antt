@@ -3,11 +3,11 @@ use Prim.Native.Nat.{ℕ, _+_, _*_, _-_}
 use mathlib.Core.Path.{_≡_, refl, sym, ap, _∙_}
 use mathlib.Core.Bool.{true, false, true≢false}
 use mathlib.Core.List.{List, [], _∷_, _++_, append-nil}
-use mathlib.Core.Option.{some, Option·map}
+use mathlib.Core.Option.{none, some, Option·map}
 use borrow.Author.Tests.{eqb-true}
 use lib.Dec.{eqb}
 use Rattle.horn.specs.Utf8.{Range, range, within, Sequence, sequence, tail, sequences, startedBy, Char, char, resumed, decoded}
-use Rattle.horn.specs.Tokens.{Stream, end, _▹_, before, ontoFirstLine, lines, characters}
+use Rattle.horn.specs.Tokens.{Stream, end, bad, _▹_, before, ontoFirstLine, lines, characters}
 use Rattle.horn.proofs.Equality.{case, chosen, chose-true}
 use Rattle.horn.proofs.Inversion.{none-some, some-equal}
 use Rattle.horn.proofs.CompleteUtf8.{resumed-done, mapped, decoded-of, decoded-begun, All}
@@ -86,10 +86,18 @@ line-end : (b : ℕ) (bs : List ℕ) → eqb b 0x0A ≡ true → lines (b ∷ bs
 unfolding lines
 line-end b bs e = rw (e, lines)
 
+-- The characters of lines, by the first of them.
+pub characters-first : (line : List ℕ) (ls : List (List ℕ)) {cs : List Char} → decoded line ≡ some cs → characters (line ∷ ls) ≡ before cs (characters ls)
+unfolding characters
+characters-first line ls e = rw (e, characters)
+
+pub characters-bad : (line : List ℕ) (ls : List (List ℕ)) → decoded line ≡ none → characters (line ∷ ls) ≡ bad
+unfolding characters
+characters-bad line ls e = rw (e, characters)
+
 characters-cons : (l : List ℕ) (ls : List (List ℕ)) {cs : List Char} (ds : List Char) → decoded l ≡ some cs → characters ls ≡ before ds end
     → characters (l ∷ ls) ≡ before (cs ++ ds) end
-unfolding characters
-characters-cons l ls {cs} ds p q = rw (p, characters) (ap (before cs) q ∙ sym (before-append cs ds end))
+characters-cons l ls {cs} ds p q = characters-first l ls p ∙ ap (before cs) q ∙ sym (before-append cs ds end)
 
 -- A text that begins in the midst of a character: the characters of its first line, and those of its other lines.
 record Split (taken : List ℕ) (value : ℕ) (rs : List Range) (bs : List ℕ) (cs : List Char) : Type 0 where

@@ -3,7 +3,7 @@
 use Prim.Native.Nat.{ℕ, _+_, _*_, _-_}
 use mathlib.Core.Path.{_≡_, refl, sym, ap, _∙_}
 use mathlib.Core.List.{List, [], _∷_, _++_, append-nil, append-assoc}
-use mathlib.Core.Option.{Option, none, some, Option·map}
+use mathlib.Core.Option.{Option, none, some, Option·map, map-id, map-map}
 use Rattle.horn.specs.Utf8.{Range, within, Sequence, sequence, sequences, startedBy, Char, char, resumed, decoded}
 use Rattle.horn.proofs.Equality.{chosen, chose-true}
 use Rattle.horn.proofs.Inversion.{none-some, some-equal}
@@ -37,11 +37,6 @@ mapped none e k = none-some e
 mapped (some a) e k = k a refl (some-equal e)
 
 -- What stands behind bytes that are decoded is decoded by itself.
-front-map : (c : Char) (cs : List Char) (o : Option (List Char))
-    → Option·map (λ ds. c ∷ ds) (Option·map (λ ds. cs ++ ds) o) ≡ Option·map (λ ds. c ∷ cs ++ ds) o
-front-map c cs none = refl
-front-map c cs (some ds) = refl
-
 resumed-before : (bs rest taken : List ℕ) (value : ℕ) (rs : List Range) {cs : List Char} → resumed taken value rs bs ≡ some cs
     → resumed taken value rs (bs ++ rest) ≡ Option·map (λ ds. cs ++ ds) (decoded rest)
 unfolding resumed decoded
@@ -56,16 +51,12 @@ resumed-before (b ∷ bs) rest taken value [] e =
     mapped (decoded (b ∷ bs)) (sym (resumed-done taken value (b ∷ bs)) ∙ e) λ ks e₁ e₂.
     started (startedBy b sequences) e₁ λ a m r s q.
     rw (s, resumed) (ap (Option·map (λ us. char taken value ∷ us)) (resumed-before bs rest (b ∷ []) (b - m) r q)
-    ∙ front-map (char taken value) ks (decoded rest)
+    ∙ map-map (λ us. char taken value ∷ us) (λ ds. ks ++ ds) (decoded rest)
     ∙ ap (λ us. Option·map (λ ds. us ++ ds) (decoded rest)) e₂)
-
-map-same : (o : Option (List Char)) → o ≡ Option·map (λ ds. [] ++ ds) o
-map-same none = refl
-map-same (some ds) = refl
 
 pub decoded-before : (bs rest : List ℕ) {cs : List Char} → decoded bs ≡ some cs → decoded (bs ++ rest) ≡ Option·map (λ ds. cs ++ ds) (decoded rest)
 unfolding decoded
-decoded-before [] rest e = map-same (decoded rest) ∙ ap (λ ks. Option·map (λ ds. ks ++ ds) (decoded rest)) (some-equal e)
+decoded-before [] rest e = sym (ap (λ f. f (decoded rest)) map-id) ∙ ap (λ ks. Option·map (λ ds. ks ++ ds) (decoded rest)) (some-equal e)
 decoded-before (b ∷ bs) rest e =
     started (startedBy b sequences) e λ a m r s q. rw (s, decoded) (resumed-before bs rest (b ∷ []) (b - m) r q)
 

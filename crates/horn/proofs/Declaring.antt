@@ -14,8 +14,8 @@ use Rattle.horn.specs.Arising.{Declares, declares-none, declares-next}
 use Rattle.horn.proofs.Equality.{not-true}
 use Rattle.horn.proofs.Inversion.{after-one, after-two, after-three, not-ok, ok-equal, afterᵣ, after-needᵣ}
 
--- What a theory becomes by a declaration whose name is read from this member. Of a sort nothing is asked but that it is declared: only the laws
--- of longer rulebooks (LongerNames) need its place.
+-- What a theory becomes by a declaration whose name is read from this member. For a sort only what `declareSort` gives; its place is said in
+-- LongerNames.
 pub data Declared (th : Theory) (n : Sexp) : Theory → Type 0 where
   sort-declared : {sorts : List Name} → Rulebook.declareSort th n ≡ ok record { sorts = sorts; symbols = th .symbols; rules = th .rules }
       → Declared th n record { sorts = sorts; symbols = th .symbols; rules = th .rules }

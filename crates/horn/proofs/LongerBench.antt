@@ -1,8 +1,7 @@
--- L4 on the bench set, with its conclusion computed; and an input for each way in which it would be false: a condition left out, or more said
--- than is promised.
+-- L4 on the bench set, with its conclusion computed; and inputs that show what each of its conditions is for and what is not promised.
 use Prim.Native.Nat.{ℕ}
 use mathlib.Core.Path.{_≡_, refl, _∙_}
-use mathlib.Core.List.{List, [], _∷_, _++_}
+use mathlib.Core.List.{List, [], _++_}
 use native.Mathlib.Omega.{arith}
 use Rattle.horn.specs.Setting.{document01}
 use Rattle.horn.specs.Names.{codes}
@@ -12,9 +11,10 @@ use Rattle.horn.specs.Forced.{LongEnough, Accepted}
 use Rattle.horn.specs.Longer.{longer}
 use Rattle.horn.proofs.Run.{openAll}
 use Rattle.horn.proofs.Bench.{R, G, C, tightFor}
-use Rattle.horn.proofs.Firings.{released}
+use Rattle.horn.proofs.Firings.{released, firings}
 use Rattle.horn.proofs.Accepting.{answer-gives, gives-accepted}
-use Rattle.horn.proofs.Longer.{kept}
+use Rattle.horn.proofs.WordsBench.{bench-accepted}
+use Rattle.horn.proofs.Longer.{longer-kept}
 
 -- The call with the rulebook alone, on areas just long enough.
 abbrev judged : List ℕ → RulebookReport
@@ -22,43 +22,32 @@ judged = rulebookCall document01 16_384 16_384 16_384 16_384
 
 -- Further text for R: a comment, a sort, a constructor and a predicate with names of R's rules, and a rule.
 unfoldable pub further : List ℕ
-further = codes "; next term\n(sort u)(ctor base () t)(pred more (u))(rule any () (hold ?y))"
+further = codes "; further\n(sort u)(ctor base () t)(pred more (u))(rule any () (hold ?y))"
 
-long-enough : LongEnough document01 16_384 16_384 16_384 16_384
+long-enough : LongEnough document01 20_000 16_384 18_000 16_385
 unfolding openAll
 long-enough = record { first-area = omega arith; second-area = omega arith; third-area = omega arith; fourth-area = omega arith }
 
-zero-accepted : (rulebook : List ℕ) → (judged rulebook) .number ≡ 0 → Accepted document01 rulebook
-zero-accepted rulebook e = gives-accepted (answer-gives document01 16_384 16_384 16_384 16_384 rulebook e .1)
-
-bench-accepts : Accepted document01 R
-unfolding openAll R
-bench-accepts = zero-accepted R refl
-
 longer-accepts : Accepted document01 (longer R further)
 unfolding openAll R further longer
-longer-accepts = zero-accepted (longer R further) refl
+longer-accepts = gives-accepted (answer-gives document01 16_384 16_384 16_384 16_384 (longer R further) refl .1)
 
-bench-released : released R G C ≡ report 0 2 1 4 48 7
-unfolding openAll R G C
-bench-released = refl
-
--- The theorem on the bench set: the release is accepted with its five counts under the longer rulebook.
-pub bench-kept : released (longer R further) G C ≡ report 0 2 1 4 48 7
+-- The theorem on the bench set: the release is accepted with its five counts under the longer rulebook, on other areas too.
+pub bench-kept : releaseCall document01 20_000 16_384 18_000 16_385 (longer R further) G C ≡ report 0 2 1 4 48 7
 unfolding openAll R G C
 bench-kept =
-    (kept document01 16_384 16_384 16_384 16_384 (longer R further) G C) .keeps R further 16_384 16_384 16_384 16_384 refl bench-accepts longer-accepts
+    (longer-kept document01 20_000 16_384 18_000 16_385 (longer R further) G C) .keeps R further 16_384 16_384 16_384 16_384 refl bench-accepted longer-accepts
     long-enough refl
-    ∙ bench-released
+    ∙ firings .bench
 
 -- The same by computing alone, and what the longer rulebook declares.
 pub record LongerBench : Type 0 where
   pub declared : judged (longer R further) ≡ rulebookReport 0 2 3 2 3
   pub computed : released (longer R further) G C ≡ report 0 2 1 4 48 7
-  -- a goal with the name of a rule, an abbreviation with that of a constructor, that only the further text declares: not 11, not 13
+  -- a goal with the name of a rule, abbreviations with those of a constructor and a rule, that only the further text declares: not 11, not 13
   pub named-alike :
-      released (longer R further) (codes "(goal any (hold (s z)))") (codes "(def ?base z)(step 0 base ())(step 1 more (0) (?x ?base))(result any 1)")
-      ≡ report 0 2 1 4 71 8
+      released (longer R further) (codes "(goal any (hold (s z)))") (codes "(def ?base z)(def ?any z)(step 0 base ())(step 1 more (0) (?x ?base))(result any 1)")
+      ≡ report 0 2 1 4 83 9
 
 pub longer-bench : LongerBench
 unfolding openAll R G C further longer
@@ -80,8 +69,8 @@ pub may-become-accepted : MayBecomeAccepted
 unfolding openAll R newGoal byNewRule further longer
 may-become-accepted = record { unknown-before = refl; known-after = refl }
 
--- "Let R be an accepted rulebook": the first part of a text that is accepted need not be. Then no release is accepted under it
--- (`accepted-under` in Longer), and what is accepted under the whole says nothing of it.
+-- "Let R be an accepted rulebook": the first part of a rulebook that is accepted need not be. Then no release is accepted under it
+-- (`accepted-under` in Longer), whatever is accepted under the whole.
 unfoldable pub brokenOff : List ℕ
 unfolding R
 brokenOff = R ++ codes "(rule any ()"
@@ -122,13 +111,13 @@ pub record NoNewLine : Type 0 where
   pub two-atoms : tokens (longer (codes "a") (codes "b")) ≡ atom (codes "a") ▹ atom (codes "b") ▹ end
   pub one-atom : tokens (codes "a" ++ codes "b") ≡ atom (codes "ab") ▹ end
   -- the same in a rulebook
-  pub excess : judged (longer (R ++ codes "(sort u") (codes "v)")) ≡ rulebookReport 9 0 0 0 0
+  pub two-names : judged (longer (R ++ codes "(sort u") (codes "v)")) ≡ rulebookReport 9 0 0 0 0
   pub grown : judged (R ++ codes "(sort u" ++ codes "v)") ≡ rulebookReport 0 2 2 1 2
   -- a comment: what it swallows is not declared, and no release can use it
-  pub rule-declared : released (longer commented (codes "(rule any () (hold ?y))")) newGoal byNewRule ≡ report 0 1 1 2 36 4
+  pub rule-read : released (longer commented (codes "(rule any () (hold ?y))")) newGoal byNewRule ≡ report 0 1 1 2 36 4
   pub rule-swallowed : released (commented ++ codes "(rule any () (hold ?y))") newGoal byNewRule ≡ report 12 0 0 0 0 0
   -- or what stands on the next line lacks it: an old release is refused with the rulebook
-  pub sort-declared : released (longer commented twoLines) G C ≡ report 0 2 1 4 48 7
+  pub sort-read : released (longer commented twoLines) G C ≡ report 0 2 1 4 48 7
   pub sort-swallowed : released (commented ++ twoLines) G C ≡ report 12 0 0 0 0 0
   -- where the rulebook is accepted all the same, so is the old release (`directly-extends` in Longer)
   pub kept-directly : released (commented ++ codes "(rule any () (hold ?y))") G C ≡ report 0 2 1 4 48 7
@@ -139,11 +128,11 @@ no-new-line =
     record {
       two-atoms = refl;
       one-atom = refl;
-      excess = refl;
+      two-names = refl;
       grown = refl;
-      rule-declared = refl;
+      rule-read = refl;
       rule-swallowed = refl;
-      sort-declared = refl;
+      sort-read = refl;
       sort-swallowed = refl;
       kept-directly = refl;
     }

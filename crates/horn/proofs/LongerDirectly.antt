@@ -1,23 +1,23 @@
--- Without the new line: the tokens of an accepted rulebook with a text put directly behind it, if that is accepted as one rulebook, begin with
--- the rulebook's. For an accepted rulebook has no bad line and does not end in an atom; it may end in a comment, which swallows what follows
--- on its line.
+-- Without the new line: the tokens of a rulebook that gives a theory, with a text put directly behind it, begin with the rulebook's, if the two
+-- as one rulebook give a theory too. For such a rulebook has no bad line and does not end in an atom; it may end in a comment, which swallows
+-- what follows on its line.
 use Prim.Native.Nat.{ℕ}
 use mathlib.Core.Path.{_≡_, refl, sym, ap, subst, _∙_}
 use mathlib.Core.List.{List, [], _∷_, _++_}
-use mathlib.Core.Option.{Option, none, some, Option·map}
+use mathlib.Core.Option.{some}
 use Rattle.horn.specs.Refusals.{ok}
 use Rattle.horn.specs.Utf8.{Char, decoded}
 use Rattle.horn.specs.Tokens.{Stream, end, bad, _▹_, before, lines, characters}
 use Rattle.horn.specs.Tokens.{Token, opening, closing, atom, Place, between, inComment, inAtom, move, unended, tokensFrom, tokens}
-use Rattle.horn.specs.NestedLists.{ended, Sexp, leaf, list, Sexps, []ₛ, _∷ₛ_, asItem, asItems, writtenItem, written, sexps, items}
+use Rattle.horn.specs.NestedLists.{ended, Sexp, leaf, list, Sexps, []ₛ, _∷ₛ_, asItem, asItems, writtenItem, written}
 use Rattle.horn.specs.Rulebook.{Theory, declarations, theory}
 use Rattle.horn.proofs.Inversion.{some-equal, case-option, afterᵣ}
 use Rattle.horn.proofs.Declaring.{declaration-by}
 use Rattle.horn.proofs.CompleteUtf8.{mapped, decoded-before}
-use Rattle.horn.proofs.CompleteLines.{before-append, headLine, tailLines}
-use Rattle.horn.proofs.LongerTokens.{followedBy, followed-before, onto-line, Joined, at-line, in-line, next-line, lines-joined}
-use Rattle.horn.proofs.LongerTheory.{inFront, written-whole}
-use Rattle.horn.proofs.LongerNames.{Extends, followed-extends}
+use Rattle.horn.proofs.CompleteLines.{before-append, headLine, tailLines, characters-first, characters-bad}
+use Rattle.horn.proofs.LongerTokens.{followedBy, followed-before, onto-line, Joined, behind-lines, within-line, next-line, lines-joined}
+use Rattle.horn.proofs.LongerTheory.{listsThen, written-whole}
+use Rattle.horn.proofs.LongerNames.{ExtendedBy, followed-extends}
 
 -- A stream that no bad line breaks off.
 data Whole {A : Type 0} : Stream A → Type 0 where
@@ -34,7 +34,7 @@ shut-rest : {t : Token} {s : Stream Token} → Shut (t ▹ s) → Shut s
 shut-rest (shut-closing h) = h
 shut-rest (shut-next h) = h
 
--- A stream before which any token may stand, so that it is still shut.
+-- A stream that is shut with any token before it.
 abbrev ShutBehind : Stream Token → Type 0
 ShutBehind s = (t : Token) → Shut (t ▹ s)
 
@@ -50,13 +50,13 @@ mutual
   items-shut (x ∷ₛ xs) h t = item-shut x (items-shut xs h) t
 
 -- The tokens of declarations: each is a list.
-declared-shut : (xs : Sexps) (th : Theory) (s : Stream Token) {later : Theory} → declarations th xs ≡ ok later → Shut (written (inFront xs ended) s)
-unfolding declarations inFront written asItem
+declared-shut : (xs : Sexps) (th : Theory) (s : Stream Token) {later : Theory} → declarations th xs ≡ ok later → Shut (written (listsThen xs ended) s)
+unfolding declarations listsThen written asItem
 declared-shut []ₛ th s e = shut-end
 declared-shut (x ∷ₛ xs) th s e =
     afterᵣ _ e λ next e₁ e₂.
     let b = declaration-by th x e₁ in
-    subst (λ y. Shut (writtenItem (asItem y) (written (inFront xs ended) s))) (sym (b .shape))
+    subst (λ y. Shut (writtenItem (asItem y) (written (listsThen xs ended) s))) (sym (b .shape))
     (items-shut (b .head ∷ₛ b .nameMember ∷ₛ b .behind) (declared-shut xs next s e₂) opening)
 
 theory-shut : (text : List ℕ) {th : Theory} → theory text ≡ ok th → Shut (tokens text)
@@ -89,15 +89,7 @@ shut-closes (c ▹ cs) place h =
     let k = shut-closes cs ((move place c) .1) (shut-before ((move place c) .0) h) in
     record { whole = whole-next (k .whole); nothing-unended = k .nothing-unended }
 
--- The characters of lines, by the first.
-characters-first : (line : List ℕ) (ls : List (List ℕ)) {cs : List Char} → decoded line ≡ some cs → characters (line ∷ ls) ≡ before cs (characters ls)
-unfolding characters
-characters-first line ls e = rw (e, characters)
-
-characters-bad : (line : List ℕ) (ls : List (List ℕ)) → decoded line ≡ none → characters (line ∷ ls) ≡ bad
-unfolding characters
-characters-bad line ls e = rw (e, characters)
-
+-- The characters of lines that begin with one that is decoded.
 characters-head : (ls : List (List ℕ)) {cs : List Char} → decoded (headLine ls) ≡ some cs → characters ls ≡ before cs (characters (tailLines ls))
 unfolding headLine tailLines decoded characters before
 characters-head [] e = ap (λ cs. before cs end) (some-equal e)
@@ -124,8 +116,8 @@ first-decoded line ls w k =
 characters-joined : {further : List ℕ} {ls ms : List (List ℕ)} → Joined further ls ms → Whole (characters ls) → Whole (characters ms)
     → characters ms ≡ followedBy (characters ls) (characters (lines further))
 unfolding followedBy characters
-characters-joined at-line w v = refl
-characters-joined {further} (in-line b line) w v =
+characters-joined behind-lines w v = refl
+characters-joined {further} (within-line b line) w v =
     let h = headLine (lines further) in
     let t = tailLines (lines further) in
     let j = onto-line b line (lines further) in
@@ -156,7 +148,7 @@ tokens-joined (c ▹ cs) place further (whole-next w) e =
     ap (before ((move place c) .0)) (tokens-joined cs ((move place c) .1) further w e)
     ∙ sym (followed-before ((move place c) .0) (tokensFrom ((move place c) .1) cs) _)
 
--- The tokens of an accepted rulebook with a text directly behind it: its own, then others.
+-- The tokens of a rulebook with a text directly behind it: its own, then others.
 pub tokens-directly : (R further : List ℕ) {th later : Theory} → theory R ≡ ok th → theory (R ++ further) ≡ ok later
     → tokens (R ++ further) ≡ followedBy (tokens R) (tokensFrom (placeAfter between (characters (lines R))) (characters (lines further)))
 unfolding tokens
@@ -166,5 +158,5 @@ tokens-directly R further e e₁ =
     ap (tokensFrom between) (characters-joined (lines-joined R further) (k .whole) (j .whole))
     ∙ tokens-joined (characters (lines R)) between (characters (lines further)) (k .whole) (k .nothing-unended)
 
-pub theory-directly : (R further : List ℕ) {th later : Theory} → theory R ≡ ok th → theory (R ++ further) ≡ ok later → Extends th later
+pub theory-directly : (R further : List ℕ) {th later : Theory} → theory R ≡ ok th → theory (R ++ further) ≡ ok later → ExtendedBy th later
 theory-directly R further e e₁ = followed-extends R (R ++ further) _ e (tokens-directly R further e e₁) e₁

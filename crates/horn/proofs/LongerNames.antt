@@ -11,35 +11,35 @@ use Rattle.horn.specs.Names.{Name, named, first, someOf}
 use Rattle.horn.specs.Tokens.{Stream, Token, tokens}
 use Rattle.horn.specs.NestedLists.{Sexp, Sexps}
 use Rattle.horn.specs.Rulebook.{Output, sort, judgment, Symbol, symbol, Rule, rule, Theory, isConstructor, isPredicate, isRule}
-use Rattle.horn.specs.Rulebook.{constructor, predicate, ruleNamed, declareSort, emptyTheory, theory}
+use Rattle.horn.specs.Rulebook.{constructor, predicate, ruleNamed, sortNamed, declareSort, emptyTheory, theory}
 use Rattle.horn.specs.Arising.{Declares, declares-none, declares-next}
 use Rattle.horn.specs.Longer.{longer}
-use Rattle.horn.proofs.Equality.{not-true, named-decides, some-of-member, at-member, at-longer, at-or-last}
-use Rattle.horn.proofs.Inversion.{none-some, ok-equal, afterᵣ, after-needᵣ, was-found, found-on}
+use Rattle.horn.proofs.Equality.{not-true, named-decides, chosen, some-of-false, at-member, at-longer, at-or-last}
+use Rattle.horn.proofs.Inversion.{none-some, ok-equal, afterᵣ, onᵣ, need-on, after-needᵣ, was-found, found-on}
 use Rattle.horn.proofs.Declaring.{Declared, sort-declared, symbol-declared, rule-declared, declaration-by, declares-last}
 use Rattle.horn.proofs.CompleteTheory.{first-longer}
 use Rattle.horn.proofs.LongerTokens.{followedBy, tokens-longer}
 use Rattle.horn.proofs.LongerTheory.{theory-followed}
 
 -- One list begins another: what it has stands there at the same places, and whatever else behind it.
-pub record Begins {A : Type 0} (xs ys : List A) : Type 0 where
+pub record Prefix {A : Type 0} (xs ys : List A) : Type 0 where
   pub behind : List A
   pub whole : ys ≡ xs ++ behind
 
-pub place-kept : {A : Type 0} {xs ys : List A} → Begins xs ys → (n : ℕ) {a : A} → getElem? xs n ≡ some a → getElem? ys n ≡ some a
+pub place-kept : {A : Type 0} {xs ys : List A} → Prefix xs ys → (n : ℕ) {a : A} → getElem? xs n ≡ some a → getElem? ys n ≡ some a
 place-kept {xs = xs} b n e = ap (λ zs. getElem? zs n) (b .whole) ∙ at-longer xs (b .behind) n e
 
-begins-same : {A : Type 0} (xs : List A) → Begins xs xs
-begins-same xs = record { behind = []; whole = sym (append-nil xs) }
+prefix-same : {A : Type 0} (xs : List A) → Prefix xs xs
+prefix-same xs = record { behind = []; whole = sym (append-nil xs) }
 
-begins-more : {A : Type 0} (xs : List A) {ys : List A} (a : A) → Begins (xs ++ (a ∷ [])) ys → Begins xs ys
-begins-more xs a b = record { behind = a ∷ b .behind; whole = b .whole ∙ append-assoc xs (a ∷ []) (b .behind) }
+prefix-more : {A : Type 0} (xs : List A) {ys : List A} (a : A) → Prefix (xs ++ (a ∷ [])) ys → Prefix xs ys
+prefix-more xs a b = record { behind = a ∷ b .behind; whole = b .whole ∙ append-assoc xs (a ∷ []) (b .behind) }
 
 -- Every declaration of the one theory keeps its place in the other.
-pub record Extends (th later : Theory) : Type 0 where
-  pub sorts-kept : Begins (th .sorts) (later .sorts)
-  pub symbols-kept : Begins (th .symbols) (later .symbols)
-  pub rules-kept : Begins (th .rules) (later .rules)
+pub record ExtendedBy (th later : Theory) : Type 0 where
+  pub sorts-kept : Prefix (th .sorts) (later .sorts)
+  pub symbols-kept : Prefix (th .symbols) (later .symbols)
+  pub rules-kept : Prefix (th .rules) (later .rules)
 
 -- A sort that was declared is behind those before it, and none of them has its name.
 after-sort {ℓ} : {C : Type ℓ} (th : Theory) (n : Sexp) {next : Theory} → declareSort th n ≡ ok next
@@ -51,40 +51,40 @@ after-sort th n e k =
     after-needᵣ _ _ _ e₂ λ p e₃.
     k name (ap (λ (t : Theory). t .sorts) (sym (ok-equal e₃))) (not-true _ p)
 
-declared-extends : {th next later : Theory} {n : Sexp} → Declared th n next → Extends next later → Extends th later
+declared-extends : {th next later : Theory} {n : Sexp} → Declared th n next → ExtendedBy next later → ExtendedBy th later
 declared-extends {th} {later = later} {n = n} (sort-declared e) x =
     after-sort th n e λ name at new.
     record {
-      sorts-kept = begins-more (th .sorts) name (subst (λ ss. Begins ss (later .sorts)) at (x .sorts-kept));
+      sorts-kept = prefix-more (th .sorts) name (subst (λ ss. Prefix ss (later .sorts)) at (x .sorts-kept));
       symbols-kept = x .symbols-kept;
       rules-kept = x .rules-kept;
     }
 declared-extends {th} (symbol-declared {name = name} ins out e f g) x =
     record {
       sorts-kept = x .sorts-kept;
-      symbols-kept = begins-more (th .symbols) (symbol name ins out) (x .symbols-kept);
+      symbols-kept = prefix-more (th .symbols) (symbol name ins out) (x .symbols-kept);
       rules-kept = x .rules-kept;
     }
 declared-extends {th} (rule-declared {name = name} xs j {q = q} {r = r} e₁ e₂ e f) x =
     record {
       sorts-kept = x .sorts-kept;
       symbols-kept = x .symbols-kept;
-      rules-kept = begins-more (th .rules) (rule name (r .1) (q .0) (r .0)) (x .rules-kept);
+      rules-kept = prefix-more (th .rules) (rule name (r .1) (q .0) (r .0)) (x .rules-kept);
     }
 
-declares-extend : {th later : Theory} {xs : Sexps} → Declares th xs later → Extends th later
+declares-extend : {th later : Theory} {xs : Sexps} → Declares th xs later → ExtendedBy th later
 declares-extend {th} declares-none =
-    record { sorts-kept = begins-same (th .sorts); symbols-kept = begins-same (th .symbols); rules-kept = begins-same (th .rules) }
+    record { sorts-kept = prefix-same (th .sorts); symbols-kept = prefix-same (th .symbols); rules-kept = prefix-same (th .rules) }
 declares-extend (declares-next {th} {x = x} e d) = declared-extends ((declaration-by th x e) .has-declared) (declares-extend d)
 
 -- So it is where what follows the tokens of a rulebook is read and declared without a refusal.
 pub followed-extends : (R text : List ℕ) (us : Stream Token) {th later : Theory} → theory R ≡ ok th → tokens text ≡ followedBy (tokens R) us
     → theory text ≡ ok later
-    → Extends th later
+    → ExtendedBy th later
 followed-extends R text us {th} e same e₁ =
     afterᵣ _ (sym (theory-followed R text us e same) ∙ e₁) λ xs e₂ e₃. declares-extend (declares-last xs th e₃)
 
-pub theory-extends : (R further : List ℕ) {th later : Theory} → theory R ≡ ok th → theory (longer R further) ≡ ok later → Extends th later
+pub theory-extends : (R further : List ℕ) {th later : Theory} → theory R ≡ ok th → theory (longer R further) ≡ ok later → ExtendedBy th later
 theory-extends R further e e₁ = followed-extends R (longer R further) (tokens further) e (tokens-longer R further) e₁
 
 -- At most one entry of a list passes a test.
@@ -92,19 +92,12 @@ abbrev pub AtOnePlace : {A : Type 0} → (A → Bool) → List A → Type 0
 AtOnePlace {A} test xs =
     (m n : ℕ) (a b : A) → getElem? xs m ≡ some a → getElem? xs n ≡ some b → test a ≡ true → test b ≡ true → m ≡ n
 
-new-place : {A : Type 0} (test : A → Bool) (xs : List A) {a c : A} (n : ℕ) → (test c ≡ true → someOf test xs ≡ false)
-    → getElem? xs n ≡ some a
-    → test a ≡ true
-    → test c ≡ true
-    → ⊥
-new-place test xs {a} n new e t u = true≢false (sym (some-of-member test xs a (at-member xs n e) t) ∙ new u)
-
 one-place-more : {A : Type 0} (test : A → Bool) (xs : List A) (c : A) → AtOnePlace test xs → (test c ≡ true → someOf test xs ≡ false)
     → AtOnePlace test (xs ++ (c ∷ []))
 one-place-more test xs c one new m n a b e f t u =
     at-or-last xs m e
-    (λ e₁. at-or-last xs n f (λ f₁. one m n a b e₁ f₁ t u) (λ p q. absurd (new-place test xs m new e₁ t (sym (ap test q) ∙ u))))
-    (λ p q. at-or-last xs n f (λ f₁. absurd (new-place test xs n new f₁ u (sym (ap test q) ∙ t))) (λ p₁ q₁. p ∙ sym p₁))
+    (λ e₁. at-or-last xs n f (λ f₁. one m n a b e₁ f₁ t u) (λ p q. absurd (true≢false (sym t ∙ some-of-false test xs (new (sym (ap test q) ∙ u)) a (at-member xs m e₁)))))
+    (λ p q. at-or-last xs n f (λ f₁. absurd (true≢false (sym u ∙ some-of-false test xs (new (sym (ap test q) ∙ t)) b (at-member xs n f₁)))) (λ p₁ q₁. p ∙ sym p₁))
 
 none-there : {A : Type 0} (test : Name → A → Bool) (name : Name) → AtOnePlace (test name) []
 none-there test name m n a b e f t u = none-some e
@@ -122,10 +115,10 @@ named-more test xs c own only new one name =
 
 -- No two sorts, constructors, predicates or rules have one name.
 pub record DistinctNames (th : Theory) : Type 0 where
-  pub one-sort : (name : Name) → AtOnePlace (named name) (th .sorts)
-  pub one-constructor : (name : Name) → AtOnePlace (isConstructor name) (th .symbols)
-  pub one-predicate : (name : Name) → AtOnePlace (isPredicate name) (th .symbols)
-  pub one-rule : (name : Name) → AtOnePlace (isRule name) (th .rules)
+  pub sort-once : (name : Name) → AtOnePlace (named name) (th .sorts)
+  pub constructor-once : (name : Name) → AtOnePlace (isConstructor name) (th .symbols)
+  pub predicate-once : (name : Name) → AtOnePlace (isPredicate name) (th .symbols)
+  pub rule-once : (name : Name) → AtOnePlace (isRule name) (th .rules)
 
 by-name : (own name : Name) → named name own ≡ true → name ≡ own
 by-name own name t = named-decides .equal name own t
@@ -145,25 +138,25 @@ unfolding isRule
 declared-distinct {th} {n = n} d (sort-declared e) =
     after-sort th n e λ name at new.
     record {
-      one-sort = λ m. subst (AtOnePlace (named m)) (sym at) (named-more named (th .sorts) name name (by-name name) (λ t. new) (d .one-sort) m);
-      one-constructor = d .one-constructor;
-      one-predicate = d .one-predicate;
-      one-rule = d .one-rule;
+      sort-once = λ m. subst (AtOnePlace (named m)) (sym at) (named-more named (th .sorts) name name (by-name name) (λ t. new) (d .sort-once) m);
+      constructor-once = d .constructor-once;
+      predicate-once = d .predicate-once;
+      rule-once = d .rule-once;
     }
 declared-distinct {th} d (symbol-declared {name = name} ins out e f g) =
     let c = symbol name ins out in
     record {
-      one-sort = d .one-sort;
-      one-constructor = named-more isConstructor (th .symbols) c name (constructor-by-name name ins out) f (d .one-constructor);
-      one-predicate = named-more isPredicate (th .symbols) c name (predicate-by-name name ins out) g (d .one-predicate);
-      one-rule = d .one-rule;
+      sort-once = d .sort-once;
+      constructor-once = named-more isConstructor (th .symbols) c name (constructor-by-name name ins out) f (d .constructor-once);
+      predicate-once = named-more isPredicate (th .symbols) c name (predicate-by-name name ins out) g (d .predicate-once);
+      rule-once = d .rule-once;
     }
 declared-distinct {th} d (rule-declared {name = name} xs j {q = q} {r = r} e₁ e₂ e f) =
     record {
-      one-sort = d .one-sort;
-      one-constructor = d .one-constructor;
-      one-predicate = d .one-predicate;
-      one-rule = named-more isRule (th .rules) (rule name (r .1) (q .0) (r .0)) name (by-name name) (λ t. f) (d .one-rule);
+      sort-once = d .sort-once;
+      constructor-once = d .constructor-once;
+      predicate-once = d .predicate-once;
+      rule-once = named-more isRule (th .rules) (rule name (r .1) (q .0) (r .0)) name (by-name name) (λ t. f) (d .rule-once);
     }
 
 declares-distinct : {th later : Theory} {xs : Sexps} → DistinctNames th → Declares th xs later → DistinctNames later
@@ -177,20 +170,36 @@ theory-distinct rulebook e =
     afterᵣ _ e λ xs e₁ e₂.
     declares-distinct
     record {
-      one-sort = none-there named;
-      one-constructor = none-there isConstructor;
-      one-predicate = none-there isPredicate;
-      one-rule = none-there isRule;
+      sort-once = none-there named;
+      constructor-once = none-there isConstructor;
+      predicate-once = none-there isPredicate;
+      rule-once = none-there isRule;
     }
     (declares-last xs emptyTheory e₂)
 
 -- Looking a known name up gives the same.
-known : {A : Type 0} (test : A → Bool) {xs ys : List A} → Begins xs ys → (r : Refusal) {a : A} → found (first test xs) r ≡ ok a
+known : {A : Type 0} (test : A → Bool) {xs ys : List A} → Prefix xs ys → (r : Refusal) {a : A} → found (first test xs) r ≡ ok a
     → found (first test ys) r ≡ ok a
 known test {xs} b r e =
     was-found (first test xs) r e λ f. found-on r (ap (first test) (b .whole) ∙ first-longer test xs (b .behind) f)
 
-module _ {th later : Theory} (x : Extends th later) where
+some-longer : {A : Type 0} (test : A → Bool) (xs ys : List A) → someOf test xs ≡ true → someOf test (xs ++ ys) ≡ true
+unfolding someOf
+some-longer test [] ys e = absurd (true≢false (sym e))
+some-longer test (x ∷ xs) ys e =
+    chosen (test x) e (λ t q. rw (t, someOf)) (λ t q. rw (t, someOf) (some-longer test xs ys q))
+
+module _ {th later : Theory} (x : ExtendedBy th later) where
+  -- Goals and certificate name no sort; the declarations of the further text do.
+  pub sort-known : (n : Sexp) (name : Name) → sortNamed th n ≡ ok name → sortNamed later n ≡ ok name
+  unfolding sortNamed
+  sort-known n name e =
+      afterᵣ _ e λ m e₁ e₂.
+      after-needᵣ _ _ _ e₂ λ p e₃.
+      onᵣ _ e₁
+      ∙ onᵣ _ (need-on _ (ap (someOf (named m)) (x .sorts-kept .whole) ∙ some-longer (named m) (th .sorts) (x .sorts-kept .behind) p))
+      ∙ e₃
+
   pub constructor-known : (name : Name) (c : Symbol) → constructor th name ≡ ok c → constructor later name ≡ ok c
   unfolding constructor
   constructor-known name c e = known (isConstructor name) (x .symbols-kept) _ e

@@ -1,7 +1,7 @@
 -- What is read, matched or built without a refusal under a theory is so under every theory that extends it, and comes to the same: the same
 -- value, the same store, the same requests. Only look-ups of names ask for the theory.
 use Prim.Native.Nat.{ℕ, suc}
-use mathlib.Core.Path.{_≡_, refl, ap, subst, _∙_}
+use mathlib.Core.Path.{_≡_, ap, _∙_}
 use mathlib.Core.Bool.{Bool, true, false}
 use mathlib.Core.List.{List, []}
 use mathlib.Core.Option.{none, some}
@@ -11,14 +11,14 @@ use Rattle.horn.specs.Names.{Name, questioned}
 use Rattle.horn.specs.NestedLists.{Item, word, group, Items, closed, ended, badLine, _then_, items}
 use Rattle.horn.specs.Tokens.{tokens}
 use Rattle.horn.specs.Rulebook.{Rule, Theory}
-use Rattle.horn.specs.StoredTerms.{Term, Terms, Store}
+use Rattle.horn.specs.StoredTerms.{Store}
 use Rattle.horn.specs.Checker
-use Rattle.horn.specs.Checker.{Reading, _>>=_, give, lift, Def, Goal}
+use Rattle.horn.specs.Checker.{Reading, _>>=_, lift, Def, Goal}
 use Rattle.horn.specs.Matching.{Step}
 use Rattle.horn.specs.Certificate
 use Rattle.horn.specs.Certificate.{Progress, Given, given, FormWord, stepWord, resultWord, defWord, otherForm}
 use Rattle.horn.proofs.Inversion.{after, on, lifted, lift-on}
-use Rattle.horn.proofs.LongerNames.{Extends, constructor-known, predicate-known, rule-known}
+use Rattle.horn.proofs.LongerNames.{ExtendedBy, constructor-known, predicate-known, rule-known}
 
 -- Where the first reading is not refused, the second comes to the same.
 pub record Alike {A : Type 0} (m m′ : Reading A) : Type 0 where
@@ -43,7 +43,7 @@ either-alike : {A : Type 0} (b : Bool) {x y x′ y′ : Reading A} → Alike x x
 either-alike true p q = p
 either-alike false p q = q
 
-module _ (limits : Setting) {th later : Theory} (x : Extends th later) where
+module _ (limits : Setting) {th later : Theory} (x : ExtendedBy th later) where
   -- Terms, judgments and goals.
   atom-alike : (defs : List Def) (name : Name) → Alike (Checker.atomTerm limits th defs name) (Checker.atomTerm limits later defs name)
   unfolding Checker.atomTerm
@@ -81,9 +81,9 @@ module _ (limits : Setting) {th later : Theory} (x : Extends th later) where
         then-alike (arguments-alike rest defs depth) λ ts.
         same _
 
-  asked-alike : (defs : List Def) (depth : ℕ) (is : Items) → Alike (Checker.askTerm limits th defs depth is) (Checker.askTerm limits later defs depth is)
+  asked-term-alike : (defs : List Def) (depth : ℕ) (is : Items) → Alike (Checker.askTerm limits th defs depth is) (Checker.askTerm limits later defs depth is)
   unfolding Checker.askTerm
-  asked-alike defs depth is = same-then _ λ p. then-alike (term-alike (p .0) defs depth) λ t. same _
+  asked-term-alike defs depth is = same-then _ λ p. then-alike (term-alike (p .0) defs depth) λ t. same _
 
   judgment-alike : (defs : List Def) (depth : ℕ) (name : Name) (rest : Items)
       → Alike (Checker.headedJudgment limits th defs depth name rest) (Checker.headedJudgment limits later defs depth name rest)
@@ -127,7 +127,7 @@ module _ (limits : Setting) {th later : Theory} (x : Extends th later) where
       → Alike (Certificate.bindingItem limits th defs r name is so-far) (Certificate.bindingItem limits later defs r name is so-far)
   unfolding Certificate.bindingItem
   binding-alike defs r name is (given binds stated) =
-      same-then _ λ v. then-alike (asked-alike defs 2 is) λ p. same _
+      same-then _ λ v. then-alike (asked-term-alike defs 2 is) λ p. same _
 
   conclusion-alike : (defs : List Def) (name : Name) (is : Items) (so-far : Given)
       → Alike (Certificate.conclusionItem limits th defs name is so-far) (Certificate.conclusionItem limits later defs name is so-far)
@@ -178,7 +178,7 @@ module _ (limits : Setting) {th later : Theory} (x : Extends th later) where
   def-alike now is =
       same-then _ λ p.
       same-then _ λ u.
-      then-alike (asked-alike (now .defs) 1 (p .1)) λ q.
+      then-alike (asked-term-alike (now .defs) 1 (p .1)) λ q.
       same _
 
   result-alike : (now : Progress) (is : Items) → Alike (Certificate.resultForm limits th now is) (Certificate.resultForm limits later now is)

@@ -2,18 +2,17 @@
 -- atom or a comment that the first text ends in. Where the first text has a bad line, nothing behind that is read.
 use Prim.Native.Nat.{ℕ, _*_, _+_, _-_}
 use mathlib.Core.Path.{_≡_, refl, sym, ap, _∙_}
-use mathlib.Core.Bool.{true, false}
 use mathlib.Core.List.{List, [], _∷_, _++_}
-use mathlib.Core.Option.{Option, none, some, Option·map}
+use mathlib.Core.Option.{Option, none, some, Option·map, map-map}
 use lib.Dec.{eqb}
-use Rattle.horn.specs.Utf8.{Range, within, Sequence, sequence, tail, sequences, startedBy, Char, char, resumed, decoded}
+use Rattle.horn.specs.Utf8.{Range, within, Sequence, sequence, sequences, startedBy, Char, char, resumed, decoded}
 use Rattle.horn.specs.Tokens.{Stream, end, bad, _▹_, before, ontoFirstLine, lines, characters, kind, white, whiteRanges, inSome}
-use Rattle.horn.specs.Tokens.{Token, Place, between, inComment, inAtom, begins, continues, endsComment, move, unended, tokensFrom, tokens}
+use Rattle.horn.specs.Tokens.{Place, between, inComment, inAtom, begins, continues, endsComment, move, unended, tokensFrom, tokens}
 use Rattle.horn.specs.Longer.{longer}
 use Rattle.horn.proofs.Equality.{case}
 use Rattle.horn.proofs.Inversion.{case-option}
-use Rattle.horn.proofs.CompleteUtf8.{All, resumed-done, decoded-begun}
-use Rattle.horn.proofs.CompleteLines.{before-append, Inner, inner, headLine, tailLines, onto-parts}
+use Rattle.horn.proofs.CompleteUtf8.{All, resumed-done}
+use Rattle.horn.proofs.CompleteLines.{before-append, Inner, inner, headLine, tailLines, onto-parts, characters-first, characters-bad}
 
 -- One stream behind another. A stream that breaks off at a bad line has nothing behind it.
 unfoldable pub followedBy : {A : Type 0} → Stream A → Stream A → Stream A
@@ -27,16 +26,12 @@ followed-before [] t s = refl
 followed-before (x ∷ xs) t s = ap (x ▹_) (followed-before xs t s)
 
 -- The character 0A.
-abbrev newline : Char
-newline = char (0x0A ∷ []) 0x0A
+abbrev newlineChar : Char
+newlineChar = char (0x0A ∷ []) 0x0A
 
 -- Bytes with a 0A behind them are UTF-8 exactly if they are so without it, and then have this one character more.
 abbrev withNewline : Option (List Char) → Option (List Char)
-withNewline o = Option·map (λ cs. cs ++ (newline ∷ [])) o
-
-front-newline : (o : Option (List Char)) (c : Char) → Option·map (λ cs. c ∷ cs) (withNewline o) ≡ withNewline (Option·map (λ cs. c ∷ cs) o)
-front-newline none c = refl
-front-newline (some cs) c = refl
+withNewline o = Option·map (λ cs. cs ++ (newlineChar ∷ [])) o
 
 case-sequence {ℓ} : {C : Type ℓ} (o : Option Sequence) → (o ≡ none → C)
     → ((a : Range) (m : ℕ) (r : List Range) → o ≡ some (sequence a m r) → C)
@@ -65,7 +60,8 @@ resumed-newline (b ∷ bs) taken value (r ∷ rs) i =
 resumed-newline (b ∷ bs) taken value [] i =
     resumed-done taken value (b ∷ bs ++ (0x0A ∷ []))
     ∙ ap (Option·map (λ cs. char taken value ∷ cs)) (begun-newline b bs (λ m r. resumed-newline bs (b ∷ []) (b - m) r))
-    ∙ front-newline (decoded (b ∷ bs)) (char taken value)
+    ∙ map-map (λ cs. char taken value ∷ cs) (λ cs. cs ++ (newlineChar ∷ [])) (decoded (b ∷ bs))
+    ∙ sym (map-map (λ cs. cs ++ (newlineChar ∷ [])) (λ cs. char taken value ∷ cs) (decoded (b ∷ bs)))
     ∙ ap withNewline (sym (resumed-done taken value (b ∷ bs)))
 
 decoded-newline : (bs : List ℕ) → decoded (bs ++ (0x0A ∷ [])) ≡ withNewline (decoded bs)
@@ -83,21 +79,21 @@ unfolding ontoLine ontoFirstLine
 onto-line b [] ls = onto-parts b ls
 onto-line b (c ∷ bs) ls = ap (ontoFirstLine b) (onto-line c bs ls)
 
--- The lines of a text, and those of the same text with another directly behind it: this goes on with the last line, if nothing ends that.
+-- The lines of a text, and those of the same text with another directly behind it, which continues the last line unless a 0A ends that.
 pub data Joined (further : List ℕ) : List (List ℕ) → List (List ℕ) → Type 0 where
-  at-line : Joined further [] (lines further)
-  in-line : (b : ℕ) (line : List ℕ) → Joined further ((b ∷ line) ∷ []) (ontoLine (b ∷ line) (lines further))
+  behind-lines : Joined further [] (lines further)
+  within-line : (b : ℕ) (line : List ℕ) → Joined further ((b ∷ line) ∷ []) (ontoLine (b ∷ line) (lines further))
   next-line : (line : List ℕ) {ls ms : List (List ℕ)} → Joined further ls ms → Joined further (line ∷ ls) (line ∷ ms)
 
 joined-onto : {further : List ℕ} (b : ℕ) {ls ms : List (List ℕ)} → Joined further ls ms → Joined further (ontoFirstLine b ls) (ontoFirstLine b ms)
 unfolding ontoFirstLine ontoLine
-joined-onto b at-line = in-line b []
-joined-onto b (in-line c line) = in-line b (c ∷ line)
+joined-onto b behind-lines = within-line b []
+joined-onto b (within-line c line) = within-line b (c ∷ line)
 joined-onto b (next-line line j) = next-line (b ∷ line) j
 
 pub lines-joined : (text further : List ℕ) → Joined further (lines text) (lines (text ++ further))
 unfolding lines
-lines-joined [] further = at-line
+lines-joined [] further = behind-lines
 lines-joined (b ∷ bs) further =
     case (eqb b 0x0A)
     (λ n. rw (n, lines) (next-line (b ∷ []) (lines-joined bs further)))
@@ -105,32 +101,40 @@ lines-joined (b ∷ bs) further =
 
 -- Behind a 0A the characters of the further text follow, whatever line the 0A ends.
 characters-ended : {further : List ℕ} {ls ms : List (List ℕ)} → Joined (0x0A ∷ further) ls ms
-    → characters ms ≡ followedBy (characters ls) (newline ▹ characters (lines further))
+    → characters ms ≡ followedBy (characters ls) (newlineChar ▹ characters (lines further))
 unfolding characters followedBy before decoded resumed startedBy sequences within lines headLine tailLines
-characters-ended at-line = refl
-characters-ended {further} (in-line b line) =
+characters-ended behind-lines = refl
+characters-ended {further} (within-line b line) =
     ap characters (onto-line b line (lines (0x0A ∷ further)))
     ∙ case-option (decoded (b ∷ line))
-    (λ n. rw (decoded-newline (b ∷ line), n, characters))
+    (λ n.
+    characters-bad (b ∷ line ++ (0x0A ∷ [])) (lines further) (decoded-newline (b ∷ line) ∙ ap withNewline n)
+    ∙ ap (λ s. followedBy s (newlineChar ▹ characters (lines further))) (sym (characters-bad (b ∷ line) [] n)))
     (λ cs e.
-    rw (decoded-newline (b ∷ line), e, characters)
-    (before-append cs (newline ∷ []) (characters (lines further)) ∙ sym (followed-before cs end (newline ▹ characters (lines further)))))
+    characters-first (b ∷ line ++ (0x0A ∷ [])) (lines further) (decoded-newline (b ∷ line) ∙ ap withNewline e)
+    ∙ before-append cs (newlineChar ∷ []) (characters (lines further))
+    ∙ sym (followed-before cs end (newlineChar ▹ characters (lines further)))
+    ∙ ap (λ s. followedBy s (newlineChar ▹ characters (lines further))) (sym (characters-first (b ∷ line) [] e)))
 characters-ended {further} (next-line line {ls} {ms} h) =
     case-option (decoded line)
-    (λ n. rw (n, characters))
+    (λ n.
+    characters-bad line ms n
+    ∙ ap (λ s. followedBy s (newlineChar ▹ characters (lines further))) (sym (characters-bad line ls n)))
     (λ cs e.
-    rw (e, characters)
-    (ap (before cs) (characters-ended h) ∙ sym (followed-before cs (characters ls) (newline ▹ characters (lines further)))))
+    characters-first line ms e
+    ∙ ap (before cs) (characters-ended h)
+    ∙ sym (followed-before cs (characters ls) (newlineChar ▹ characters (lines further)))
+    ∙ ap (λ s. followedBy s (newlineChar ▹ characters (lines further))) (sym (characters-first line ls e)))
 
 -- Wherever a reader stands, a 0A behind the text does what the text's end does, and the reader stands between tokens behind it.
-tokens-newline : (place : Place) (s : Stream Char) → tokensFrom place (newline ▹ s) ≡ before (unended place) (tokensFrom between s)
+tokens-newline : (place : Place) (s : Stream Char) → tokensFrom place (newlineChar ▹ s) ≡ before (unended place) (tokensFrom between s)
 unfolding tokensFrom move begins continues endsComment kind white whiteRanges inSome within unended before
 tokens-newline between s = refl
 tokens-newline inComment s = refl
 tokens-newline (inAtom bs) s = refl
 
 tokens-followed : (s : Stream Char) (place : Place) (further : Stream Char)
-    → tokensFrom place (followedBy s (newline ▹ further)) ≡ followedBy (tokensFrom place s) (tokensFrom between further)
+    → tokensFrom place (followedBy s (newlineChar ▹ further)) ≡ followedBy (tokensFrom place s) (tokensFrom between further)
 unfolding followedBy tokensFrom
 tokens-followed end place further =
     tokens-newline place further ∙ sym (followed-before (unended place) end (tokensFrom between further))

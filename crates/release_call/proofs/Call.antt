@@ -13,7 +13,7 @@ use Rattle.horn.specs.Demand3.{Sound, Complete}
 use Rattle.horn.specs.Longer.{Kept}
 use Rattle.horn.proofs.Soundness.{sound}
 use Rattle.horn.proofs.Complete.{complete-01}
-use Rattle.horn.proofs.Longer.{kept}
+use Rattle.horn.proofs.Longer.{longer-kept}
 use Rattle.checker.specs.Checker as walk
 use Rattle.checker_laws.proofs.Lengths.{read-judged}
 use Rattle.reports.proofs.ReleaseReported.{reported, release-reported}
@@ -42,8 +42,10 @@ module _ (rulebook goals certificate a b c d : List ℕ) where
     rw e h,
     rw (← e) (
       sound document01 (length a) (length b) (length c) (length d) rulebook goals certificate,
-      complete-01 (length a) (length b) (length c) (length d) rulebook goals certificate,
-      kept document01 (length a) (length b) (length c) (length d) rulebook goals certificate,
+      (
+        complete-01 (length a) (length b) (length c) (length d) rulebook goals certificate,
+        longer-kept document01 (length a) (length b) (length c) (length d) rulebook goals certificate,
+      ),
     ),
   )
 
