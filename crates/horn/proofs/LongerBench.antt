@@ -88,7 +88,7 @@ pub not-accepted-alone : NotAcceptedAlone
 unfolding openAll R G C brokenOff itsRest longer
 not-accepted-alone = record { part = refl; whole = refl; under-part = refl; under-whole = refl }
 
--- "Let R, a new line and further text be accepted too": else the release is refused as the longer rulebook is, by a name declared twice or by
+-- "R, a new line and further text be accepted too": else the release is refused as the longer rulebook is, by a name declared twice or by
 -- its length.
 pub record LongerNotAccepted : Type 0 where
   pub declared-twice : released (longer R (codes "(sort t)")) G C ≡ report 13 0 0 0 0 0
@@ -119,7 +119,7 @@ pub record NoNewLine : Type 0 where
   -- or what stands on the next line lacks it: an old release is refused with the rulebook
   pub sort-read : released (longer commented twoLines) G C ≡ report 0 2 1 4 48 7
   pub sort-swallowed : released (commented ++ twoLines) G C ≡ report 12 0 0 0 0 0
-  -- where the rulebook is accepted all the same, so is the old release (`directly-extends` in Longer)
+  -- where the rulebook is accepted all the same, so is the old release (`directly-prolongs` in Longer)
   pub kept-directly : released (commented ++ codes "(rule any () (hold ?y))") G C ≡ report 0 2 1 4 48 7
 
 pub no-new-line : NoNewLine
