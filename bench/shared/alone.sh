@@ -1,17 +1,19 @@
-# alone NAME TREE EXPORTS CRATE..: these crates of a tree, in a repository of their own under target/bench, with a crate NAME of exports, so that
-# no crate of the gate has them; SIDE in the exports is NAME, BITS is $bits. What is proved of the crates here is taken along. Wants $root and $out.
+# alone NAME TREE EXPORTS CRATE..: these crates of a tree, in a repository of their own, with a crate NAME of exports, so that
+# no crate of the gate has them; SIDE in the exports is NAME, BITS is $bits. The repository is made
+# outside this one, since rt ci refuses a second crates.txt, and goes again; libNAME.a stays in target/bench/NAME. Wants $root and $out.
 alone() {
     name=$1 tree=$2 exports=$3
     shift 3
-    repository=$out/$name
-    rm -rf "$repository"
-    mkdir -p "$repository/crates/$name/src" "$repository/target"
-    for kept in rlib stamp log; do cp -a "$root/target/$kept" "$repository/target/" 2>/dev/null || true; done
+    repository=$(mktemp -d)
+    rm -rf "${out:?}/$name"
+    mkdir -p "$repository/crates/$name/src" "$out/$name"
     for crate in "$@"; do
-        cp -R "$tree/crates/$crate" "$repository/crates/$crate"
+        (cd "$tree" && tar -cf - --exclude=out "crates/$crate") | (cd "$repository" && tar -xf -)
         grep "^$crate:" "$tree/crates.txt" >> "$repository/crates.txt"
     done
-    echo "$name: $*" >> "$repository/crates.txt"
+    echo "$name staticlib: $*" >> "$repository/crates.txt"
     sed -e "s/SIDE/$name/g" -e "s/BITS/${bits:-}/g" "$exports" > "$repository/crates/$name/src/lib.rt"
-    (cd "$repository" && "$root/.ci/in-memory" rt staticlib "$name" >&2)
+    (cd "$repository/crates/$name" && "$root/.ci/in-memory" rt lib >&2)
+    cp "$repository/crates/$name/out/lib$name.a" "$out/$name/"
+    rm -rf "$repository"
 }

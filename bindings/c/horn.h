@@ -1,5 +1,5 @@
 /*
- * The three calls: see ../../README.md. Link libkernel.a, which `rt staticlib kernel` writes: code for any x86-64 processor
+ * The three calls: see ../../README.md. Link libkernel.a, which `.ci/library kernel` writes: code for any x86-64 processor
  * (SSE2, no later extension), by the System V calling convention, in an ELF archive. Of other libraries it needs two functions
  * of C, memset and memcpy. It has no variables, so calls with areas of their own may run at the same time on several threads.
  */

@@ -1,4 +1,4 @@
-//! Links libkernel.a, from HORN_LIBRARY or from where `rt staticlib kernel` writes it.
+//! Links libkernel.a, from HORN_LIBRARY or from where `.ci/library kernel` writes it.
 fn main() {
     let own = std::env::var("CARGO_MANIFEST_DIR").expect("cargo sets it");
     let library = std::env::var("HORN_LIBRARY").unwrap_or(format!("{own}/../../target/staticlib"));

@@ -2,7 +2,9 @@
 
 // A report of a call, or one that is stated. The call with the rulebook alone has four counts: its fifth is 0, and is not written. The call that
 // writes the page has one, the length.
-#[derive(Drop)]
+#![tactic(auto)]
+
+#[derive(Clone, Copy)]
 pub struct Answer {
     pub number: u32,
     pub first: u32,

@@ -1,4 +1,6 @@
 // Areas before and after a call: words that no call writes by itself, and the test that they are as document 01 says.
+#![tactic(auto)]
+
 ghost use Rattle.std.specs.Prelude.{◌≡◌, length};
 ghost use Rattle.areas.specs.Filling.{filled, due, area_held, all_held};
 
@@ -25,7 +27,7 @@ pub fn ones() -> Before {
 }
 
 // How many words of each area are lent.
-#[derive(Drop)]
+#[derive(Clone, Copy)]
 pub struct Lengths {
     pub first: u32,
     pub second: u32,

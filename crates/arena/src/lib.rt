@@ -1,4 +1,6 @@
 // Nodes, each stored once and named by its number, in one lent area. Limits are parameters, and any area is survived.
+#![tactic(auto)]
+
 ghost use Rattle.std.specs.Prelude.{◌≡◌, ℕ, ◌+◌, ◌%◌, ◌<◌, get_or};
 ghost use Rattle.arena.specs.Probing.{probe, start_place};
 ghost use Rattle.arena.specs.Store.{place_at, count, is_key, added_answer, added_area};
@@ -13,7 +15,7 @@ enum Probe {
 }
 
 // The answer to a node: its number, of a node held before or of a new one, or that the store has no room for it.
-#[derive(Drop)]
+#[derive(Clone, Copy)]
 pub enum Answer {
     Found(u32),
     Made(u32),

@@ -1,5 +1,7 @@
 // Fills a store to exactly 2,048 nodes, and another to exactly 8,192 words, over areas that held garbage, with keys that start
 // at the index's last places and walk on at its first. What it writes is that of a list searched from its start.
+#![tactic(auto)]
+
 const NODES: u32 = 2048;
 
 const LIMIT: u32 = 8192;

@@ -1,5 +1,7 @@
 // What is asked of a reader in goals and certificate. They are not read whole before: they may end or go bad anywhere.
 // "All members are asked for as above." How deep an item may be is told by `left`: 257 less the depth that it is asked for at.
+#![tactic(auto)]
+
 ghost use Rattle.std.specs.Prelude.{◌≡◌};
 ghost use Rattle.outcomes.specs.Outcomes.{refusal};
 ghost use Rattle.asking.specs.Asking.{met, named, passed, looked, begun, item_due, atom_due, list_due, closing_due, closing_next, form_due};

@@ -29,6 +29,7 @@ use Rattle.words.proofs.Laws.{part-length}
 use Rattle.asking.specs.Asking as asked
 use Rattle.asking.specs.Asking.{Met, Ahead, Top, item_due, atom_due, list_due, closing_due, closing_next, form_due}
 use Rattle.asking_laws.proofs.Places.{Begins, Comes, RestComes, At}
+use Rattle.asking_laws.proofs.Taken.{Got, got_opening, got_closing, got_atom, got}
 
 -- "Asking for an item at depth 257 is refusal 4, before its token is taken": the code counts down, the definition up.
 pub asked_at_lem : {A B : Type 0} {Q : A → B → Type 0} {o : Outcome A} {m : Result B} (left depth : ℕ) → depth + left ≡ 257 → Answers Q o m
@@ -46,27 +47,10 @@ bind_answers f g (both_refuse e) k = both_refuse e
 bind_answers f g (both_ok q) k = k _ _ q
 
 module _ (text : List ℕ) where
-  -- A token that comes was taken: the reader stands behind it. An atom spends two bytes at least.
-  data Got (K : Stream Token → Type 0) (n : ℕ) : Token → lexed.Answer → Type 0 where
-    got_opening : {q : Reader} → At text K n q → q.ahead ≡ Nothing → Got K n opening (lexed.token Opening q)
-    got_closing : {q : Reader} → At text K n q → Got K n closing (lexed.token Closing q)
-    got_atom : {a b : ℕ} {q : Reader} {bytes : List ℕ} → part a b text ≡ bytes → a < b → b ≤ length text → At text K (n + 2) q
-        → Got K n (atom bytes) (lexed.token (Atom a b) q)
-
-  got : {K : Stream Token → Type 0} {n : ℕ} (t : Token) (u : Stream Token) (a : lexed.Answer) → K u
-      → n + weight (t ▹ u) ≤ suc (length text) → Takes text (t ▹ u) a → Got K n t a
-  unfolding weight
-  got opening u a k l (take_opening st bare) = got_opening record { coming = u; stands = st; here = k; light = l } bare
-  got closing u a k l (take_closing st) = got_closing record { coming = u; stands = st; here = k; light = l }
-  got (atom bytes) u a k l (take_atom {a = s} {b = t} st e g h) =
-      let z : length bytes ≡ length (part s t text) = ap length (sym e) in
-      let y = part-length s t text h in
-      got_atom e g h record { coming = u; stands = st; here = k; light = omega arith }
-
-  token_got : {K : Stream Token → Type 0} {n : ℕ} {r : Reader} (t : Token) → At text (Begins t K) n r → Got K n t (lexed.taken text r)
+  token_got : {K : Stream Token → Type 0} {n : ℕ} {r : Reader} (t : Token) → At text (Begins t K) n r → Got text K n t (lexed.taken text r)
   token_got {K} {n} {r} t a =
       let b = a.here in
-      got t b.others (lexed.taken text r) b.on (rw b.next at a.light)
+      got text t b.others (lexed.taken text r) b.on (rw b.next at a.light)
       (rw b.next at (takes text r a.coming a.stands))
 
   end-taken : {n : ℕ} {r : Reader} → At text (λ s. s ≡ end) n r → lexed.taken text r ≡ lexed.ended
@@ -97,15 +81,15 @@ module _ (text : List ℕ) where
         → Answers ItemMet (item_due text left r) (definition.ask depth is)
     unfolding item_due definition.ask absent RestComes Comes number
     item_law closed left depth {r} e a = asked_at_lem left depth e (by (token_got closing a)) where
-      by : {b : lexed.Answer} → Got K n closing b → Answers ItemMet (asked.item_from b) (refusals.refused stray_closing)
+      by : {b : lexed.Answer} → Got text K n closing b → Answers ItemMet (asked.item_from b) (refusals.refused stray_closing)
       by (got_closing h) = both_refuse refl
     item_law ended left depth {r} e a = asked_at_lem left depth e (rw (end-taken a) (both_refuse refl))
     item_law bad_line left depth {r} e a = asked_at_lem left depth e (rw (bad-taken a) (both_refuse refl))
     item_law (word name then rest) left depth {r} e a = asked_at_lem left depth e (by (token_got (atom name) a)) where
-      by : {b : lexed.Answer} → Got (RestComes rest K) n (atom name) b → Answers ItemMet (asked.item_from b) (refusals.ok (word name, rest))
+      by : {b : lexed.Answer} → Got text (RestComes rest K) n (atom name) b → Answers ItemMet (asked.item_from b) (refusals.ok (word name, rest))
       by (got_atom p l u h) = both_ok (atom_met p l u h)
     item_law (group inner then rest) left depth {r} e a = asked_at_lem left depth e (by (token_got opening a)) where
-      by : {b : lexed.Answer} → Got (RestComes inner (RestComes rest K)) n opening b → Answers ItemMet (asked.item_from b) (refusals.ok (group inner, rest))
+      by : {b : lexed.Answer} → Got text (RestComes inner (RestComes rest K)) n opening b → Answers ItemMet (asked.item_from b) (refusals.ok (group inner, rest))
       by (got_opening h bare) = both_ok (list_met h bare)
 
     -- Where an atom is due, and where a list is.
@@ -132,16 +116,16 @@ module _ (text : List ℕ) where
         → Answers (λ (q : Reader) (x : Unit {0}). At text K n q) (closing_due text r) (definition.closing_due is)
     unfolding closing_due definition.closing_due RestComes Comes number
     closing_law closed a = by (token_got closing a) where
-      by : {b : lexed.Answer} → Got K n closing b → Answers (λ (q : Reader) (x : Unit {0}). At text K n q) (asked.closed_from b) (refusals.ok tt)
+      by : {b : lexed.Answer} → Got text K n closing b → Answers (λ (q : Reader) (x : Unit {0}). At text K n q) (asked.closed_from b) (refusals.ok tt)
       by (got_closing h) = both_ok h
     closing_law ended a = rw (end-taken a) (both_refuse refl)
     closing_law bad_line a = rw (bad-taken a) (both_refuse refl)
     closing_law (word name then rest) a = by (token_got (atom name) a) where
-      by : {b : lexed.Answer} → Got (RestComes rest K) n (atom name) b
+      by : {b : lexed.Answer} → Got text (RestComes rest K) n (atom name) b
           → Answers (λ (q : Reader) (x : Unit {0}). At text K n q) (asked.closed_from b) (refusals.refused excess)
       by (got_atom p l u h) = both_refuse refl
     closing_law (group inner then rest) a = by (token_got opening a) where
-      by : {b : lexed.Answer} → Got (RestComes inner (RestComes rest K)) n opening b
+      by : {b : lexed.Answer} → Got text (RestComes inner (RestComes rest K)) n opening b
           → Answers (λ (q : Reader) (x : Unit {0}). At text K n q) (asked.closed_from b) (refusals.refused excess)
       by (got_opening h bare) = both_refuse refl
 
@@ -203,13 +187,13 @@ module _ (text : List ℕ) where
     pub form_law : (is : Items) {r : Reader} → At text (RestComes is K) n r → FormMet is (form_due text r)
     unfolding form_due RestComes Comes
     form_law closed a = by (token_got closing a) where
-      by : {b : lexed.Answer} → Got K n closing b → FormMet closed (asked.form_from b)
+      by : {b : lexed.Answer} → Got text K n closing b → FormMet closed (asked.form_from b)
       by (got_closing h) = form_closing
     form_law ended a = rw (end-taken a) form_over
     form_law bad_line a = rw (bad-taken a) form_bad
     form_law (word name then rest) a = by (token_got (atom name) a) where
-      by : {b : lexed.Answer} → Got (RestComes rest K) n (atom name) b → FormMet (word name then rest) (asked.form_from b)
+      by : {b : lexed.Answer} → Got text (RestComes rest K) n (atom name) b → FormMet (word name then rest) (asked.form_from b)
       by (got_atom p l u h) = form_atom
     form_law (group inner then rest) a = by (token_got opening a) where
-      by : {b : lexed.Answer} → Got (RestComes inner (RestComes rest K)) n opening b → FormMet (group inner then rest) (asked.form_from b)
+      by : {b : lexed.Answer} → Got text (RestComes inner (RestComes rest K)) n opening b → FormMet (group inner then rest) (asked.form_from b)
       by (got_opening h bare) = form_list h

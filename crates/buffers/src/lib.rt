@@ -1,4 +1,6 @@
 // A lent buffer before and after a call that writes: bytes that no text has, and the test that all but the written ones are there still.
+#![tactic(auto)]
+
 ghost use Rattle.std.specs.Prelude.{◌≡◌, length};
 ghost use Rattle.buffers.specs.Filling.{unwritten, filled, due, buffer_held};
 

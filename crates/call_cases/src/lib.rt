@@ -3,10 +3,14 @@
 // The twenty bytes are the label's length, the lengths of rulebook, goals and certificate, and then a byte and five
 // numbers that each program reads in its own way. The label's length and that byte are one byte, the fifth number is four,
 // since a count of requests to the store does not fit two, all else two, high byte first.
+#![tactic(auto)]
+
 ghost use Rattle.std.specs.Prelude.{◌+◌, ◌*◌, ◌≡◌, get_or};
 ghost use Rattle.call_cases.specs.Heads.{pair_at, four_at};
 
-#[derive(Drop)]
+use std::io::Read;
+
+#[derive(Clone, Copy)]
 pub struct Head {
     pub label: u32,
     pub rulebook: u32,
@@ -97,30 +101,33 @@ pub fn head_of(b: &[u8]) -> Head
 }
 
 // Whether the file's next n bytes are now the first n of the buffer.
-fn taken(fd: i32, buf: &mut [u8], n: usize) -> bool {
+fn taken<F: Read>(file: &mut F, buf: &mut [u8], n: usize) -> bool {
     if buf.len() < n {
         return false;
     }
-    io::read_full(fd, &mut buf[..n]) == n
+    match reading::fill(file, &mut buf[..n]) {
+        Ok(got) => got == n,
+        Err(_) => false,
+    }
 }
 
 // Whether label and texts are now the first bytes of their buffers. No contract can say which bytes a file holds.
-pub fn read(
-    fd: i32,
+pub fn read<F: Read>(
+    file: &mut F,
     h: Head,
     label: &mut [u8],
     rulebook: &mut [u8],
     goals: &mut [u8],
     certificate: &mut [u8],
 ) -> bool {
-    if !taken(fd, label, h.label as usize) {
+    if !taken(file, label, h.label as usize) {
         return false;
     }
-    if !taken(fd, rulebook, h.rulebook as usize) {
+    if !taken(file, rulebook, h.rulebook as usize) {
         return false;
     }
-    if !taken(fd, goals, h.goals as usize) {
+    if !taken(file, goals, h.goals as usize) {
         return false;
     }
-    taken(fd, certificate, h.certificate as usize)
+    taken(file, certificate, h.certificate as usize)
 }

@@ -4,8 +4,12 @@
 // compare/replay-data writes the file `examples` (crate `call_cases` has its form) and the answers that are due. The byte
 // of a case that is the program's own says what the areas hold before, 1 for ones, else words of no sense; and 2 is added where the
 // rulebook is judged alone. Its first four numbers are the words of each area that are lent; the fifth says nothing.
+#![tactic(auto)]
+
 use areas::{Before, Lengths};
 use call_cases::Head;
+use std::fs::File;
+use std::io::Read;
 
 // What the areas hold before a case.
 fn held_before(own: u32) -> Before {
@@ -36,18 +40,18 @@ fn judge<'a>(h: Head, label: &[u8], rulebook: &'a [u8], goals: &'a [u8], certifi
 }
 
 // Whether there was a case more in the file.
-fn next(fd: i32) -> bool {
+fn next<F: Read>(file: &mut F) -> bool {
     let mut head = [0u8; 20];
-    if io::read_full(fd, &mut head) < 20 {
+    let Ok(20) = reading::fill(file, &mut head) else {
         return false;
-    }
+    };
     let h = call_cases::head_of(&head);
     let mut label = [0u8; 255];
     let mut rulebook = [0u8; 8193];
     let mut goals = [0u8; 8193];
     let mut certificate = [0u8; 32769];
     if !call_cases::read(
-        fd,
+        file,
         h,
         &mut label,
         &mut rulebook,
@@ -68,22 +72,18 @@ fn next(fd: i32) -> bool {
 }
 
 // A proved loop has to end, and nothing says that a file does: so many turns at most.
-fn all(fd: i32) {
+fn all<F: Read>(file: &mut F) {
     let mut turns: u32 = 1000000;
     while 0 < turns {
         turns -= 1;
-        if !next(fd) {
+        if !next(file) {
             turns = 0;
         }
     }
 }
 
-fn main() {
-    let fd = os::open_read(b"examples");
-    if fd < 0 {
-        os::fail(b"examples");
-        return;
-    }
-    all(fd);
-    libc::close(fd);
+fn main(rt: HostRuntime) -> std::io::Result<()> {
+    let mut file = File::open(&rt, "examples")?;
+    all(&mut file);
+    Ok(())
 }

@@ -3,9 +3,13 @@
 //
 // compare/replay-data writes the file `cases` (crate `call_cases` has its form). The byte of a case that is the program's own is the
 // number, with 128 added where the rulebook is judged alone; its five numbers are the counts, of which a rulebook alone has four and a 0.
+#![tactic(auto)]
+
 use answers::{Answer, Case, Tally};
 use areas::Lengths;
 use call_cases::Head;
+use std::fs::File;
+use std::io::Read;
 
 // The number that was kept.
 fn number_of(own: u32) -> u32 {
@@ -50,18 +54,18 @@ fn judge<'a>(
 }
 
 // The next case of the file.
-fn next(fd: i32) -> Case {
+fn next<F: Read>(file: &mut F) -> Case {
     let mut head = [0u8; 20];
-    if io::read_full(fd, &mut head) < 20 {
+    let Ok(20) = reading::fill(file, &mut head) else {
         return Case::End;
-    }
+    };
     let h = call_cases::head_of(&head);
     let mut label = [0u8; 255];
     let mut rulebook = [0u8; 8192];
     let mut goals = [0u8; 8192];
     let mut certificate = [0u8; 32768];
     if !call_cases::read(
-        fd,
+        file,
         h,
         &mut label,
         &mut rulebook,
@@ -81,12 +85,12 @@ fn next(fd: i32) -> Case {
 }
 
 // A proved loop has to end, and nothing says that a file does: so many turns at most.
-fn replay(fd: i32) {
+fn replay<F: Read>(file: &mut F) {
     let mut t = Tally::new();
     let mut turns: u32 = 1000000;
     while 0 < turns {
         turns -= 1;
-        match next(fd) {
+        match next(file) {
             Case::Agrees => {
                 t = t.and(0);
             }
@@ -101,12 +105,8 @@ fn replay(fd: i32) {
     answers::finish(t);
 }
 
-fn main() {
-    let fd = os::open_read(b"cases");
-    if fd < 0 {
-        os::fail(b"cases");
-        return;
-    }
-    replay(fd);
-    libc::close(fd);
+fn main(rt: HostRuntime) -> std::io::Result<()> {
+    let mut file = File::open(&rt, "cases")?;
+    replay(&mut file);
+    Ok(())
 }

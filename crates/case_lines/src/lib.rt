@@ -1,10 +1,12 @@
 // The lines of the paper's lists of cases (docs/paper/cases.md has their form), all but the calls themselves: the case at hand as its lines
 // make it, and what was counted.
+#![tactic(auto)]
+
 use answers::{Answer, number, same, show_either};
 use areas::Lengths;
 
 // The case at hand: the lengths of its three texts, of its page and of its four areas; and what was counted so far.
-#[derive(Drop)]
+#[derive(Clone, Copy)]
 pub struct State {
     pub rulebook: u32,
     pub goals: u32,

@@ -1,5 +1,7 @@
 // The notation in which docs/paper/cases.md writes texts and numbers. Every place is in 32 bits, and outside of the list zeros are
 // read, so that no function owes a bound.
+#![tactic(auto)]
+
 ghost use Rattle.std.specs.Prelude.{◌<◌, ◌≡◌};
 ghost use Rattle.case_text.specs.Notation.{hex_digit};
 

@@ -1,5 +1,7 @@
 // The certificate: its forms by their heads, `def` and `result` as the crate forms reads them, a step read (crate steps) and recorded. The
 // table holds goals, abbreviations and steps (crate tables); a form reads whole before it writes there.
+#![tactic(auto)]
+
 ghost use Rattle.std.specs.Prelude.{◌≡◌, ◌+◌, length};
 ghost use Rattle.lex.specs.Answers.{start};
 ghost use Rattle.outcomes.specs.Leaving.{◌leaving◌};

@@ -1,4 +1,6 @@
 // The three texts of a release, one after the other: the Rust's `check_reader` behind its `Theory::parse`.
+#![tactic(auto)]
+
 ghost use Rattle.std.specs.Prelude.{◌≡◌};
 ghost use Rattle.outcomes.specs.Leaving.{◌leaving◌};
 ghost use Rattle.checker.specs.Checker as models;

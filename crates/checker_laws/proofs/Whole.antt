@@ -36,7 +36,7 @@ use Rattle.tables.specs.declared.Tally.{Tally}
 use Rattle.tables.specs.Words.{goal_buckets, none_yet}
 use Rattle.nodes.specs.Limits.{node_limit, word_limit, index_places, def_buckets}
 use Rattle.goals.specs.Goals as goals
-use Rattle.goals_laws.proofs.Goals.{goals_whole}
+use Rattle.goals_laws.proofs.Whole.{goals_whole}
 use Rattle.certificates.specs.Certificates.{AllAreas, around, certificate}
 use Rattle.certificates_laws.proofs.Standing.{StepRecorded, Finished, terms_counted}
 use Rattle.certificates_laws.proofs.Whole.{certificate_law}

@@ -1,4 +1,6 @@
 // The lengths that all calls ask for, and the areas cleared.
+#![tactic(auto)]
+
 ghost use Rattle.std.specs.Prelude.{◌≡◌, length, replicate};
 ghost use Rattle.clearing.specs.Lengths.{long_enough};
 

@@ -1,5 +1,7 @@
 // The judgment of a step by its rule: a stated conclusion is matched before the premises, one that is not stated is built after them (crate
 // matching). The references stand first on the stack, the judgments of earlier steps in the table.
+#![tactic(auto)]
+
 ghost use Rattle.std.specs.Prelude.{◌≡◌};
 ghost use Rattle.outcomes.specs.Outcomes.{refusal};
 ghost use Rattle.outcomes.specs.Leaving.{◌leaving◌};
@@ -64,7 +66,7 @@ pub fn match_premises(
     premises: u32,
     o: u32,
 ) -> Premises
-    ensures { (models.ended result leaving (λ x. x.now) heap.exit)
+    ensures { (models.ended result leaving heap.new)
         ≡ models.premises_matched nodes places store.now table.now stack.now steps premises 0 o heap.old }
 {
     let mut place = o;
@@ -97,7 +99,7 @@ pub fn conclude_stated(
     rule: u32,
     t: u32,
 ) -> Concluded
-    ensures { (models.concluded result leaving (λ x. x.now) heap.exit)
+    ensures { (models.concluded result leaving heap.new)
         ≡ models.stated_concluded nodes places store.now table.now stack.now steps rule t heap.old }
 {
     let premises = theory_reading::premise_count(heap, rule);

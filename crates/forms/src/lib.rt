@@ -1,5 +1,7 @@
 // Two forms of the certificate, `def` and `result`, and which form a head names. Names of goals stand in the goals text, those of symbols in
 // the rulebook, those of abbreviations in the certificate itself. A form reads whole before it writes to the table (crate tables).
+#![tactic(auto)]
+
 ghost use Rattle.std.specs.Prelude.{◌≡◌};
 ghost use Rattle.words.specs.Parts.{part};
 ghost use Rattle.outcomes.specs.Leaving.{◌leaving◌};
@@ -111,7 +113,7 @@ pub fn result_form(
     tally: Tally,
     reader: Reader,
 ) -> Form
-    ensures { (formed result leaving (λ x. x.now) table.exit) ≡ result_form text.now goals.now tally reader table.old }
+    ensures { (formed result leaving table.new) ≡ result_form text.now goals.now tally reader table.old }
 {
     let a = asking::atom_due(text, asking::IN_FORM, reader);
     let Named::Atom(s, t, q) = a else {

@@ -1,4 +1,6 @@
 // The goals text. Its goals stand in the table (crate tables), their judgments in the store; the stack is empty between two goals.
+#![tactic(auto)]
+
 ghost use Rattle.std.specs.Prelude.{◌≡◌, ◌+◌, length};
 ghost use Rattle.outcomes.specs.Outcomes.{refusal};
 ghost use Rattle.outcomes.specs.Leaving.{◌leaving◌};

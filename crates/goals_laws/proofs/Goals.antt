@@ -1,4 +1,4 @@
--- All goals, and the whole goals text. Assumes nothing.
+-- All goals. Assumes nothing.
 use Prim.Native.Nat.{ℕ, zero, suc, ◌+◌, ◌≤◌}
 use mathlib.Core.Path.{◌≡◌, refl, ap, sym, ◌∙◌}
 use mathlib.Core.Bool.{not}
@@ -94,21 +94,3 @@ module _ {rules heap : List ℕ} {es : Entries} {bound : ℕ} {th : Theory} (h :
   goals_law zero is goals ts tally r store stack table f g st long there = absurd (omega arith)
   goals_law (suc fuel) is goals ts tally r store stack table f g st long there =
       goals_on fuel (goals_law fuel) goals ts tally store stack table (form_law goals_text Any 0 is there) f g st long
-
-  -- The whole text, from an empty store and a table that holds nothing.
-  pub goals_whole : (store stack table : List ℕ) → length table ≡ 16384 → Stored es th document01 index_places store empty_store → length stack ≡ 16384
-      → Simulates (GoalsRead es th goals_text certificate Recorded)
-      (walk.goals goals_text rules heap (none_yet def_buckets) store stack (cleared (goal_buckets + def_buckets) table))
-      (definition.goals_of document01 th goals_text empty_store)
-  unfolding walk.goals definition.goals_of definition.◌>>=◌ definition.lift definition.give number document01
-  goals_whole store stack table words st long =
-      let n = few_items goals_text in
-      bind _ _
-      (goals_law (length goals_text + 1) (items (tokens goals_text)) [] empty_store (none_yet def_buckets) start store stack
-      (cleared (goal_buckets + def_buckets) table) (omega arith)
-      (first_goal goals_text certificate 8192 32768 def_buckets (Means es th empty_store) (Recorded empty_store) document01 th table (omega arith) (omega arith) (omega arith) short
-      (rw words roomy_01))
-      st long (at_start goals_text))
-      (λ tally left y m.
-      let t = m.gathering.tables in
-      lifted y.1 _ _ (tested _ 17 no_goal (ap not (ap (λ (k : ℕ). eqb k 0) (t.goals_is ∙ sym t.left_is) ∙ sym (none_left t))) refl) (λ x z e. leave m))

@@ -1,3 +1,4 @@
 pub mod Following
 pub mod Goal
 pub mod Goals
+pub mod Whole

@@ -105,6 +105,7 @@ to_distinct (x ∷ xs) t (Memᴰ.head h) =
     case (some_of (same_term x) xs)
     (λ e. rw (e, distinct) (subst (λ z. Memᴰ z (distinct xs)) (sym h) (to_distinct xs x (held_member x xs e))))
     (λ e. rw (e, distinct) (Memᴰ.head h))
+to_distinct [] t x' = elim x' [ ]
 to_distinct (x ∷ xs) t (Memᴰ.tail m) =
     case (some_of (same_term x) xs)
     (λ e. rw (e, distinct) (to_distinct xs t m))

@@ -94,6 +94,7 @@ lowest_step (s ∷ steps) j (Memᴰ.head e) =
           (chose_true _ _ (ap (λ x. same_term x j) (sym e) ∙ same_term_decides.same j));
       concludes = sym e;
     }
+lowest_step [] j x' = elim x' [ ]
 lowest_step (s ∷ steps) j (Memᴰ.tail m) =
     case (same_term (judgment_of s) j)
     (λ p.
@@ -114,6 +115,7 @@ pub lowest_below : (cs : List Term) (j : Term) → Memᴰ j cs → lowest cs j <
 unfolding lowest
 lowest_below (c ∷ cs) j (Memᴰ.head e) =
     rw (ap (λ x. same_term x j) (sym e) ∙ same_term_decides.same j, lowest) (omega arith)
+lowest_below [] j x' = elim x' [ ]
 lowest_below (c ∷ cs) j (Memᴰ.tail m) =
     let h = lowest_below cs j m in
     case (same_term c j) (λ p. rw (p, lowest) (omega arith)) (λ p. rw (p, lowest) (omega arith))

@@ -40,7 +40,7 @@ unfolding resumed
 few_resumed taken value (r ∷ rs) [] = not_any
 few_resumed taken value (r ∷ rs) (b ∷ bs) = either (Few (suc (suc (length bs)))) (within r b) (few_suc (few_resumed _ _ rs bs)) not_any
 few_resumed taken value [] [] = few_chars {cs = char taken value ∷ []} (omega arith)
-few_resumed taken value [] (b ∷ bs) = few_next taken value b bs (λ v rest. few_resumed _ v rest bs) (started_by b sequences)
+few_resumed taken value [] (b ∷ bs) = few_next taken value b bs (λ v rest. few_resumed (b ∷ []) v rest bs) (started_by b sequences)
 
 few_decoded : (bs : List ℕ) → Few (length bs) (decoded bs)
 unfolding decoded

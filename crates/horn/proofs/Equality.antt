@@ -161,6 +161,7 @@ module _ {A : Type 0} (test : A → Bool) where
   unfolding first
   first-none (x ∷ xs) e a (Memᴰ.head h) =
       chosen (test x) e (λ p q. let z : test a ≡ false = cc in z) (λ p q. ap test h ∙ p)
+  first-none [] e a x'' = elim x'' [ ]
   first-none (x ∷ xs) e a (Memᴰ.tail m) =
       chosen (test x) e (λ p q. let z : test a ≡ false = cc in z) (λ p q. first-none xs q a m)
 
@@ -175,6 +176,7 @@ module _ {A : Type 0} (test : A → Bool) where
   pub some_of_member : (xs : List A) (a : A) → Memᴰ a xs → test a ≡ true → some_of test xs ≡ true
   unfolding some_of
   some_of_member (x ∷ xs) a (Memᴰ.head h) t = rw (sym (ap test h) ∙ t, some_of)
+  some_of_member [] a x'' t = elim x'' [ ]
   some_of_member (x ∷ xs) a (Memᴰ.tail m) t =
       case (test x) (λ p. rw (p, some_of)) (λ p. rw (p, some_of) (some_of_member xs a m t))
 
@@ -192,6 +194,7 @@ pub in_or_last {ℓ} : {A : Type 0} {C : Type ℓ} {a b : A} (xs : List A) → M
     → (a ≡ b → C)
     → C
 in_or_last [] (Memᴰ.head e) f g = g e
+in_or_last [] (Memᴰ.tail m) f g = elim m [ ]
 in_or_last (x ∷ xs) (Memᴰ.head e) f g = f (Memᴰ.head e)
 in_or_last (x ∷ xs) (Memᴰ.tail m) f g = in_or_last xs m (λ n. f (Memᴰ.tail n)) g
 

@@ -144,6 +144,7 @@ tokens_joined : (s : Stream Char) (place : Place) (further : Stream Char) → Wh
     → tokens_from place (followed_by s further) ≡ followed_by (tokens_from place s) (tokens_from (place_after place s) further)
 unfolding followed_by tokens_from place_after before
 tokens_joined end place further w e = rw e
+tokens_joined bad place further w e = elim w [ ]
 tokens_joined (c ▹ cs) place further (whole_next w) e =
     ap (before (move place c).0) (tokens_joined cs (move place c).1 further w e)
     ∙ sym (followed_before (move place c).0 (tokens_from (move place c).1 cs) _)

@@ -100,6 +100,7 @@ word_whole k {name} w = cut_whole k name w.decodes
 
 all_at : {A : Type 0} (P : A → Type 0) (xs : List A) → All P xs → (a : A) → Memᴰ a xs → P a
 all_at P (x ∷ xs) all a (Memᴰ.head e) = subst P (sym e) all.0
+all_at P [] all a x'' = elim x'' [ ]
 all_at P (x ∷ xs) all a (Memᴰ.tail m) = all_at P xs all.1 a m
 
 module _ {limits : Setting} {rulebook text certificate : List ℕ} {r : Release} (run : ReadRun limits rulebook text certificate r) where

@@ -45,6 +45,8 @@ matched_below : (steps : List Step) (ps : List Pattern) (refs : List ℕ) (binds
     → m < length steps
 unfolding match_premises
 matched_below steps [] (n ∷ ns) binds e m i = not_ok e
+matched_below steps [] [] binds e m i = elim i [ ]
+matched_below steps (p ∷ ps) [] binds e m i = elim i [ ]
 matched_below steps (p ∷ ps) (n ∷ ns) binds e m (Memᴰ.head h) =
     after_foundᵣ _ _ _ e λ s f e₁. subst (λ k. k < length steps) (sym h) (at_below steps n f)
 matched_below steps (p ∷ ps) (n ∷ ns) binds e m (Memᴰ.tail i) =
@@ -155,8 +157,9 @@ other_name name (x ∷ gs) {g} m =
     (λ p. other_name name gs (subst (Memᴰ g) (chose_true _ _ p) m))
     (λ p.
     ⊎_elim (λ e. ap (is_goal name) e ∙ p) (λ k. other_name name gs k) (Memᴰ.cases_cons (subst (Memᴰ g) (chose_false _ _ p) m)))
-
 -- The result of an open goal: the goal has its result, and every other that was open stays so.
+other_name name [] m = elim m [ ]
+
 module _ (goals : List Goal) (one : OneEach goals) {now : Progress} (pr : Progressing goals now) (name : Name) (n : ℕ) (g : Goal) (t : Step)
     (is_first : first (is_goal name) now.open_goals ≡ some g) (at : get_elem? now.steps n ≡ some t)
     (same : same_term (judgment_of t) (goal_judgment g) ≡ true) where

@@ -32,6 +32,7 @@ named_or_kept name (x ∷ gs) (Memᴰ.head e) f k =
     case (is_goal name x)
     (λ p. f (ap (is_goal name) e ∙ p))
     (λ p. k (subst (Memᴰ _) (sym (chose_false _ _ p)) (Memᴰ.head e)))
+named_or_kept name [] x3 f k = elim x3 [ ]
 named_or_kept name (x ∷ gs) (Memᴰ.tail m) f k =
     named_or_kept name gs m f λ n.
     case (is_goal name x)
@@ -49,8 +50,9 @@ was_there name (x ∷ gs) {g} m =
 pub none_open : {C : Type 0} (gs : List Goal) {g : Goal} → is_zero (length gs) ≡ true → Memᴰ g gs → C
 unfolding is_zero
 none_open (x ∷ gs) e m = absurd (true≢false (sym e))
-
 -- What holds between the forms: each of the goals is still open, or its judgment is derivable.
+none_open [] e m = elim m [ ]
+
 pub record SoundProgress (th : Theory) (goals : List Goal) (now : Progress) : Type 0 where
   pub ground_defs : GroundDefs th now.defs
   pub sound_steps : SoundSteps th now.steps

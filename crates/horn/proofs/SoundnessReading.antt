@@ -119,6 +119,7 @@ OneEach goals = (name : Name) (g h : Goal) → Memᴰ g goals → Memᴰ h goals
 
 pub apart_one_each : (goals : List Goal) → GoalsApart goals → OneEach goals
 apart_one_each (x ∷ gs) a name g h (Memᴰ.head e) (Memᴰ.head f) p q = e ∙ sym f
+apart_one_each [] a name g h x5 _ p q = elim x5 [ ]
 apart_one_each (x ∷ gs) a name g h (Memᴰ.head e) (Memᴰ.tail n) p q = absurd (a.0 h n name (subst (λ z. is_goal name z ≡ true) e p) q)
 apart_one_each (x ∷ gs) a name g h (Memᴰ.tail m) (Memᴰ.head f) p q = absurd (a.0 g m name (subst (λ z. is_goal name z ≡ true) f q) p)
 apart_one_each (x ∷ gs) a name g h (Memᴰ.tail m) (Memᴰ.tail n) p q = apart_one_each gs a.1 name g h m n p q

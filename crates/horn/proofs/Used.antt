@@ -73,8 +73,9 @@ below_used steps (suc n) leaned m i =
     ⊎_elim (λ p. omega arith) (λ k. let h = below_used steps n (references_at steps n ++ leaned) m k in omega arith)
     (Memᴰ.cases_cons (subst (Memᴰ m) (leaned_on steps n leaned e) i)))
     (λ e. let h = below_used steps n leaned m (subst (Memᴰ m) (passed_over steps n leaned e) i) in omega arith)
-
 -- Each number is larger than those behind it.
+below_used steps zero leaned m i = elim i [ ]
+
 abbrev pub Falling : List ℕ → Type 0
 Falling [] = Unit
 Falling (n ∷ ns) = ((m : ℕ) → Memᴰ m ns → m < n) × Falling ns
@@ -119,8 +120,9 @@ module _ (last : Progress) where
       (Memᴰ.append_cases (references_at last.steps n) j)) m k)
       (Memᴰ.cases_cons (subst (Memᴰ m) (leaned_on last.steps n leaned e) i)))
       (λ e. used_below_lem n leaned u m (subst (Memᴰ m) (passed_over last.steps n leaned e) i))
-
   -- What is listed is used.
+  used_below_lem zero leaned u m i = elim i [ ]
+
   pub listed_used : (n : ℕ) → Memᴰ n (used_steps last) → Used last n
   unfolding used_steps
   listed_used n i = used_below_lem (length last.steps) (map result_step last.results) (λ m j. by_result j) n i
@@ -159,8 +161,9 @@ module _ (last : Progress) where
       (λ e.
       subst (Memᴰ m) (sym (passed_over last.steps n leaned e))
       (referred_listed back n leaned k m (subst (Memᴰ k) (passed_over last.steps n leaned e) i) at r))
-
   -- What is used is listed, where steps refer back and the results' steps are there.
+  referred_listed back zero leaned k m i at r = elim i [ ]
+
   pub used_listed : RefersBack last.steps → StepsThere last → (n : ℕ) → Used last n → Memᴰ n (used_steps last)
   unfolding used_steps result_step
   used_listed back there n (by_result i) = leaned_listed (length last.steps) (map result_step last.results) n i (result_below i) where

@@ -7,6 +7,8 @@
 // places of its conclusion and of its variables, the patterns of its premises and its conclusion, and its variables (bounds and sort). A
 // pattern has one word a node, in preorder: a symbol's address, whose arguments follow, or `VARIABLE` and a variable's number. While a rule
 // is read its variables stand in an area of their own, as they will in its entry.
+#![tactic(auto)]
+
 ghost use Rattle.std.specs.Prelude.{◌≡◌, ◌-◌, eqb};
 ghost use Rattle.outcomes.specs.Outcomes.{ok, refusal};
 ghost use Rattle.outcomes.specs.Leaving.{◌leaving◌};
@@ -85,7 +87,7 @@ pub fn walked_refusal(r: Walked) -> u32
 
 // One word more in the theory.
 pub fn push(heap: &mut [u32], word: u32, w: Walk) -> Walk
-    ensures { (ok result leaving (λ x. x.now) heap.exit) ≡ pushed word w heap.old }
+    ensures { (ok result leaving heap.new) ≡ pushed word w heap.old }
 {
     let top = w.top;
     words::put(heap, top as usize, word);

@@ -1,4 +1,6 @@
 // Judgments in goals and certificate: a predicate and its arguments, which are terms.
+#![tactic(auto)]
+
 ghost use Rattle.std.specs.Prelude.{◌≡◌};
 ghost use Rattle.outcomes.specs.Leaving.{◌leaving◌};
 ghost use Rattle.nodes.specs.Nodes.{numbered};

@@ -1,4 +1,6 @@
 // The public calls.
+#![tactic(auto)]
+
 ghost use Rattle.std.specs.Prelude.{◌≡◌, length};
 ghost use Rattle.horn.specs.Setting.{document01};
 ghost use Rattle.horn.specs.Calls.{called, rulebook_left, release_left};
@@ -65,61 +67,4 @@ pub fn page<'a>(
         certificate.now out.old }
 {
     page_call::page(rulebook, goals, certificate, a, b, c, d, out)
-}
-
-// The call with the rulebook alone, for C and Rust.
-#[unsafe(no_mangle)]
-pub extern "C" fn horn_rulebook(
-    text: &[u8],
-    a: &mut [u32],
-    b: &mut [u32],
-    c: &mut [u32],
-    d: &mut [u32],
-) -> RulebookReport
-    ensures { called (answered result) a.new b.new c.new d.new
-        ≡ rulebook_left document01 a.old b.old c.old d.old text.now }
-{
-    rulebook(text, a, b, c, d)
-}
-
-// The call with three texts, for C and Rust.
-#[unsafe(no_mangle)]
-pub extern "C" fn horn_release(
-    rulebook: &[u8],
-    goals: &[u8],
-    certificate: &[u8],
-    a: &mut [u32],
-    b: &mut [u32],
-    c: &mut [u32],
-    d: &mut [u32],
-) -> Report
-    ensures whole { called (told result) a.new b.new c.new d.new
-        ≡ release_left document01 a.old b.old c.old d.old rulebook.now goals.now
-        certificate.now }
-    ensures sound { Sound document01 rulebook.now goals.now (told result) }
-    ensures complete { Complete document01 (length a.old) (length b.old) (length c.old) (length d.old)
-        rulebook.now goals.now certificate.now (told result) }
-    ensures kept { Kept document01 (length a.old) (length b.old) (length c.old) (length d.old)
-        rulebook.now goals.now certificate.now (told result) }
-{
-    release(rulebook, goals, certificate, a, b, c, d)
-}
-
-// The call that writes the release page, for C and Rust.
-#[unsafe(no_mangle)]
-pub extern "C" fn horn_page<'a>(
-    rulebook: &'a [u8],
-    goals: &'a [u8],
-    certificate: &[u8],
-    a: &mut [u32],
-    b: &mut [u32],
-    c: &mut [u32],
-    d: &mut [u32],
-    out: &mut [u8],
-) -> Written
-    ensures { called (written result out.new) a.new b.new c.new d.new
-        ≡ page_left document01 a.old b.old c.old d.old rulebook.now goals.now
-        certificate.now out.old }
-{
-    page(rulebook, goals, certificate, a, b, c, d, out)
 }

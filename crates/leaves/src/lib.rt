@@ -1,4 +1,6 @@
 // Constants and heads of lists in a rule's patterns: symbols with their output and their number of inputs.
+#![tactic(auto)]
+
 ghost use Rattle.std.specs.Prelude.{◌≡◌};
 ghost use Rattle.outcomes.specs.Leaving.{◌leaving◌};
 ghost use Rattle.items.specs.Items.{numbered, walked};
@@ -18,7 +20,7 @@ pub fn apply(
     t: usize,
     w: Walk,
 ) -> Numbered
-    ensures { (numbered result leaving (λ x. x.now) heap.exit) ≡ applied text.now buckets sort members s t w heap.old }
+    ensures { (numbered result leaving heap.new) ≡ applied text.now buckets sort members s t w heap.old }
 {
     let found = names::find(heap, buckets, places::BUCKETS, text, text, s, t);
     let Found::At(c) = found else {
@@ -37,7 +39,7 @@ pub fn apply(
 
 // An atom that is a constructor without inputs.
 pub fn constant(text: &[u8], heap: &mut [u32], s: usize, t: usize, sort: u32, w: Walk) -> Walked
-    ensures { (walked result leaving (λ x. x.now) heap.exit) ≡ constant text.now s t sort w heap.old }
+    ensures { (walked result leaving heap.new) ≡ constant text.now s t sort w heap.old }
 {
     let a = apply(text, heap, places::CONSTRUCTORS, sort, 1, s, t, w);
     match a {
@@ -55,7 +57,7 @@ pub fn compound_head(
     members: u32,
     w: Walk,
 ) -> Numbered
-    ensures { (numbered result leaving (λ x. x.now) heap.exit) ≡ compound_head text.now counts.now sort members w heap.old }
+    ensures { (numbered result leaving heap.new) ≡ compound_head text.now counts.now sort members w heap.old }
 {
     let h = items::head(text, counts, members, w);
     let Named::Atom(s, t, q) = h else {

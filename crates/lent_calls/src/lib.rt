@@ -1,4 +1,6 @@
 // A call over lent areas that held other words, and whether the areas are afterwards as the paper says.
+#![tactic(auto)]
+
 use answers::Answer;
 use areas::{Before, Lengths};
 

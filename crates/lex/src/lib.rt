@@ -1,4 +1,6 @@
 // A reader over a lent text: "On each read the reader moves on one token and is handed back."
+#![tactic(auto)]
+
 ghost use Rattle.std.specs.Prelude.{◌≡◌, suc, length};
 ghost use Rattle.lex.specs.declared.Ahead.TheVariants.{Nothing, Held};
 ghost use Rattle.lex.specs.Answers.{answer, found, after, token_at, scanned, peeked, taken, start};
@@ -9,7 +11,7 @@ use utf8::classes;
 pub mod lent;
 
 // "A token is an opening, a closing or an atom with its bounds."
-#[derive(Drop)]
+#[derive(Clone, Copy)]
 pub enum Token {
     Opening,
     Closing,
@@ -17,14 +19,14 @@ pub enum Token {
 }
 
 // "One token may be looked at ahead."
-#[derive(Drop)]
+#[derive(Clone, Copy)]
 pub enum Ahead {
     Nothing,
     Held(Token),
 }
 
 // Where the reader stands, up to where the text is tested, and the token that it looked at.
-#[derive(Drop)]
+#[derive(Clone, Copy)]
 pub struct Reader {
     pub at: usize,
     pub end: usize,
@@ -32,7 +34,7 @@ pub struct Reader {
 }
 
 // A token with the reader after it; the end of the text; a line that is not UTF-8.
-#[derive(Drop)]
+#[derive(Clone, Copy)]
 pub enum Read {
     Got(Token, Reader),
     End,
@@ -41,7 +43,7 @@ pub enum Read {
 
 // What is found at a place: a token, by where it ends and where its line does; the end of the text; a line that is not UTF-8. Neither a token
 // nor a reader stands in it as a whole: an enum is copied by bytes, through memory, and such a copy waits for the words written just before.
-#[derive(Drop)]
+#[derive(Clone, Copy)]
 pub enum Scanned {
     Opening(usize, usize),
     Closing(usize, usize),

@@ -1,6 +1,8 @@
 // Matching a rule's stored patterns against stored terms, and building its conclusion. A pattern has one word a node, in preorder, in the
 // theory's area: a symbol's address, or `VARIABLE` and a variable's number. A variable's binding in the step being read is word `BINDINGS`
 // plus its number of the same area: 0, or a term's number plus 1. `left` falls by one a level; the number of the area's words always suffices.
+#![tactic(auto)]
+
 ghost use Rattle.std.specs.Prelude.{◌≡◌, set};
 ghost use Rattle.words.specs.Sums.{sum32};
 ghost use Rattle.outcomes.specs.Outcomes.{refusal};
@@ -127,7 +129,7 @@ pub fn make_node(
     to: u32,
     o: u32,
 ) -> Built
-    ensures { (models.built result leaving (λ x. x.now) store.exit) ≡ models.node_made nodes limit places from to o stack.now store.old }
+    ensures { (models.built result leaving store.new) ≡ models.node_made nodes limit places from to o stack.now store.old }
 {
     let key = words::words_part(stack, from as usize, to as usize);
     let a = requests::intern(store, nodes, limit, places, key);

@@ -33,7 +33,7 @@ references_kept {stack} {stack'} {k} s l (one_reference {n} r rs) =
 last : {stack : List ℕ} {k : ℕ} (ns : List ℕ) {n : ℕ} (p : ℕ) → p ≡ k + length ns → ReferencesAt stack k ns → Saturates (get_or stack p 0) n
     → ReferencesAt stack k (ns ++ (n ∷ []))
 last {stack} {k} [] p e no_references s = let z : p ≡ k = omega arith in one_reference (rw z at s) no_references
-last {stack} {k} (m ∷ ns) p e (one_reference r rs) s = one_reference r (last ns p (omega arith) rs s)
+last {stack} {k} (m ∷ ns) p e (one_reference r rs) s = one_reference r (last {k = k + 1} ns p (omega arith) rs s)
 
 pub references_more : {stack : List ℕ} {ns : List ℕ} (p word n : ℕ) → p ≡ length ns → p < length stack → Saturates word n → ReferencesAt stack 0 ns
     → ReferencesAt (set stack p word) 0 (ns ++ (n ∷ []))

@@ -34,6 +34,7 @@ pub lookup-none : (key : Name) (entries : List Entry) → lookup key entries ≡
 unfolding lookup
 lookup-none key (entry d name ∷ entries) h e (Memᴰ.head m) =
     let k : key ≡ name = cc in none-some (sym h ∙ lookup_here d name entries key k)
+lookup-none key [] h e x'' = elim x'' [ ]
 lookup-none key (entry d name ∷ entries) h e (Memᴰ.tail m) =
     by_name key name
     (λ t. none-some (sym h ∙ lookup_here d name entries key t))
@@ -44,6 +45,7 @@ pub lookup_member : (key : Name) {entries : List Entry} (e : ℕ) → Distinct e
     → lookup key entries ≡ some e
 lookup_member key e (new_name {e = d} {name} {entries} n s) (Memᴰ.head m) =
     let k : key ≡ name = cc in let q : e ≡ d = cc in lookup_here d name entries key k ∙ ap some (sym q)
+lookup_member key e no_names x3 = elim x3 [ ]
 lookup_member key e (new_name {e = d} {name} {entries} n s) (Memᴰ.tail m) =
     by_name key name
     (λ t. absurd (lookup-none key entries (rw (← t) at n) e m))

@@ -37,6 +37,7 @@ module _ {area : List ℕ} {count base : ℕ} {text : List ℕ} where
   unfolding top
   member_bounds {e} (one_more {e = d} {name} {entries} h n l c) (Memᴰ.head m) =
       let k : e ≡ d = cc in let b = base_below c in (omega arith, omega arith)
+  member_bounds no_entry x3 = elim x3 [ ]
   member_bounds (one_more h n l c) (Memᴰ.tail m) =
       let (low, high) = member_bounds c m in (low, omega arith)
 
@@ -45,6 +46,7 @@ module _ {area : List ℕ} {count base : ℕ} {text : List ℕ} where
       → name_at area text e ≡ name
   member_named {e} {name} (one_more {e = d} {name = other} h n l c) (Memᴰ.head m) =
       let k : e ≡ d = cc in let q : name ≡ other = cc in rw (k, q) n
+  member_named no_entry x3 = elim x3 [ ]
   member_named (one_more h n l c) (Memᴰ.tail m) = member_named c m
 
   chain_kept : {area' : List ℕ} {entries : List Entry} → Chained area count base text entries

@@ -1,5 +1,7 @@
 // Entries in a lent area of words, found by their names through hash buckets. An entry at address e (0 is none) has the bounds of its name
 // in a text at e and e + 1, and at e + 2 the address of the last entry before it in its bucket; further words are the caller's.
+#![tactic(auto)]
+
 ghost use Rattle.std.specs.Prelude.{◌≡◌, ◌+◌, ◌%◌};
 ghost use Rattle.words.specs.Parts.{part, same_bytes};
 ghost use Rattle.names.specs.Chains.{hash_of, bucket_of, name_at, before, found, added, answered};

@@ -2,6 +2,8 @@
 // the theory's area (crate items says how that is laid out); names of symbols stand in the rulebook, those of abbreviations in the text
 // that is read. Abbreviations stand in the table (crate tables). On the stack a node is under construction from word `top`
 // on: its head, then its arguments.
+#![tactic(auto)]
+
 ghost use Rattle.std.specs.Prelude.{◌≡◌};
 ghost use Rattle.outcomes.specs.Outcomes.{refusal};
 ghost use Rattle.outcomes.specs.Leaving.{◌leaving◌};

@@ -1,4 +1,6 @@
 // "A number is an optional `+`, then one or more ASCII digits, below 2 to the 64."
+#![tactic(auto)]
+
 ghost use Rattle.std.specs.Prelude.{◌≡◌};
 ghost use Rattle.horn.specs.Checker as definition;
 ghost use Rattle.words.specs.Parts.{part};

@@ -1,5 +1,7 @@
 // How a term begins: as a term without brackets, whole, or as a list, by its head; and where a list may end, the closing. The reader is
 // lent as words.
+#![tactic(auto)]
+
 ghost use Rattle.std.specs.Prelude.{◌≡◌};
 ghost use Rattle.lex.specs.Lent.{reader_in};
 ghost use Rattle.asking.specs.Asking as asked;

@@ -1,4 +1,6 @@
 // The program that writes the release page: of rulebook.txt, goals.txt and proof.txt of the current folder.
-fn main() {
-    page_files::show(b"rulebook.txt", b"goals.txt", b"proof.txt");
+#![tactic(auto)]
+
+fn main(rt: HostRuntime) {
+    page_files::show(&rt, b"rulebook.txt", b"goals.txt", b"proof.txt");
 }

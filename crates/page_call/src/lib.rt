@@ -1,4 +1,6 @@
 // The call that writes the release page: the lengths, then what crate `page_walks` answers of the first 16,384 words of each area.
+#![tactic(auto)]
+
 ghost use Rattle.std.specs.Prelude.{◌≡◌};
 ghost use Rattle.horn.specs.Setting.{document01};
 ghost use Rattle.horn.specs.Calls.{called};

@@ -1,8 +1,11 @@
 // Runs the call that writes the release page on the cases of the paper, docs/paper/pages.txt (docs/paper/cases.md has its form), over areas
 // that held other words and a buffer of bytes that no page has, and compares number, length, areas and every byte of the buffer with what the
 // paper states. That list is this program's own data, so that neither can differ from the other.
+#![tactic(auto)]
+
 use answers::Answer;
 use case_lines::State;
+use std::fs::File;
 
 // The call over so many bytes of the buffer, with 64 or more before them and behind them that it is not lent.
 fn lend<'a>(
@@ -119,14 +122,10 @@ fn all(list: &[u8]) -> State {
     s
 }
 
-fn main() {
-    let fd = os::open_read(b"cases.txt");
-    if fd < 0 {
-        os::fail(b"cases.txt");
-        return;
-    }
+fn main(rt: HostRuntime) -> std::io::Result<()> {
+    let mut file = File::open(&rt, "cases.txt")?;
     let mut list = [0u8; 131072];
-    let n = io::read_full(fd, &mut list);
-    libc::close(fd);
+    let n = reading::fill(&mut file, &mut list)?;
     case_lines::finish(all(words::bytes_part(&list, 0, n)));
+    Ok(())
 }

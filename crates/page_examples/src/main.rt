@@ -1,7 +1,10 @@
 // Pages in full, for whoever wants to see one: the call that writes the page, its number and length, and whether all other bytes of the buffer are
 // as they were; numbers in their field, longer ones than a release can have; and what the program `page` writes of files, refused ones too.
+#![tactic(auto)]
+
 use answers::Answer;
 use areas::Lengths;
+use std::rt::Files;
 
 // The call over so many bytes of the buffer.
 fn lend<'a>(
@@ -121,14 +124,14 @@ fn numbers() {
 }
 
 // What the program writes: the page, or the line of a refusal.
-fn files() {
-    page_files::show(b"rulebook.txt", b"goals.txt", b"proof.txt");
-    page_files::show(b"refused.txt", b"goals.txt", b"proof.txt");
-    page_files::show(b"rulebook.txt", b"none.txt", b"proof.txt");
-    page_files::show(b"rulebook.txt", b"goals.txt", b"none.txt");
+fn files<R: Files + Print + Eprint>(rt: &R) {
+    page_files::show(rt, b"rulebook.txt", b"goals.txt", b"proof.txt");
+    page_files::show(rt, b"refused.txt", b"goals.txt", b"proof.txt");
+    page_files::show(rt, b"rulebook.txt", b"none.txt", b"proof.txt");
+    page_files::show(rt, b"rulebook.txt", b"goals.txt", b"none.txt");
 }
 
-fn main() {
+fn main(rt: HostRuntime) {
     example_set(b"one byte short", 129);
     example_set(b"exactly as long", 130);
     example_set(b"longer", 200);
@@ -137,5 +140,5 @@ fn main() {
     characters();
     percentage();
     numbers();
-    files();
+    files(&rt);
 }

@@ -1,5 +1,7 @@
 // Three named files to the release page, and the page to standard output: what the program `page` does. Files are read, and a refusal is
 // shown, as crate `release_files` does it; and as there, `answer` says all that follows from what was read.
+#![tactic(auto)]
+
 ghost use Rattle.std.specs.Prelude.{◌≡◌};
 ghost use Rattle.horn.specs.Setting.{document01};
 ghost use Rattle.horn.specs.Page.{page_call};
@@ -8,6 +10,7 @@ ghost use Rattle.release_files.specs.Answers.{text};
 ghost use Rattle.page_files.specs.Answers.{answered, Answered};
 
 use release_files::File;
+use std::rt::Files;
 use writing::Written;
 
 // The call over areas just long enough.
@@ -62,31 +65,37 @@ pub fn answer<'a>(
 }
 
 // The page of three files, by their names.
-pub fn page(rulebook: &[u8], goals: &[u8], certificate: &[u8], out: &mut [u8]) -> Written
+pub fn page<R: Files + Eprint>(
+    rt: &R,
+    rulebook: &[u8],
+    goals: &[u8],
+    certificate: &[u8],
+    out: &mut [u8],
+) -> Written
     ensures { Answered (told result out.new) out.old }
 {
     let mut r = [0u8; 8193];
     let mut g = [0u8; 8193];
     let mut c = [0u8; 32769];
-    let x = release_files::read(rulebook, &mut r);
-    let y = release_files::read(goals, &mut g);
-    let z = release_files::read(certificate, &mut c);
+    let x = release_files::read(rt, rulebook, &mut r);
+    let y = release_files::read(rt, goals, &mut g);
+    let z = release_files::read(rt, certificate, &mut c);
     answer(&r, x, &g, y, &c, z, out)
 }
 
 // Writes the page to standard output, or the line that the program `release` writes for a refusal.
-fn print(w: Written, out: &[u8]) {
+fn print<R: Print + Eprint>(rt: &R, w: Written, out: &[u8]) {
     if w.number == 0 {
-        release_files::write(words::bytes_part(out, 0, w.length as usize));
+        release_files::write(rt, words::bytes_part(out, 0, w.length as usize));
         return;
     }
-    release_files::print(reports::unreleased(w.number));
+    release_files::print(rt, reports::unreleased(w.number));
 }
 
 // The page of three files to standard output. A goal takes 11 bytes of the goals' 8,192, so that there are 744 of them at most, and 745 lines
 // of 65 bytes.
-pub fn show(rulebook: &[u8], goals: &[u8], certificate: &[u8]) {
+pub fn show<R: Files + Print + Eprint>(rt: &R, rulebook: &[u8], goals: &[u8], certificate: &[u8]) {
     let mut out = [0u8; 48425];
-    let w = page(rulebook, goals, certificate, &mut out);
-    print(w, &out);
+    let w = page(rt, rulebook, goals, certificate, &mut out);
+    print(rt, w, &out);
 }

@@ -1,6 +1,7 @@
 -- What the areas keep of an accepted release, goal by goal and step by step: names, results, rules and references. Assumes nothing.
 use Prim.Native.Nat.{ℕ, zero, suc, ◌+◌, ◌*◌, ◌≤◌, ◌<◌}
-use mathlib.Core.Path.{◌≡◌, refl, ap, sym, ◌∙◌}
+use mathlib.Core.Path.{◌≡◌, refl, ap, sym, subst, ◌∙◌}
+use mathlib.Core.Logic.{◌⊎◌, inl, inr}
 use mathlib.Core.Bool.{true, false, true≢false}
 use mathlib.Core.List.{List, [], ◌∷◌, Memᴰ}
 use mathlib.Core.Option.{some}
@@ -21,7 +22,7 @@ use Rattle.names.specs.Chains.{name_at}
 use Rattle.names.proofs.Kept.{member_named}
 use Rattle.names.proofs.Declared.{find_agrees, found_some}
 use Rattle.tables.specs.Words.{goal_buckets, entry_words, value_offset, closed_from, goal_at, goal_result, goal_found}
-use Rattle.tables.specs.Representation.{Sits, here, there, GoalsAt, still_open, is_closed, Goals}
+use Rattle.tables.specs.Representation.{Sits, here, there, GoalsAt, no_goal, still_open, is_closed, Goals}
 use Rattle.tables.proofs.Goals.{agreed}
 use Rattle.nodes.specs.Limits.{def_buckets}
 use Rattle.items.specs.Places as places
@@ -42,19 +43,38 @@ again : {b e : ℕ} (gs : List Goal) (name : Name) {j : Term} → some_of (is_go
 unfolding is_goal
 again gs name {j} f s = true≢false (sym (named_decides.same name) ∙ some_of_false (is_goal name) gs f (goal name j) (sits_member s))
 
+-- What sits in a list sits first, or in the rest.
+sits_first : {A : Type 0} {b e : ℕ} {c a : A} {things : List A} → Sits b (c ∷ things) e a → ((a ≡ c) × (e ≡ b)) ⊎ Sits (b + entry_words) things e a
+sits_first (here h) = inl (refl, h)
+sits_first (there s) = inr s
+
+-- No later goal has the first one's name.
+no_later : {b e : ℕ} {goals : List Goal} {head name : Name} {h i j : Term} → some_of (is_goal head) goals ≡ false → goal name i ≡ goal head h
+    → Sits b goals e (goal name j)
+    → ⊥
+no_later {b} {e} {goals} {head} {name} {h} {i} {j} f q s =
+    let n : name ≡ head = cc in again goals head f (subst (λ (m : Name). Sits b goals e (goal m j)) n s)
+
+once : {b d e : ℕ} {goals : List Goal} {head name : Name} {h i j : Term} → some_of (is_goal head) goals ≡ false
+    → (Sits (b + entry_words) goals d (goal name i) → Sits (b + entry_words) goals e (goal name j) → d ≡ e)
+    → Sits b (goal head h ∷ goals) d (goal name i)
+    → Sits b (goal head h ∷ goals) e (goal name j)
+    → d ≡ e
+once f rest s t =
+    elim (sits_first s) [
+      | inl p ↦ elim (sits_first t) [ inl q ↦ p.1 ∙ sym q.1 | inr t' ↦ absurd (no_later f p.0 t') ]
+      | inr s' ↦ elim (sits_first t) [ inl q ↦ absurd (no_later f q.0 s') | inr t' ↦ rest s' t' ]
+    ]
+
 module _ {table : List ℕ} {Means : ℕ → Term → Type 0} {results : List Witness} where
   -- No name sits twice.
   sits_once : {b d e : ℕ} {goals open_goals : List Goal} {name : Name} {i j : Term} → GoalsAt table Means results b goals open_goals
       → Sits b goals d (goal name i)
       → Sits b goals e (goal name j)
       → d ≡ e
-  sits_once g (here h) (here k) = omega arith
-  sits_once (still_open {name} {goals} v m f g) (here h) (there s) = absurd (again goals name f s)
-  sits_once (is_closed {name} {goals} v f g) (here h) (there s) = absurd (again goals name f s)
-  sits_once (still_open {name} {goals} v m f g) (there s) (here h) = absurd (again goals name f s)
-  sits_once (is_closed {name} {goals} v f g) (there s) (here h) = absurd (again goals name f s)
-  sits_once (still_open v m f g) (there s) (there t) = sits_once g s t
-  sits_once (is_closed v f g) (there s) (there t) = sits_once g s t
+  sits_once no_goal s t = elim s [ ]
+  sits_once (still_open v m f g) s t = once f (λ s' t'. sits_once g s' t') s t
+  sits_once (is_closed v f g) s t = once f (λ s' t'. sits_once g s' t') s t
 
   -- The value of a goal that has its result.
   result_valued : {b e n : ℕ} {goals open_goals : List Goal} {name : Name} {j : Term} → GoalsAt table Means results b goals open_goals
@@ -62,6 +82,7 @@ module _ {table : List ℕ} {Means : ℕ → Term → Type 0} {results : List Wi
       → first (is_result_of name) results ≡ some (witness name n)
       → get_or table (e + value_offset) 0 ≡ closed_from + n
   unfolding result_step
+  result_valued no_goal x9 r = elim x9 [ ]
   result_valued (still_open (v, l, o) m f g) (here h) r = none-some (sym o ∙ r)
   result_valued {e} {n} (is_closed {b} {n = i} (v, c) f g) (here h) r =
       let q : i ≡ n = ap result_step (some_equal (sym c ∙ r)) in

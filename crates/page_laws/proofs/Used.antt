@@ -30,6 +30,7 @@ use Rattle.page_laws.proofs.Kept.{goal_result_lem}
 
 -- What is in a list stands at a place of it.
 member_at : {A : Type 0} {a : A} (xs : List A) → Memᴰ a xs → (k : ℕ) × (k < length xs) × (get_elem? xs k ≡ some a)
+member_at [] x' = elim x' [ ]
 member_at (x ∷ xs) (Memᴰ.head e) = (0, omega arith, ap some (sym e))
 member_at (x ∷ xs) (Memᴰ.tail m) = let (k, b, e) = member_at xs m in (suc k, omega arith, e)
 

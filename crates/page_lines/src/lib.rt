@@ -1,4 +1,6 @@
 // The lines of the release page, each 65 bytes, at their places in a lent buffer.
+#![tactic(auto)]
+
 ghost use Rattle.std.specs.Prelude.{◌*◌, ◌%◌, ◌≡◌};
 ghost use Rattle.horn.specs.Page.{goal_line};
 ghost use Rattle.writing.specs.Buffer.{placed};

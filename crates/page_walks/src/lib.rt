@@ -1,4 +1,6 @@
 // The walks over three texts, the page written from what they leave, and the areas cleared behind them.
+#![tactic(auto)]
+
 ghost use Rattle.std.specs.Prelude.{◌≡◌, length, replicate};
 ghost use Rattle.checker.specs.Checker as checking;
 ghost use Rattle.writing.specs.Answers.{told};

@@ -1,5 +1,7 @@
 // The release page, written from what the walks over three texts leave in the areas. The rulebook and the goals text are lent for one
 // lifetime, that of the names shown, which are parts of them.
+#![tactic(auto)]
+
 ghost use Rattle.std.specs.Prelude.{◌*◌, ◌≡◌};
 ghost use Rattle.pages.specs.Pages.{line_at, lines_to, page_from};
 

@@ -1,8 +1,11 @@
 // Runs both calls on the cases of the paper, docs/paper/cases.txt (docs/paper/cases.md has its form), over areas that held other words,
 // and compares number, counts and areas with what the paper states. That list is this program's own data, so that neither can differ
 // from the other.
+#![tactic(auto)]
+
 use answers::Answer;
 use case_lines::State;
+use std::fs::File;
 
 // One call of a case against the answer that is stated.
 fn compare<'a>(alone: bool, s: State, stated: Answer, r: &'a [u8], g: &'a [u8], c: &[u8]) -> State {
@@ -77,14 +80,10 @@ fn all(list: &[u8]) -> State {
     s
 }
 
-fn main() {
-    let fd = os::open_read(b"cases.txt");
-    if fd < 0 {
-        os::fail(b"cases.txt");
-        return;
-    }
+fn main(rt: HostRuntime) -> std::io::Result<()> {
+    let mut file = File::open(&rt, "cases.txt")?;
     let mut list = [0u8; 131072];
-    let n = io::read_full(fd, &mut list);
-    libc::close(fd);
+    let n = reading::fill(&mut file, &mut list)?;
     case_lines::finish(all(words::bytes_part(&list, 0, n)));
+    Ok(())
 }

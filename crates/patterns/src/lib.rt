@@ -3,6 +3,8 @@
 //
 // A level of a term takes little stack: where the walk stands is in two arrays that all levels are lent (`place` is the reader as words,
 // `tally` the walk's counts), and what reads the text is in `take`, which returns before the next level begins.
+#![tactic(auto)]
+
 ghost use Rattle.std.specs.Prelude.{◌≡◌, List, ℕ};
 ghost use Rattle.outcomes.specs.Leaving.{◌leaving◌};
 ghost use Rattle.items.specs.Items.{walked, numbered};

@@ -1,5 +1,7 @@
 // The head of a step, "`(step I R (I...)`", and its references, also references to steps that do not
 // exist, which stand on the stack from its first word on.
+#![tactic(auto)]
+
 ghost use Rattle.std.specs.Prelude.{◌≡◌};
 ghost use Rattle.outcomes.specs.Outcomes.{refusal};
 ghost use Rattle.outcomes.specs.Leaving.{◌leaving◌};
@@ -46,7 +48,7 @@ pub fn number_due(text: &[u8], left: u32, reader: Reader) -> Indexed
 
 // "List of references", behind its opening: their number. Each is kept as a word of the stack.
 pub fn references(text: &[u8], stack: &mut [u32], reader: Reader) -> Numbered
-    ensures { (numbered result leaving (λ x. x.now) stack.exit) ≡ models.references text.now reader stack.old }
+    ensures { (numbered result leaving stack.new) ≡ models.references text.now reader stack.old }
 {
     let mut r = reader;
     let mut n: u32 = 0;
@@ -105,7 +107,7 @@ pub fn counted_references(
     rule: u32,
     reader: Reader,
 ) -> Numbered
-    ensures { (numbered result leaving (λ x. x.now) stack.exit)
+    ensures { (numbered result leaving stack.new)
         ≡ models.counted_references text.now heap.now rule reader stack.old }
 {
     let a = references(text, stack, reader);

@@ -1,4 +1,9 @@
 // The program: rulebook.txt, goals.txt and proof.txt of the current folder to one line.
-fn main() {
-    release_files::print(release_files::release(b"rulebook.txt", b"goals.txt", b"proof.txt"));
+#![tactic(auto)]
+
+fn main(rt: HostRuntime) {
+    release_files::print(
+        &rt,
+        release_files::release(&rt, b"rulebook.txt", b"goals.txt", b"proof.txt"),
+    );
 }

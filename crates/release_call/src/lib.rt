@@ -1,4 +1,6 @@
 // The call with three texts: the lengths, then what crate `walks` answers of the first 16,384 words of each area.
+#![tactic(auto)]
+
 ghost use Rattle.std.specs.Prelude.{◌≡◌, length};
 ghost use Rattle.horn.specs.Setting.{document01};
 ghost use Rattle.horn.specs.Calls.{called, release_left};

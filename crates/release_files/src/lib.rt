@@ -1,13 +1,18 @@
 // Three named files to a report, and a report to its line: what the program `release` does.
 //
 // No contract can say which bytes a file holds. So what is read goes into buffers, and `answer` says all that follows from them.
+#![tactic(auto)]
+
 ghost use Rattle.std.specs.Prelude.{◌≡◌, length};
+ghost use Rattle.std.specs.Io.{ReadsAtMost};
 ghost use Rattle.horn.specs.Setting.{document01};
 ghost use Rattle.horn.specs.Calls.{report, release_call};
 ghost use Rattle.reports.specs.Release.{told};
 ghost use Rattle.release_files.specs.Answers.{Within, text, answered, Answered};
 
 use reports::Report;
+use std::rt::Files;
+use std::{fs, io};
 
 // What became of a file: a text of so many bytes at the start of its buffer, or 30.
 #[derive(Drop)]
@@ -16,41 +21,46 @@ pub enum File {
     NotOpened,
 }
 
-// Whether the file is at its end. One that cannot be read, such as a folder, is not.
-fn ended(fd: i32) -> bool {
-    let mut one = [0u8; 1];
-    libc::read(fd, &mut one) == 0
+// Says on standard error what failed, and why.
+fn tell<R: Eprint>(rt: &R, what: &str, why: io::Error) {
+    let _ = eprintln!(rt; "{what}: {why}");
 }
 
-// Fills the buffer from an open file. It has one byte more than the text may have, so it is full where the file is too
-// long, and no more is read; where it is not full, the file must be at its end.
-fn fill(fd: i32, buffer: &mut [u8]) -> File
+// Fills the buffer from a file, by its name. It has one byte more than the text may have, so it is full where the file is too long, and no more is
+// read; where it is not full, the file is at its end. One that cannot be read, such as a folder, is an error.
+fn fill<R: Files>(rt: &R, name: &str, buffer: &mut [u8]) -> io::Result<usize>
+    ensures { ReadsAtMost result buffer.new }
+{
+    let mut file = fs::open(rt, name)?;
+    reading::fill(&mut file, buffer)
+}
+
+// The same, which says on standard error why a file is not read.
+fn named<R: Files + Eprint>(rt: &R, name: &str, buffer: &mut [u8]) -> File
     ensures { Within result (length buffer.new) }
 {
-    let n = io::read_full(fd, buffer);
-    if n < buffer.len() {
-        if !ended(fd) {
-            return File::NotOpened;
+    match fill(rt, name, buffer) {
+        Ok(n) => File::Read(n),
+        Err(why) => {
+            tell(rt, name, why);
+            File::NotOpened
         }
     }
-    File::Read(n)
 }
 
-// Opens, reads and closes a file. Says on standard error why one is not read.
-pub fn read(name: &[u8], buffer: &mut [u8]) -> File
+// Opens, reads and closes a file. Says on standard error why one is not read. The library opens no file whose name is not UTF-8.
+pub fn read<R: Files + Eprint>(rt: &R, name: &[u8], buffer: &mut [u8]) -> File
     ensures { Within result (length buffer.new) }
 {
-    let fd = os::open_read(name);
-    if fd < 0 {
-        os::fail(name);
+    let Ok(text) = str::from_utf8(name) else {
+        tell(
+            rt,
+            "a file's name",
+            io::Error::from(io::ErrorKind::InvalidInput),
+        );
         return File::NotOpened;
-    }
-    let file = fill(fd, buffer);
-    if let File::NotOpened = file {
-        os::fail(name);
-    }
-    libc::close(fd);
-    file
+    };
+    named(rt, text, buffer)
 }
 
 // "30 comes only from the program, before all else"; "a refusal has zero counts".
@@ -106,27 +116,32 @@ pub fn answer(
 }
 
 // The report on three files, by their names.
-pub fn release(rulebook: &[u8], goals: &[u8], certificate: &[u8]) -> Report
+pub fn release<R: Files + Eprint>(
+    rt: &R,
+    rulebook: &[u8],
+    goals: &[u8],
+    certificate: &[u8],
+) -> Report
     ensures { Answered (told result) }
 {
     let mut r = [0u8; 8193];
     let mut g = [0u8; 8193];
     let mut c = [0u8; 32769];
-    let x = read(rulebook, &mut r);
-    let y = read(goals, &mut g);
-    let z = read(certificate, &mut c);
+    let x = read(rt, rulebook, &mut r);
+    let y = read(rt, goals, &mut g);
+    let z = read(rt, certificate, &mut c);
     answer(&r, x, &g, y, &c, z)
 }
 
 // Writes bytes to standard output.
-pub fn write(bytes: &[u8]) {
-    if !io::write_all(1, bytes) {
-        os::fail(b"standard output");
+pub fn write<R: Print + Eprint>(rt: &R, bytes: &[u8]) {
+    if let Err(why) = rt.write_all(bytes) {
+        tell(rt, "standard output", why);
     }
 }
 
 // Writes the line of a report to standard output.
-pub fn print(r: Report) {
+pub fn print<R: Print + Eprint>(rt: &R, r: Report) {
     let mut line = [0u8; 66];
     let n = report_line::line(
         r.number,
@@ -137,5 +152,5 @@ pub fn print(r: Report) {
         r.requested,
         &mut line,
     );
-    write(&line[..n]);
+    write(rt, &line[..n]);
 }

@@ -1,40 +1,52 @@
 // Runs what the program `release` runs on files that stand in the folders of data/: the bench set, and it with one of its
 // three files refused, missing, empty, at its limit, too long, or a folder. The answers that are due are worked from
 // document 01, and their last field from L1: 7 for the bench set with blanks behind any of its texts.
-fn show(label: &[u8], rulebook: &[u8], goals: &[u8], proof: &[u8]) {
+#![tactic(auto)]
+
+use std::rt::Files;
+
+// One line: what the files are, and the answer on them.
+fn show<R: Files + Print + Eprint>(
+    rt: &R,
+    label: &[u8],
+    rulebook: &[u8],
+    goals: &[u8],
+    proof: &[u8],
+) {
     io::write_all(1, label);
     io::write_all(1, b"\t");
-    release_files::print(release_files::release(rulebook, goals, proof));
+    release_files::print(rt, release_files::release(rt, rulebook, goals, proof));
 }
 
 // The bench set with another rulebook,
-fn rulebook(label: &[u8], name: &[u8]) {
-    show(label, name, b"bench/goals.txt", b"bench/proof.txt");
+fn rulebook<R: Files + Print + Eprint>(rt: &R, label: &[u8], name: &[u8]) {
+    show(rt, label, name, b"bench/goals.txt", b"bench/proof.txt");
 }
 
 // other goals,
-fn goals(label: &[u8], name: &[u8]) {
-    show(label, b"bench/rulebook.txt", name, b"bench/proof.txt");
+fn goals<R: Files + Print + Eprint>(rt: &R, label: &[u8], name: &[u8]) {
+    show(rt, label, b"bench/rulebook.txt", name, b"bench/proof.txt");
 }
 
 // another certificate.
-fn proof(label: &[u8], name: &[u8]) {
-    show(label, b"bench/rulebook.txt", b"bench/goals.txt", name);
+fn proof<R: Files + Print + Eprint>(rt: &R, label: &[u8], name: &[u8]) {
+    show(rt, label, b"bench/rulebook.txt", b"bench/goals.txt", name);
 }
 
 // Each of the three texts refused.
-fn refused() {
-    rulebook(b"rulebook refused", b"refused/rulebook.txt");
-    goals(b"goals refused", b"refused/goals.txt");
-    proof(b"certificate refused", b"refused/proof.txt");
+fn refused<R: Files + Print + Eprint>(rt: &R) {
+    rulebook(rt, b"rulebook refused", b"refused/rulebook.txt");
+    goals(rt, b"goals refused", b"refused/goals.txt");
+    proof(rt, b"certificate refused", b"refused/proof.txt");
 }
 
 // Each of the three files missing, and all.
-fn missing() {
-    rulebook(b"no rulebook.txt", b"none/rulebook.txt");
-    goals(b"no goals.txt", b"none/goals.txt");
-    proof(b"no proof.txt", b"none/proof.txt");
+fn missing<R: Files + Print + Eprint>(rt: &R) {
+    rulebook(rt, b"no rulebook.txt", b"none/rulebook.txt");
+    goals(rt, b"no goals.txt", b"none/goals.txt");
+    proof(rt, b"no proof.txt", b"none/proof.txt");
     show(
+        rt,
         b"none of the three",
         b"none/rulebook.txt",
         b"none/goals.txt",
@@ -43,14 +55,16 @@ fn missing() {
 }
 
 // 30 comes before all else.
-fn missing_first() {
+fn missing_first<R: Files + Print + Eprint>(rt: &R) {
     show(
+        rt,
         b"no proof.txt, rulebook refused",
         b"refused/rulebook.txt",
         b"bench/goals.txt",
         b"none/proof.txt",
     );
     show(
+        rt,
         b"no goals.txt, rulebook too long",
         b"long/rulebook.txt",
         b"none/goals.txt",
@@ -59,18 +73,19 @@ fn missing_first() {
 }
 
 // Each of the three files empty.
-fn empty() {
-    rulebook(b"rulebook empty", b"empty/rulebook.txt");
-    goals(b"goals empty", b"empty/goals.txt");
-    proof(b"certificate empty", b"empty/proof.txt");
+fn empty<R: Files + Print + Eprint>(rt: &R) {
+    rulebook(rt, b"rulebook empty", b"empty/rulebook.txt");
+    goals(rt, b"goals empty", b"empty/goals.txt");
+    proof(rt, b"certificate empty", b"empty/proof.txt");
 }
 
 // Files as long as they may be.
-fn at_limits() {
-    rulebook(b"rulebook of 8,192 bytes", b"limit/rulebook.txt");
-    goals(b"goals of 8,192 bytes", b"limit/goals.txt");
-    proof(b"certificate of 32,768 bytes", b"limit/proof.txt");
+fn at_limits<R: Files + Print + Eprint>(rt: &R) {
+    rulebook(rt, b"rulebook of 8,192 bytes", b"limit/rulebook.txt");
+    goals(rt, b"goals of 8,192 bytes", b"limit/goals.txt");
+    proof(rt, b"certificate of 32,768 bytes", b"limit/proof.txt");
     show(
+        rt,
         b"all three at their limits",
         b"limit/rulebook.txt",
         b"limit/goals.txt",
@@ -79,12 +94,13 @@ fn at_limits() {
 }
 
 // Files that are too long: 2, before any text is judged.
-fn too_long() {
-    rulebook(b"rulebook of 8,193 bytes", b"long/rulebook.txt");
-    goals(b"goals of 8,193 bytes", b"long/goals.txt");
-    proof(b"certificate of 32,769 bytes", b"long/proof.txt");
-    proof(b"certificate of 100,000 bytes", b"longer/proof.txt");
+fn too_long<R: Files + Print + Eprint>(rt: &R) {
+    rulebook(rt, b"rulebook of 8,193 bytes", b"long/rulebook.txt");
+    goals(rt, b"goals of 8,193 bytes", b"long/goals.txt");
+    proof(rt, b"certificate of 32,769 bytes", b"long/proof.txt");
+    proof(rt, b"certificate of 100,000 bytes", b"longer/proof.txt");
     show(
+        rt,
         b"certificate too long, rulebook refused",
         b"refused/rulebook.txt",
         b"bench/goals.txt",
@@ -93,11 +109,12 @@ fn too_long() {
 }
 
 // A folder opens and cannot be read.
-fn folders() {
-    rulebook(b"rulebook.txt a folder", b"folder/rulebook.txt");
-    goals(b"goals.txt a folder", b"folder/goals.txt");
-    proof(b"proof.txt a folder", b"folder/proof.txt");
+fn folders<R: Files + Print + Eprint>(rt: &R) {
+    rulebook(rt, b"rulebook.txt a folder", b"folder/rulebook.txt");
+    goals(rt, b"goals.txt a folder", b"folder/goals.txt");
+    proof(rt, b"proof.txt a folder", b"folder/proof.txt");
     show(
+        rt,
         b"proof.txt a folder, rulebook too long",
         b"long/rulebook.txt",
         b"bench/goals.txt",
@@ -105,13 +122,13 @@ fn folders() {
     );
 }
 
-fn main() {
-    proof(b"bench set", b"bench/proof.txt");
-    refused();
-    missing();
-    missing_first();
-    empty();
-    at_limits();
-    too_long();
-    folders();
+fn main(rt: HostRuntime) {
+    proof(&rt, b"bench set", b"bench/proof.txt");
+    refused(&rt);
+    missing(&rt);
+    missing_first(&rt);
+    empty(&rt);
+    at_limits(&rt);
+    too_long(&rt);
+    folders(&rt);
 }

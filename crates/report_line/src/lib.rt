@@ -1,4 +1,6 @@
 // The line of the program: "number, steps, goals, terms, bytes, parted by tabs, ended by 0A". L1: it "gains" requested "as a last field".
+#![tactic(auto)]
+
 ghost use Rattle.std.specs.Prelude.{◌≤◌, ◌≡◌, length, take};
 ghost use Rattle.horn.specs.Calls.{report};
 ghost use Rattle.io.specs.Counts.{IsPrefixLen};

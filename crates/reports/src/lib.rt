@@ -1,4 +1,6 @@
 // What the call with three texts reports of what the walks answer.
+#![tactic(auto)]
+
 ghost use Rattle.std.specs.Prelude.{◌≡◌};
 ghost use Rattle.checker.specs.Checker as checking;
 ghost use Rattle.reports.specs.Release.{released};

@@ -1,5 +1,7 @@
 // Requests to the store: a node's number as `arena` answers it, and in the word behind the store's regions how many requests found their
 // node. Those that made it are as many as the store has nodes, so they need no word of their own.
+#![tactic(auto)]
+
 ghost use Rattle.std.specs.Prelude.{◌≡◌};
 ghost use Rattle.arena.specs.Store.{intern_answer};
 ghost use Rattle.requests.specs.Requests.{found_by, requested_area, emptied, requested_of};

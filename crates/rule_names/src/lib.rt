@@ -1,4 +1,6 @@
 // What stands in the place of a rule's name, kept for a judgment after the patterns; a list there is passed over.
+#![tactic(auto)]
+
 ghost use Rattle.std.specs.Prelude.{◌≡◌, length};
 ghost use Rattle.outcomes.specs.Outcomes.{refusal};
 ghost use Rattle.items.specs.Items.{numbered, walked};

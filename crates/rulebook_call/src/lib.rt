@@ -1,4 +1,6 @@
 // The call with the rulebook alone: the lengths, then both walks over the first 16,384 words of each area, cleared behind them.
+#![tactic(auto)]
+
 ghost use Rattle.std.specs.Prelude.{◌≡◌, length, replicate};
 ghost use Rattle.horn.specs.Setting.{document01};
 ghost use Rattle.horn.specs.Calls.{called, rulebook_left};

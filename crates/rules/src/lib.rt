@@ -1,4 +1,6 @@
 // Declarations of rules.
+#![tactic(auto)]
+
 ghost use Rattle.std.specs.Prelude.{◌≡◌};
 ghost use Rattle.outcomes.specs.Outcomes.{ok, refusal};
 ghost use Rattle.outcomes.specs.Leaving.{◌leaving◌};
@@ -78,7 +80,7 @@ pub fn describe_rule(
 
 // Writes the rule's variables behind its patterns.
 pub fn store_variables(vars: &[u32], heap: &mut [u32], w: Walk) -> Walk
-    ensures { (ok result leaving (λ x. x.now) heap.exit) ≡ variables_stored w vars.now heap.old }
+    ensures { (ok result leaving heap.new) ≡ variables_stored w vars.now heap.old }
 {
     let top = w.top;
     let end = places::VARIABLE_WORDS * w.variables as usize;
@@ -104,7 +106,7 @@ pub fn enter_rule(
     conclusion: u32,
     w: Walk,
 ) -> Walked
-    ensures { (walked result leaving (λ x. x.now) heap.exit) ≡ rule_entered text.now e s t n conclusion w vars.now heap.old }
+    ensures { (walked result leaving heap.new) ≡ rule_entered text.now e s t n conclusion w vars.now heap.old }
 {
     let m = symbols::enter(text, heap, places::RULES, e, s, t, w);
     let Walked::To(q) = m else {

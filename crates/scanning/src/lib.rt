@@ -1,4 +1,6 @@
 // Where the parts of a line end: white space and comments, an atom, the line itself.
+#![tactic(auto)]
+
 ghost use Rattle.std.specs.Prelude.{◌≡◌, suc, length};
 ghost use Rattle.scanning.specs.Scan.{stopped, blanks, atom_end, line_end};
 

@@ -1,5 +1,5 @@
 -- The counts of members kept while the tokens are read are those of the nested lists that come of it.
-use Rattle.std.proofs.Common.{◌≡◌, ℕ, zero, suc, ◌+◌, ◌<◌, List, [], ◌∷◌, ◌++◌, length, get_or, set, sym, refl, ap, ◌∙◌, ap₂, append-nil, arith, length-append, length-set}
+use Rattle.std.proofs.Common.{subst, ◌≡◌, ℕ, zero, suc, ◌+◌, ◌<◌, List, [], ◌∷◌, ◌++◌, length, get_or, set, sym, refl, ap, ◌∙◌, ap₂, append-nil, arith, length-append, length-set}
 use lib.ListN.{get_or-append}
 use lib.Seq.{set-append_left, set_at, get_or_at, append_snoc}
 use Rattle.horn.specs.Refusals.{Refusal, not_utf8, text_ends, stray_closing, Result, ok, refused, ◌>>=◌}
@@ -135,7 +135,7 @@ unfolding Below
 below_opening is cs b =
     let e : length (member_of is cs ++ (0 ∷ [])) ≡ suc (length cs) =
     length-append (member_of is cs) (0 ∷ []) ∙ (let h = length_member is cs in omega arith) in
-    rw e (omega arith, below_more (length cs) is b)
+    (omega (arith, e), subst (λ (n : ℕ). Below n is) (sym e) (below_more (length cs) is b))
 
 pub counting_is : (ts : Stream Token) (is cs : List ℕ) → Below (length cs) is
     → counting is cs ts ≡ (read (length is) ts >>= λ l. ok (final is cs l))

@@ -174,7 +174,7 @@ opened_held is cs left p area deep h =
         stacked_above (set (member_added p.depth area) p.openings 0) is (open_lists + p.depth) p.openings (omega arith)
             (stacked_below (member_added p.depth area) is p.openings 0 (omega arith) g.stacked),
       );
-      below = rw e (omega arith, below_more (length cs) is h.below);
+      below = (omega (arith, e), subst (λ (n : ℕ). Below n is) (sym e) (below_more (length cs) is h.below));
       room = omega arith;
       small = λ k. let s = g.small k in let t = get_d_snoc (member_of is cs) k in omega arith;
       long = omega arith;

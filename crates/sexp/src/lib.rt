@@ -1,4 +1,6 @@
 // The first walk over a rulebook: whether all its lists are closed, and how many members each has.
+#![tactic(auto)]
+
 ghost use Rattle.std.specs.Prelude.{◌≡◌};
 ghost use Rattle.sexp.specs.Walk.{member_added, list_opened, stepped, area_stepped, ended_at, walk_answer, walked};
 

@@ -1,4 +1,6 @@
 // L2: "The name shown is a returned part of the rulebook or of the goals text."
+#![tactic(auto)]
+
 ghost use Rattle.std.specs.Prelude.{◌≡◌};
 ghost use Rattle.names.specs.Chains.{name_at};
 ghost use Rattle.shown_names.specs.Shown.{of_two};

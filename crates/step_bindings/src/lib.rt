@@ -1,5 +1,7 @@
 // A binding among the items of a step. Its term is under construction on the stack above the references; bindings stand in the theory's
 // area (crate matching).
+#![tactic(auto)]
+
 ghost use Rattle.std.specs.Prelude.{◌≡◌};
 ghost use Rattle.outcomes.specs.Leaving.{◌leaving◌};
 ghost use Rattle.asking.specs.Asking.{passed};

@@ -1,4 +1,6 @@
 // The items of a step: bindings, and the judgment that it states. What is under construction stands on the stack above the references.
+#![tactic(auto)]
+
 ghost use Rattle.std.specs.Prelude.{◌≡◌};
 ghost use Rattle.outcomes.specs.Leaving.{◌leaving◌};
 ghost use Rattle.nodes.specs.Nodes.{numbered};

@@ -1,4 +1,6 @@
 // A step of a certificate, which is read whole before it is kept.
+#![tactic(auto)]
+
 ghost use Rattle.std.specs.Prelude.{◌≡◌};
 ghost use Rattle.outcomes.specs.Leaving.{◌leaving◌};
 ghost use Rattle.nodes.specs.Nodes.{numbered};

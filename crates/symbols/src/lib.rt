@@ -1,4 +1,6 @@
 // Declarations of sorts, constructors and predicates.
+#![tactic(auto)]
+
 ghost use Rattle.std.specs.Prelude.{◌≡◌};
 ghost use Rattle.outcomes.specs.Outcomes.{refusal};
 ghost use Rattle.outcomes.specs.Leaving.{◌leaving◌};
@@ -64,7 +66,7 @@ pub fn enter(
     t: usize,
     w: Walk,
 ) -> Walked
-    ensures { (walked result leaving (λ x. x.now) heap.exit) ≡ entered text.now buckets e s t w heap.old }
+    ensures { (walked result leaving heap.new) ≡ entered text.now buckets e s t w heap.old }
 {
     let found = names::find(heap, buckets, places::BUCKETS, text, text, s, t);
     match found {
@@ -86,7 +88,7 @@ pub fn describe(heap: &mut [u32], e: u32, a: u32, b: u32)
 
 // "`(sort N)`: N, then duplicate."
 pub fn declare_sort(text: &[u8], counts: &[u32], heap: &mut [u32], w: Walk) -> Walked
-    ensures { (walked result leaving (λ x. x.now) heap.exit) ≡ sort_declared text.now counts.now w heap.old }
+    ensures { (walked result leaving heap.new) ≡ sort_declared text.now counts.now w heap.old }
 {
     let e = w.top;
     let a = items::declared_name(text, counts, w);
@@ -102,7 +104,7 @@ pub fn declare_sort(text: &[u8], counts: &[u32], heap: &mut [u32], w: Walk) -> W
 
 // A symbol's inputs, then the closing.
 pub fn read_inputs(text: &[u8], counts: &[u32], heap: &mut [u32], n: u32, w: Walk) -> Walked
-    ensures { (walked result leaving (λ x. x.now) heap.exit) ≡ inputs n text.now counts.now w heap.old }
+    ensures { (walked result leaving heap.new) ≡ inputs n text.now counts.now w heap.old }
 {
     let mut v = w;
     let mut left = n;
@@ -119,7 +121,7 @@ pub fn read_inputs(text: &[u8], counts: &[u32], heap: &mut [u32], n: u32, w: Wal
 
 // A symbol's name and its inputs.
 pub fn read_signature(text: &[u8], counts: &[u32], heap: &mut [u32], w: Walk) -> Signature
-    ensures { (signed result leaving (λ x. x.now) heap.exit) ≡ signature text.now counts.now w heap.old }
+    ensures { (signed result leaving heap.new) ≡ signature text.now counts.now w heap.old }
 {
     let a = items::declared_name(text, counts, w);
     let Named::Atom(s, t, q) = a else {
@@ -148,7 +150,7 @@ pub fn enter_symbol(
     n: u32,
     w: Walk,
 ) -> Walked
-    ensures { (walked result leaving (λ x. x.now) heap.exit) ≡ symbol_entered text.now buckets e s t output n w heap.old }
+    ensures { (walked result leaving heap.new) ≡ symbol_entered text.now buckets e s t output n w heap.old }
 {
     let m = enter(text, heap, buckets, e, s, t, w);
     let Walked::To(q) = m else {
@@ -160,7 +162,7 @@ pub fn enter_symbol(
 
 // `(ctor N (S...) S)`: "N, inputs left to right, output, duplicate."
 pub fn declare_constructor(text: &[u8], counts: &[u32], heap: &mut [u32], w: Walk) -> Walked
-    ensures { (walked result leaving (λ x. x.now) heap.exit) ≡ constructor_declared text.now counts.now w heap.old }
+    ensures { (walked result leaving heap.new) ≡ constructor_declared text.now counts.now w heap.old }
 {
     let e = w.top;
     let g = read_signature(text, counts, heap, w);
@@ -176,7 +178,7 @@ pub fn declare_constructor(text: &[u8], counts: &[u32], heap: &mut [u32], w: Wal
 
 // `(pred N (S...))`: the same without an output, for which 0 stands, which is no sort's address.
 pub fn declare_predicate(text: &[u8], counts: &[u32], heap: &mut [u32], w: Walk) -> Walked
-    ensures { (walked result leaving (λ x. x.now) heap.exit) ≡ predicate_declared text.now counts.now w heap.old }
+    ensures { (walked result leaving heap.new) ≡ predicate_declared text.now counts.now w heap.old }
 {
     let e = w.top;
     let g = read_signature(text, counts, heap, w);

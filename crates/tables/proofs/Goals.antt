@@ -16,7 +16,7 @@ use Rattle.horn.specs.Checker.{Goal, goal, is_goal}
 use Rattle.horn.specs.Certificate.{Witness, witness, without}
 use Rattle.horn.specs.Page.{is_result_of}
 use Rattle.horn.proofs.Equality.{case, named_decides, decides_false, differ, first-some}
-use Rattle.names.specs.Tables.{Entry, entry, top, Stands, other_kind, declared, Owns, bucket_word, entry_word, Agree, both_none, both_some, present}
+use Rattle.names.specs.Tables.{Entry, entry, top, Stands, other_kind, declared, Owns, bucket_word, entry_word, Agree, both_none, both_some, present, nothing_yet}
 use Rattle.names.proofs.Kept.{kept_within, kept_put, kept_set, add_law}
 use Rattle.names.proofs.Declared.{stands_kept, find_agrees, find_present, first_last, first_before}
 use Rattle.tables.specs.Words.{goal_buckets, entry_words, value_offset, closed_from, entered, goal_found, open_at, goal_open}
@@ -105,6 +105,7 @@ module _ {Means : ℕ → Term → Type 0} {results : List Witness} where
   unfolding first is_goal
   closed_is_none {table} {e} (still_open {b} {w} (v, l, o) m f g) (here h) z =
       let u = at_same table (e + value_offset) (b + value_offset) (omega arith) in absurd (omega arith)
+  closed_is_none (no_goal) x9 z = elim x9 [ ]
   closed_is_none {name} (still_open {name = other} v m f g) (there s) z =
       let x : named name other ≡ false = other_name other name (none_of_sitting (is_goal other) s f) in
       rw (x, first) (closed_is_none g s z)
@@ -121,6 +122,7 @@ module _ {Means : ℕ → Term → Type 0} {results : List Witness} where
       let q = at_same table (e + value_offset) (b + value_offset) (omega arith) in
       let k : w ≡ v = omega arith in
       (rw (named_decides.same name, first), rw (← k) m)
+  open_is_some v (no_goal) x9 z = elim x9 [ ]
   open_is_some v {name} (still_open {name = other} u m f g) (there s) z =
       let x : named name other ≡ false = other_name other name (none_of_sitting (is_goal other) s f) in
       let (p, q) = open_is_some v g s z in
@@ -172,6 +174,7 @@ module _ {Means : ℕ → Term → Type 0} {results : List Witness} where
             (values_more name n (values_kept g (λ i x y. get_or-set_other table (e + value_offset) i c 0 (λ q. omega arith))) f),
         omega arith,
       )
+  values_close v n c (no_goal) x17 z l d = elim x17 [ ]
   values_close {table} {e} v n c {name} {j} (still_open {b} {w} {name = other} {j = i} {goals} {open_goals} (u, k, o) m f g) (there s) z l d =
       let y : named other name ≡ false = none_of_sitting (is_goal other) s f in
       let x : named name other ≡ false = other_name other name y in
@@ -266,6 +269,7 @@ pub stands_means : {A : Type 0} {test : Name → A → Bool} {M : ℕ → A → 
     → Memᴰ (entry e name) entries
     → (a : A) × M e a
 stands_means (other_kind q n s) m = stands_means s m
+stands_means nothing_yet m = elim m [ ]
 stands_means {M} {e} (declared {a} {e = d} q n k f s) (Memᴰ.head m) = let h : e ≡ d = cc in (a, rw h k)
 stands_means (declared q n k f s) (Memᴰ.tail m) = stands_means s m
 

@@ -3,6 +3,8 @@
 // them, and a value. Of an abbreviation that is its term's number, of a goal its judgment's number, or from `CLOSED` on the number of its
 // result's step. Steps stand downward from the end of the area, 4 words each: judgment, rule, the place of its references in the
 // certificate, and up to where the certificate was tested there.
+#![tactic(auto)]
+
 ghost use Rattle.std.specs.Prelude.{◌≡◌, ◌+◌, ◌-◌, length};
 ghost use Rattle.words.specs.Parts.{part, cleared};
 ghost use Rattle.names.specs.Chains.{answered};
@@ -12,7 +14,7 @@ ghost use Rattle.tables.specs.Words.{def_found, def_meaning, def_added, def_coun
 use names::Found;
 
 // The first word that is free, and how many goals, goals still open and steps there are.
-#[derive(Drop)]
+#[derive(Clone, Copy)]
 pub struct Tally {
     pub top: u32,
     pub goals: u32,

@@ -1,5 +1,7 @@
 // Terms in goals and certificate (crate nodes says what a term, a symbol and the stack are): a term reads its arguments, each of which is a
 // term.
+#![tactic(auto)]
+
 ghost use Rattle.std.specs.Prelude.{◌≡◌};
 ghost use Rattle.outcomes.specs.Leaving.{◌leaving◌};
 ghost use Rattle.nodes.specs.Nodes.{numbered};

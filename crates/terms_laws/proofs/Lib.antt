@@ -2,6 +2,7 @@ pub mod Rows
 pub mod Making
 pub mod Atoms
 pub mod Asked
+pub mod Walked
 pub mod Reading
 pub mod Judgments
 pub mod Whole

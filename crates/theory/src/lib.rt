@@ -1,5 +1,7 @@
 // Both walks over a rulebook. The first (crate `sexp`) reads it whole; in the second its declarations are judged in order, and the theory is
 // written into its area (crate `items` says how).
+#![tactic(auto)]
+
 ghost use Rattle.std.specs.Prelude.{◌≡◌};
 ghost use Rattle.outcomes.specs.Outcomes.{refusal};
 ghost use Rattle.outcomes.specs.Leaving.{◌leaving◌};
@@ -11,7 +13,7 @@ ghost use Rattle.theory.specs.Walks.{theory};
 use items::{Named, Numbered, Walk, Walked, places};
 use lex::{Read, Reader};
 
-#[derive(Drop)]
+#[derive(Clone, Copy)]
 pub enum Form {
     Sort,
     Constructor,

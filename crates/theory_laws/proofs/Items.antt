@@ -37,6 +37,8 @@ module _ (text counts : List ℕ) (Before : Reader → Stream Token → Type 0) 
     from : (got : read.Token) (next : Reader) → lexed.taken text w.reader ≡ lexed.token got next → Same text got (atom bytes)
         → Before next ts
         → AtomMet bytes ts ks w
+    from Opening next e x3 b = elim x3 [ ]
+    from Closing next e x4 b = elim x4 [ ]
     from (Atom s t) next e (same_atom n l u) b =
         record {
           s = s;
@@ -67,6 +69,8 @@ module _ (text counts : List ℕ) (Before : Reader → Stream Token → Type 0) 
         → get_or counts w.opened 0 ≡ k
         → Next counts (w.opened + 1) ks
         → ListMet k ts ks w
+    from Closing next e x5 b c n = elim x5 [ ]
+    from (Atom _ _) next e x8 b c n = elim x8 [ ]
     from Opening next e same_opening b c n =
         let f = h.few in
         let q : sum32 w.opened 1 ≡ w.opened + 1 = sum_small w.opened 1 (omega arith) in
@@ -91,6 +95,8 @@ module _ (text counts : List ℕ) (Before : Reader → Stream Token → Type 0) 
     from : (got : read.Token) (next : Reader) → lexed.taken text w.reader ≡ lexed.token got next → Same text got closing
         → Before next ts
         → ClosingMet ts ks w
+    from Opening next e x3 b = elim x3 [ ]
+    from (Atom _ _) next e x6 b = elim x6 [ ]
     from Closing next e same_closing b =
         record { next = next; met = rw e; walks = record { before = b; counted = h.counted; few = h.few } }
 

@@ -23,6 +23,7 @@ use Rattle.theory_laws.proofs.Frames.{Keeps, keeps_set, keeps_then, grown_none, 
 -- One variable more behind others.
 pub nth_more : (vs ws : List Variable) {v : ℕ} {name : Name} → Nth vs v name → Nth (vs ++ ws) v name
 nth_more (variable name s ∷ vs) ws here = here
+nth_more [] ws x' = elim x' [ ]
 nth_more (x ∷ vs) ws (there n) = there (nth_more vs ws n)
 
 pub nth_last : (vs : List Variable) (name s : Name) {v : ℕ} → v ≡ length vs → Nth (vs ++ (variable name s ∷ [])) v name
@@ -32,6 +33,7 @@ nth_last (x ∷ vs) name s {v = suc v} e = there {v = v} (nth_last vs name s {v 
 
 pub nth_below : (vs : List Variable) {v : ℕ} {name : Name} → Nth vs v name → v < length vs
 nth_below (variable name s ∷ vs) here = omega arith
+nth_below [] x' = elim x' [ ]
 nth_below (x ∷ vs) (there n) = omega (arith, nth_below vs n)
 
 pub variables_more : {text area : List ℕ} {es : Entries} {o : ℕ} {vs : List Variable} (name s : Name) (p : ℕ)

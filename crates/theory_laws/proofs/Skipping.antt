@@ -34,6 +34,8 @@ module _ (text counted : List ℕ) (Before : Reader → Stream Token → Type 0)
   pass_atom {bytes} {ts} {ks} {w} h = by (reads.at_token w.reader (atom bytes) ts h.before) where
     from : (got : read.Token) (next : Reader) → lexed.taken text w.reader ≡ lexed.token got next → Same text got (atom bytes) → Before next ts
         → Passes 1 ts ks w
+    from Opening next e x3 b = elim x3 [ ]
+    from Closing next e x4 b = elim x4 [ ]
     from (Atom s t) next e (same_atom n l u) b =
         record { next = read_on w next; met = rw e; walks = record { before = b; counted = h.counted; few = h.few }; top = refl }
 
@@ -44,6 +46,8 @@ module _ (text counted : List ℕ) (Before : Reader → Stream Token → Type 0)
   unfolding passed
   pass_closing {ts} {ks} {w} h = by (reads.at_token w.reader closing ts h.before) where
     from : (got : read.Token) (next : Reader) → lexed.taken text w.reader ≡ lexed.token got next → Same text got closing → Before next ts → Passes 0 ts ks w
+    from Opening next e x3 b = elim x3 [ ]
+    from (Atom _ _) next e x6 b = elim x6 [ ]
     from Closing next e same_closing b =
         record { next = read_on w next; met = rw e; walks = record { before = b; counted = h.counted; few = h.few }; top = refl }
 
@@ -56,6 +60,8 @@ module _ (text counted : List ℕ) (Before : Reader → Stream Token → Type 0)
     from : (got : read.Token) (next : Reader) → lexed.taken text w.reader ≡ lexed.token got next → Same text got opening → Before next ts
         → Next counted (w.opened + 1) ks
         → Passes 2 ts ks w
+    from Closing next e x4 b n = elim x4 [ ]
+    from (Atom _ _) next e x7 b n = elim x7 [ ]
     from Opening next e same_opening b n =
         let f = h.few in
         let q : sum32 w.opened 1 ≡ w.opened + 1 = sum_small w.opened 1 (omega arith) in

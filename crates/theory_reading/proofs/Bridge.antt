@@ -39,6 +39,7 @@ name_none : (a : ℕ) {name : Name} (entries : List Entry) → name_in a entries
 unfolding name_in
 name_none a {name} (entry e m ∷ entries) h (Memᴰ.head q) =
     let k : a ≡ e = cc in none-some (sym h ∙ name_here a e m entries k)
+name_none a [] h x'' = elim x'' [ ]
 name_none a {name} (entry e m ∷ entries) h (Memᴰ.tail q) =
     by_number a e
     (λ k. none-some (sym h ∙ name_here a e m entries k))

@@ -1,5 +1,5 @@
 -- The variables of a rule have different names, so that a name and a number say the same. Assumes nothing.
-use mathlib.Core.Path.{◌≡◌, refl, ap, sym, ◌∙◌}
+use mathlib.Core.Path.{◌≡◌, refl, ap, sym, subst, ◌∙◌}
 use mathlib.Core.List.{List, ◌∷◌}
 use mathlib.Core.Option.{none, some}
 use Prim.Native.Nat.{ℕ, suc}
@@ -28,12 +28,15 @@ nth_found {key} (there {x = variable name s} {vs} n) e =
     (λ q. none-some (sym e ∙ first_here key name s vs q))
     (λ q. nth_found n (sym (first_on key name s vs q) ∙ e))
 
+nth_same : {vs : List Variable} {v w : ℕ} {m n : Name} → Apart vs → Nth vs v m → Nth vs w n → m ≡ n → v ≡ w
+nth_same a here here e = refl
+nth_same (name_apart f a) (here {name} {s} {vs}) (there {v = v} n) e = absurd (nth_found (subst (λ (q : Name). Nth vs v q) (sym e) n) f)
+nth_same (name_apart f a) (there {vs = vs} {v = v} n) here e = absurd (nth_found (subst (λ (q : Name). Nth vs v q) e n) f)
+nth_same (name_apart f a) (there n) (there m) e = ap suc (nth_same a n m e)
+
 -- One name, one number.
 pub nth_one : {vs : List Variable} {v w : ℕ} {key : Name} → Apart vs → Nth vs v key → Nth vs w key → v ≡ w
-nth_one a here here = refl
-nth_one (name_apart f a) here (there n) = absurd (nth_found n f)
-nth_one (name_apart f a) (there n) here = absurd (nth_found n f)
-nth_one (name_apart f a) (there n) (there m) = ap suc (nth_one a n m)
+nth_one a n m = nth_same a n m refl
 
 -- One number, one name.
 pub nth_name : {vs : List Variable} {v : ℕ} {m n : Name} → Nth vs v m → Nth vs v n → m ≡ n

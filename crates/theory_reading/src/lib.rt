@@ -1,5 +1,7 @@
 // Reading a theory that stands in its area (crate `items` says how): symbols and rules by names that stand in any text, and the words of
 // their entries. A symbol and a rule are named by the addresses of their entries, a variable of a rule by its number.
+#![tactic(auto)]
+
 ghost use Rattle.std.specs.Prelude.{◌≡◌};
 ghost use Rattle.words.specs.Parts.{part};
 ghost use Rattle.names.specs.Chains.{answered};

@@ -1,12 +1,13 @@
-// For bench/: functions that another language calls to time what the crates below them do.
+// For bench/: functions to time what the crates below them do. Crate `timing_c` exports them.
+#![tactic(auto)]
+
 ghost use Rattle.std.specs.Prelude.{◌≡◌, length};
 ghost use Rattle.words.specs.Parts.{cleared};
 ghost use Rattle.lex.specs.Answers.{start};
 ghost use Rattle.timing.specs.Count.{counted};
 
 // How many tokens a text has before its end, or before its first line that is not UTF-8.
-#[unsafe(no_mangle)]
-pub extern "C" fn count_tokens(text: &[u8]) -> usize
+pub fn count_tokens(text: &[u8]) -> usize
     ensures { result ≡ counted (length text.now) text.now start 0 }
 {
     let mut r = lex::Reader::new();
@@ -32,8 +33,7 @@ pub extern "C" fn count_tokens(text: &[u8]) -> usize
 }
 
 // Sets the first n words to 0.
-#[unsafe(no_mangle)]
-pub extern "C" fn clear_words(s: &mut [u32], n: usize)
+pub fn clear_words(s: &mut [u32], n: usize)
     ensures { s.new ≡ cleared n s.old }
 {
     words::clear(s, n);

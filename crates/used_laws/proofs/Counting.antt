@@ -34,11 +34,12 @@ use Rattle.used_laws.proofs.Marking.{Leaned, leaned_more, length_marked}
 -- References by their places: where one stands, and which stands at a place.
 refers_at : {stack : List ℕ} {k : ℕ} (ns : List ℕ) (i : ℕ) → i < 4294967295 → ReferencesAt stack k ns → Memᴰ i ns
     → (j : ℕ) × (j < length ns) × (i ≡ get_or stack (k + j) 0)
+refers_at [] i b _ x4 = elim x4 [ ]
 refers_at {stack} {k} (n ∷ ns) i b (one_reference (as_it_is e l) rs) (Memᴰ.head q) =
     let z : k + 0 ≡ k = omega arith in (0, omega arith, rw z (q ∙ sym e))
 refers_at (n ∷ ns) i b (one_reference (at_most e l) rs) (Memᴰ.head q) = absurd (omega arith)
 refers_at {stack} {k} (n ∷ ns) i b (one_reference r rs) (Memᴰ.tail m) =
-    let (j, c, e) = refers_at ns i b rs m in
+    let (j, c, e) = refers_at {k = k + 1} ns i b rs m in
     let z : k + suc j ≡ k + 1 + j = omega arith in
     (suc j, omega arith, rw z e)
 
@@ -49,7 +50,7 @@ at_refers {stack} {k} (n ∷ ns) i zero b (one_reference (as_it_is e l) rs) c q 
 at_refers {stack} {k} (n ∷ ns) i zero b (one_reference (at_most e l) rs) c q =
     let z : k + 0 ≡ k = omega arith in let q' : i ≡ get_or stack k 0 = rw z at q in absurd (omega arith)
 at_refers {stack} {k} (n ∷ ns) i (suc j) b (one_reference r rs) c q =
-    let z : k + suc j ≡ k + 1 + j = omega arith in Memᴰ.tail (at_refers ns i j b rs (omega arith) (rw z at q))
+    let z : k + suc j ≡ k + 1 + j = omega arith in Memᴰ.tail (at_refers {k = k + 1} ns i j b rs (omega arith) (rw z at q))
 at_refers [] i j b rs c q = absurd (omega arith)
 
 -- What was read of a list is marked.

@@ -1,4 +1,6 @@
 // How many steps are used: one backward pass over the steps, which marks what results and used steps lean on, a word for each step.
+#![tactic(auto)]
+
 ghost use Rattle.std.specs.Prelude.{◌≡◌};
 ghost use Rattle.used_steps.specs.Marks.{marked, results_marked, leaned, counted, used_count};
 

@@ -1,4 +1,6 @@
 // Characters: the first of some bytes, and its kind.
+#![tactic(auto)]
+
 ghost use Rattle.std.specs.Prelude.{◌≡◌, ◌+◌, ◌*◌, ◌%◌, get_or, drop};
 ghost use Rattle.horn.specs.Tokens.{white, kind};
 ghost use Rattle.utf8.specs.Classes.{kind_number};

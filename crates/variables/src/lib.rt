@@ -1,4 +1,6 @@
 // The variables of a rule: found by their names, met for the first time or again.
+#![tactic(auto)]
+
 ghost use Rattle.std.specs.Prelude.{◌≡◌};
 ghost use Rattle.words.specs.Parts.{part};
 ghost use Rattle.names.specs.Chains.{answered};

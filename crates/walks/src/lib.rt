@@ -1,4 +1,6 @@
 // The walks over three texts, with the areas cleared behind them.
+#![tactic(auto)]
+
 ghost use Rattle.std.specs.Prelude.{◌≡◌, length, replicate};
 ghost use Rattle.checker.specs.Checker as checking;
 ghost use Rattle.reports.specs.Release.{released_by};

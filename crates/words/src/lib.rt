@@ -1,4 +1,6 @@
 // Total access to lent words and bytes: 0 is read outside, and nothing is written there. So no caller owes a bound.
+#![tactic(auto)]
+
 ghost use Rattle.std.specs.Prelude.{◌≡◌, ◌*◌, ◌%◌, ◌^◌, bit_xor, slice_index, slice_set};
 ghost use Rattle.words.specs.Parts.{part, same_bytes, copied, cleared};
 ghost use Rattle.words.specs.Sums.{low32, sum32};

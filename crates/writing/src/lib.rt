@@ -1,5 +1,7 @@
 // Texts in a lent buffer, piece by piece. Each writer says what the whole buffer holds afterwards; a byte outside the buffer is not
 // written, so no caller owes room. A single byte is written by `words::put_byte`.
+#![tactic(auto)]
+
 ghost use Rattle.std.specs.Prelude.{◌+◌, ◌-◌, ◌≤◌, min, ◌≡◌, length, drop};
 ghost use Rattle.horn.specs.Layout.{plain};
 ghost use Rattle.horn.specs.Output as output;

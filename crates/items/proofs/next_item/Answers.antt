@@ -1,0 +1,24 @@
+use Rattle.items.specs.Items.{item_due}
+use Rattle.lex.specs.Answers.{answer}
+use Rattle.horn.specs.Refusals.{number}
+use Rattle.items.proofs.next_item.Goals as goal
+
+pub returns-in-End : goal.returns-in-End
+unfolding item_due answer
+returns-in-End c = rw (← c.token-read.ensures, c.in-End.is)
+
+pub returns-in-Bad : goal.returns-in-Bad
+unfolding item_due answer number
+returns-in-Bad c = rw (← c.token-read.ensures, c.in-Bad.is)
+
+pub returns-in-Closing : goal.returns-in-Closing
+unfolding item_due answer
+returns-in-Closing c = rw (← c.token-read.ensures, c.in-Got.is, c.in-Closing.is)
+
+pub returns-in-Atom : goal.returns-in-Atom
+unfolding item_due answer
+returns-in-Atom c = rw (← c.token-read.ensures, c.in-Got.is, c.in-Atom.is)
+
+pub returns-in-Opening : goal.returns-in-Opening
+unfolding item_due answer
+returns-in-Opening c = rw (← c.token-read.ensures, c.in-Got.is, c.in-Opening.is, c.plus.ensures, c.at-members.ensures)

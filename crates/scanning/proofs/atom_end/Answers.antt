@@ -1,0 +1,46 @@
+use Rattle.utf8.proofs.Looks.{look_past, look_one, longer_is, kind_steps, width_steps}
+use Rattle.utf8.proofs.Plain.{plain_wide, plain_ordinary}
+use Rattle.scanning.proofs.Turns.{atom_on, atom_over, atom_stop}
+use Rattle.utf8.specs.Characters.{width, kind_at}
+use lib.ListN.{length}
+use native.Mathlib.Omega.{arith}
+use mathlib.Core.Path.{◌∙◌, refl, sym, ap}
+use Prim.Native.Nat.{◌-◌}
+use borrow.Author.Rules.{rules}
+use Rattle.scanning.proofs.atom_end.Goals as goal
+
+pub loop-q-init : goal.loop-q-init
+loop-q-init c = (length c.args.text.now, (omega arith, refl))
+
+pub returns-then-text-q : goal.returns-then-text-q
+returns-then-text-q c = sym (c.loop-q.invariant.1.1 ∙ atom_stop c.args.text.now c.args.end c.loop-q.q 5 (look_past c.args.text.now c.loop-q.q c.if-text-q.true).0 c.loop-q-test.true c.loop-q.invariant.0 (λ z. omega arith))
+
+pub loop-q-preserved-then-c-eq-ORDINARY : goal.loop-q-preserved-then-c-eq-ORDINARY
+loop-q-preserved-then-c-eq-ORDINARY c = let s = look_one c.args.text.now c.loop-q.q c.if-text-q.false (c.shared_slice_known-in-loop-q-1.given c.loop-q.q).fits c.class-c.result c.class-c.ensures (omega arith) in let t = atom_on c.args.text.now c.args.end c.loop-q.q c.class-c.result s.0 c.loop-q-test.true 1 s.1 c.loop-q.invariant.0 c.loop-q.invariant.1.0 c.if-c-eq-ORDINARY.true in (t.0, (t.1.0, c.loop-q.invariant.1.1 ∙ t.1.1))
+
+pub returns-then-c-lt-NEVER : goal.returns-then-c-lt-NEVER
+returns-then-c-lt-NEVER c = let s = look_one c.args.text.now c.loop-q.q c.if-text-q.false (c.shared_slice_known-in-loop-q-1.given c.loop-q.q).fits c.class-c.result c.class-c.ensures c.if-c-lt-NEVER.true in sym (c.loop-q.invariant.1.1 ∙ atom_stop c.args.text.now c.args.end c.loop-q.q c.class-c.result s.0 c.loop-q-test.true c.loop-q.invariant.0 c.if-c-eq-ORDINARY.false)
+
+pub overflow_add-q-then-plain-gt-LAST_WHITE : goal.overflow_add-q-then-plain-gt-LAST_WHITE
+overflow_add-q-then-plain-gt-LAST_WHITE c = let s = width_steps c.args.text.now c.loop-q.q 3 (plain_wide c.args.text.now c.loop-q.q c.class-c.result c.if-text-q.false (c.shared_slice_known-in-loop-q-1.given c.loop-q.q).fits c.class-c.ensures c.plain_three-plain.result c.plain_three-plain.ensures (omega arith)) (λ z. omega arith) in record { fits = omega arith }
+
+pub loop-q-smaller-then-plain-gt-LAST_WHITE : goal.loop-q-smaller-then-plain-gt-LAST_WHITE
+loop-q-smaller-then-plain-gt-LAST_WHITE c = omega (arith, c.if-text-q.false)
+
+pub loop-q-preserved-then-plain-gt-LAST_WHITE : goal.loop-q-preserved-then-plain-gt-LAST_WHITE
+loop-q-preserved-then-plain-gt-LAST_WHITE c = let t = atom_on c.args.text.now c.args.end c.loop-q.q 0 (plain_ordinary c.args.text.now c.loop-q.q c.class-c.result c.if-text-q.false (c.shared_slice_known-in-loop-q-1.given c.loop-q.q).fits c.class-c.ensures c.plain_three-plain.result c.plain_three-plain.ensures c.if-plain-gt-LAST_WHITE.true) c.loop-q-test.true 3 (plain_wide c.args.text.now c.loop-q.q c.class-c.result c.if-text-q.false (c.shared_slice_known-in-loop-q-1.given c.loop-q.q).fits c.class-c.ensures c.plain_three-plain.result c.plain_three-plain.ensures (omega arith)) c.loop-q.invariant.0 c.loop-q.invariant.1.0 refl in (t.0, (t.1.0, c.loop-q.invariant.1.1 ∙ t.1.1))
+
+pub returns-then-kind-ne-ORDINARY : goal.returns-then-kind-ne-ORDINARY
+returns-then-kind-ne-ORDINARY c = let f = longer_is c.args.text.now c.loop-q.q c.class-c.result c.if-text-q.false (c.shared_slice_known-in-loop-q-1.given c.loop-q.q).fits c.class-c.ensures c.if-c-lt-NEVER.false in sym (c.loop-q.invariant.1.1 ∙ atom_stop c.args.text.now c.args.end c.loop-q.q c.look_longer-seen.result.kind (c.look_longer-seen.ensures.kinds ∙ ap kind_at f) c.loop-q-test.true c.loop-q.invariant.0 c.if-kind-ne-ORDINARY.true)
+
+pub overflow_add-q-in-loop-q : goal.overflow_add-q-in-loop-q
+overflow_add-q-in-loop-q c = let f = longer_is c.args.text.now c.loop-q.q c.class-c.result c.if-text-q.false (c.shared_slice_known-in-loop-q-1.given c.loop-q.q).fits c.class-c.ensures c.if-c-lt-NEVER.false in let s = kind_steps c.args.text.now c.loop-q.q c.look_longer-seen.result.width (c.look_longer-seen.ensures.wide ∙ ap width f) c.look_longer-seen.result.kind (c.look_longer-seen.ensures.kinds ∙ ap kind_at f) (λ z. omega (arith, z, c.if-kind-ne-ORDINARY.false)) in record { fits = omega arith }
+
+pub loop-q-smaller : goal.loop-q-smaller
+loop-q-smaller c = let f = longer_is c.args.text.now c.loop-q.q c.class-c.result c.if-text-q.false (c.shared_slice_known-in-loop-q-1.given c.loop-q.q).fits c.class-c.ensures c.if-c-lt-NEVER.false in let s = kind_steps c.args.text.now c.loop-q.q c.look_longer-seen.result.width (c.look_longer-seen.ensures.wide ∙ ap width f) c.look_longer-seen.result.kind (c.look_longer-seen.ensures.kinds ∙ ap kind_at f) (λ z. omega (arith, z, c.if-kind-ne-ORDINARY.false)) in omega arith
+
+pub loop-q-preserved : goal.loop-q-preserved
+loop-q-preserved c = let f = longer_is c.args.text.now c.loop-q.q c.class-c.result c.if-text-q.false (c.shared_slice_known-in-loop-q-1.given c.loop-q.q).fits c.class-c.ensures c.if-c-lt-NEVER.false in let t = atom_on c.args.text.now c.args.end c.loop-q.q c.look_longer-seen.result.kind (c.look_longer-seen.ensures.kinds ∙ ap kind_at f) c.loop-q-test.true c.look_longer-seen.result.width (c.look_longer-seen.ensures.wide ∙ ap width f) c.loop-q.invariant.0 c.loop-q.invariant.1.0 c.if-kind-ne-ORDINARY.false in (t.0, (t.1.0, c.loop-q.invariant.1.1 ∙ t.1.1))
+
+pub returns : goal.returns
+returns c = sym (c.loop-q.invariant.1.1 ∙ atom_over c.args.text.now c.args.end c.loop-q.q c.loop-q.invariant.0 (search rules))
