@@ -12,8 +12,8 @@ use lib.Seq.{get_or-set_other}
 use Rattle.words.specs.Parts.{copied}
 use Rattle.words.specs.Hash.{hash}
 use Rattle.words.proofs.Writing.{length-copied, copied_behind}
-use Rattle.horn.specs.Rulebook.{Symbol}
-use Rattle.horn.specs.StoredTerms.{Term}
+use Rattle.facts.specs.Below.horn.specs.Rulebook.{Symbol}
+use Rattle.facts.specs.Below.horn.specs.StoredTerms.{Term}
 use Rattle.arena.specs.Probing.{probe, start_place}
 use Rattle.arena.specs.Store.{start_at, place_at, word_at, area_words, count, start, is_key, searched, with_node, added_area, area_at, intern_area}
 use Rattle.arena.specs.declared.Probe.{Probe}

@@ -6,9 +6,9 @@ use mathlib.Core.List.{List, [], ◌∷◌}
 use native.Mathlib.Omega.{arith}
 use native.Mathlib.Nat.{le_of_suc-le-suc}
 use lib.ListN.{length, get_or}
-use Rattle.horn.specs.Names.{some_of}
-use Rattle.horn.specs.StoredTerms.{Term, same_term, holds}
-use Rattle.horn.proofs.Equality.{same_term_decides}
+use Rattle.facts.specs.Below.horn.specs.Names.{some_of}
+use Rattle.facts.specs.Below.horn.specs.StoredTerms.{Term, same_term, holds}
+use Rattle.facts.specs.Below.horn.proofs.Equality.{same_term_decides}
 use Rattle.arena.proofs.Cases.{not_both}
 
 -- A term is held exactly when it stands at some place of the store.

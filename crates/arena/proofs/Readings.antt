@@ -4,8 +4,8 @@ use mathlib.Core.Path.{◌≡◌, sym, ap, ◌∙◌}
 use mathlib.Core.List.{List, []}
 use native.Mathlib.Omega.{arith}
 use lib.ListN.{length, get_or, take}
-use Rattle.horn.specs.Rulebook.{Symbol}
-use Rattle.horn.specs.StoredTerms.{Term}
+use Rattle.facts.specs.Below.horn.specs.Rulebook.{Symbol}
+use Rattle.facts.specs.Below.horn.specs.StoredTerms.{Term}
 use Rattle.arena.specs.Store.{area_words, word_at, words_at, count, start, size_of, head_of, argument_of, emptied}
 use Rattle.arena.proofs.Copies.{get_d_words_at}
 use Rattle.arena.proofs.Nodes.{Node, Nodes, node_of, total, total_next}

@@ -4,11 +4,11 @@ use mathlib.Core.Path.{◌≡◌, refl}
 use mathlib.Core.List.{List}
 use lib.Dec.{lit<, lit≤}
 use lib.ListN.{length}
-use Rattle.horn.specs.Refusals.{number}
-use Rattle.horn.specs.Setting.{Setting, document01}
-use Rattle.horn.specs.Rulebook.{Symbol}
-use Rattle.horn.specs.StoredTerms.{Term}
-use Rattle.horn.proofs.Run.{store_of}
+use Rattle.facts.specs.Below.horn.specs.Refusals.{number}
+use Rattle.facts.specs.Below.horn.specs.Setting.{Setting, document01}
+use Rattle.facts.specs.Below.horn.specs.Rulebook.{Symbol}
+use Rattle.facts.specs.Below.horn.specs.StoredTerms.{Term}
+use Rattle.facts.specs.Below.horn.proofs.Run.{store_of}
 use Rattle.arena.specs.Probing.{start_place}
 use Rattle.arena.specs.Store.{intern_answer, intern_area, answered}
 use Rattle.arena.specs.declared.Answer.TheVariants.{Full}

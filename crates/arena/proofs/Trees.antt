@@ -10,14 +10,14 @@ use borrow.Author.Tests.{le-leb, lt-leb}
 use lib.Dec.{leb}
 use lib.ListN.{length, get_or, length-append, get_or-append}
 use lib.Seq.{get_or-append_seam}
-use Rattle.horn.specs.Refusals.{ok, refused, ◌>>=◌, need, store_full}
-use Rattle.horn.specs.Setting.{Setting}
-use Rattle.horn.specs.Rulebook.{Symbol}
-use Rattle.horn.specs.StoredTerms.{Term, node, Terms, []ₜ, ◌∷ₜ◌, width, node_size, size, holds, within_limits, intern}
+use Rattle.facts.specs.Below.horn.specs.Refusals.{ok, refused, ◌>>=◌, need, store_full}
+use Rattle.facts.specs.Below.horn.specs.Setting.{Setting}
+use Rattle.facts.specs.Below.horn.specs.Rulebook.{Symbol}
+use Rattle.facts.specs.Below.horn.specs.StoredTerms.{Term, node, Terms, []ₜ, ◌∷ₜ◌, width, node_size, size, holds, within_limits, intern}
 use Rattle.arena.specs.Store.{intern_answer, intern_area}
 use Rattle.arena.specs.declared.Answer.{Answer}
 use Rattle.arena.specs.declared.Answer.TheVariants.{Found, Made, Full}
-use Rattle.horn.proofs.Equality.{case}
+use Rattle.facts.specs.Below.horn.proofs.Equality.{case}
 use Rattle.arena.proofs.Cases.{not_both}
 use Rattle.arena.proofs.Equality.{held_place, place_held}
 use Rattle.arena.proofs.Nodes.{Node, Nodes, node_of, total, last_or_before}

@@ -7,7 +7,7 @@ use native.Mathlib.Nat.{mod-lt, mod-eq_of_lt, mod-add-mod, add-mod-mod, add-mod_
 use Rattle.arena.specs.Probing.{probe}
 use Rattle.arena.specs.declared.Probe.{Probe}
 use Rattle.arena.specs.declared.Probe.TheVariants.{Held, Free, Nowhere}
-use Rattle.horn.proofs.Equality.{case}
+use Rattle.facts.specs.Below.horn.proofs.Equality.{case}
 
 -- One turn, forward.
 pub turn_none : (places : ℕ) (r : ℕ → ℕ) (q : ℕ → Bool) (i : ℕ) → probe places zero r q i ≡ Nowhere

@@ -5,7 +5,7 @@ use Rattle.std.specs.Prelude.{ℕ, zero, suc, ◌+◌, ◌-◌, Bool, true, fals
 use Rattle.words.specs.Choice.{pick}
 use Rattle.words.specs.Parts.{part, same_bytes, copied, cleared}
 use Rattle.words.specs.Hash.{hash}
-use Rattle.horn.specs.Refusals.{number, store_full}
+use Rattle.facts.specs.Below.horn.specs.Refusals.{number, store_full}
 use Rattle.arena.specs.Probing.{probe, start_place}
 use Rattle.arena.specs.declared.Probe.{Probe}
 use Rattle.arena.specs.declared.Probe.TheVariants.{Held, Free, Nowhere}

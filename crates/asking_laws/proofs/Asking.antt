@@ -7,25 +7,25 @@ use lib.Dec.{eqb}
 use lib.ListN.{length}
 use native.Mathlib.Omega.{arith}
 use borrow.Author.Tests.{le-leb, lt-leb, ne_eqb}
-use Rattle.horn.specs.Refusals as refusals
-use Rattle.horn.specs.Refusals.{Result, number, stray_closing, excess}
-use Rattle.horn.specs.Names.{Name}
-use Rattle.horn.specs.Tokens.{Stream, end, bad, ◌▹◌, Token, opening, closing, atom}
-use Rattle.horn.specs.NestedLists.{Item, word, group, Items, closed, ended, bad_line, ◌then◌, asked_at, absent}
-use Rattle.horn.specs.Checker as definition
-use Rattle.words.specs.Parts.{part}
-use Rattle.lex.specs.Answers as lexed
-use Rattle.lex.specs.declared.Token.TheVariants.{Opening, Closing, Atom}
-use Rattle.lex.specs.declared.Ahead.TheVariants.{Nothing}
-use Rattle.lex.specs.declared.Reader.{Reader}
-use Rattle.lex.proofs.Standing.{Stands}
-use Rattle.lex.proofs.Readers.{Takes, take_opening, take_closing, take_atom, takes, taken_end, taken_bad, Sees, see_end, see_bad}
-use Rattle.lex.proofs.Readers.{see_opening, see_closing, see_atom, sees}
-use Rattle.outcomes.specs.Outcomes as outcomes
-use Rattle.outcomes.specs.Outcomes.{Outcome}
+use Rattle.theory_laws.specs.Below.horn.specs.Refusals as refusals
+use Rattle.theory_laws.specs.Below.horn.specs.Refusals.{Result, number, stray_closing, excess}
+use Rattle.theory_laws.specs.Below.horn.specs.Names.{Name}
+use Rattle.theory_laws.specs.Below.horn.specs.Tokens.{Stream, end, bad, ◌▹◌, Token, opening, closing, atom}
+use Rattle.theory_laws.specs.Below.horn.specs.NestedLists.{Item, word, group, Items, closed, ended, bad_line, ◌then◌, asked_at, absent}
+use Rattle.theory_laws.specs.Below.horn.specs.Checker as definition
+use Rattle.theory_laws.specs.Below.words.specs.Parts.{part}
+use Rattle.asking.specs.Below.lex.specs.Answers as lexed
+use Rattle.asking.specs.Below.lex.specs.declared.Token.TheVariants.{Opening, Closing, Atom}
+use Rattle.asking.specs.Below.lex.specs.declared.Ahead.TheVariants.{Nothing}
+use Rattle.asking.specs.Below.lex.specs.declared.Reader.{Reader}
+use Rattle.asking.specs.Below.lex.proofs.Standing.{Stands}
+use Rattle.asking.specs.Below.lex.proofs.Readers.{Takes, take_opening, take_closing, take_atom, takes, taken_end, taken_bad, Sees, see_end, see_bad}
+use Rattle.asking.specs.Below.lex.proofs.Readers.{see_opening, see_closing, see_atom, sees}
+use Rattle.asking.specs.Below.outcomes.specs.Outcomes as outcomes
+use Rattle.asking.specs.Below.outcomes.specs.Outcomes.{Outcome}
 use Rattle.theory_laws.specs.Reading.{weight}
-use Rattle.outcomes.specs.Simulation.{Answers, both_refuse, both_ok}
-use Rattle.words.proofs.Laws.{part-length}
+use Rattle.asking.specs.Below.outcomes.specs.Simulation.{Answers, both_refuse, both_ok}
+use Rattle.theory_laws.specs.Below.words.proofs.Laws.{part-length}
 use Rattle.asking.specs.Asking as asked
 use Rattle.asking.specs.Asking.{Met, Ahead, Top, item_due, atom_due, list_due, closing_due, closing_next, form_due}
 use Rattle.asking_laws.proofs.Places.{Begins, Comes, RestComes, At}

@@ -5,12 +5,12 @@ use mathlib.Core.Path.{◌≡◌, refl}
 use mathlib.Core.List.{List}
 use lib.ListN.{length}
 use native.Mathlib.Omega.{arith}
-use Rattle.horn.specs.Tokens.{Stream, end, bad, ◌▹◌, Token, opening, closing, atom, tokens}
-use Rattle.horn.specs.NestedLists.{Item, word, group, Items, closed, ended, bad_line, ◌then◌, Around, at_end, at_bad_line, ◌inside◌, innermost}
-use Rattle.horn.specs.NestedLists.{outer, add, around, items}
-use Rattle.lex.specs.Answers.{start}
-use Rattle.lex.specs.declared.Reader.{Reader}
-use Rattle.lex.proofs.Standing.{Stands, start_stands}
+use Rattle.theory_laws.specs.Below.horn.specs.Tokens.{Stream, end, bad, ◌▹◌, Token, opening, closing, atom, tokens}
+use Rattle.theory_laws.specs.Below.horn.specs.NestedLists.{Item, word, group, Items, closed, ended, bad_line, ◌then◌, Around, at_end, at_bad_line, ◌inside◌, innermost}
+use Rattle.theory_laws.specs.Below.horn.specs.NestedLists.{outer, add, around, items}
+use Rattle.asking.specs.Below.lex.specs.Answers.{start}
+use Rattle.asking.specs.Below.lex.specs.declared.Reader.{Reader}
+use Rattle.asking.specs.Below.lex.proofs.Standing.{Stands, start_stands}
 use Rattle.theory_laws.specs.Reading.{weight}
 use Rattle.theory_laws.proofs.Weights.{light_tokens}
 

@@ -1,15 +1,15 @@
 -- The certificate that is read: what each function answers, and what it leaves of the four areas.
 use Rattle.std.specs.Prelude.{ℕ, zero, suc, ◌+◌, List, eqb, length}
-use Rattle.words.specs.Parts.{part}
+use Rattle.goals.specs.Below.words.specs.Parts.{part}
 use Rattle.lex.specs.Answers.{start}
 use Rattle.lex.specs.declared.Reader.{Reader}
 use Rattle.outcomes.specs.Outcomes.{ok, refused, need}
 use Rattle.outcomes.specs.Leaving.{Did, ◌leaving◌, ◌>>=◌, beside}
-use Rattle.theory_reading.specs.Storing.{Areas, before}
+use Rattle.steps.specs.Below.theory_reading.specs.Storing.{Areas, before}
 use Rattle.tables.specs.declared.Tally.{Tally}
 use Rattle.tables.specs.Words.{step_added, step_counted}
 use Rattle.asking.specs.Asking.{in_form, Top, over, form, atom_due, form_due}
-use Rattle.step_bindings.specs.StepBindings.{Worked}
+use Rattle.steps.specs.Below.step_bindings.specs.StepBindings.{Worked}
 use Rattle.steps.specs.Steps as steps
 use Rattle.forms.specs.Forms.{keyword_of, def_form, result_form}
 use Rattle.forms.specs.declared.Keyword.{Keyword}

@@ -5,28 +5,28 @@ use mathlib.Core.Bool.{Bool, true, false, not, ◌&&◌}
 use mathlib.Core.List.{List}
 use lib.Dec.{eqb}
 use lib.ListN.{length}
-use Rattle.horn.specs.Refusals as refusals
-use Rattle.horn.specs.Refusals.{Refusal, Result, number, variable_name}
-use Rattle.horn.specs.Names.{Name, questioned, bare}
-use Rattle.horn.specs.Tokens.{Stream, Token}
-use Rattle.horn.specs.NestedLists.{Items}
-use Rattle.horn.specs.StoredTerms.{Store}
-use Rattle.horn.specs.Checker as definition
-use Rattle.horn.proofs.Equality.{case}
-use Rattle.words.specs.Parts.{part}
-use Rattle.words.proofs.Laws.{part-length}
-use Rattle.lex.specs.declared.Reader.{Reader}
-use Rattle.outcomes.specs.Outcomes as outcomes
-use Rattle.outcomes.specs.Outcomes.{Outcome}
-use Rattle.outcomes.specs.Leaving as leaving
-use Rattle.outcomes.specs.Leaving.{Did, ◌leaving◌}
-use Rattle.items.specs.Items.{question}
-use Rattle.outcomes.specs.Simulation.{Answers, both_refuse, both_ok, then, Simulates, refuse}
-use Rattle.theory_laws.proofs.Lookups.{part-question, bare_width}
-use Rattle.asking_laws.proofs.Places.{RestComes, At}
-use Rattle.asking_laws.proofs.Asking.{WordMet, word_met, word_law}
-use Rattle.asking.specs.Asking.{in_form, atom_due}
-use Rattle.forms.specs.Forms.{def_named}
+use Rattle.certificates.specs.Below.horn.specs.Refusals as refusals
+use Rattle.certificates.specs.Below.horn.specs.Refusals.{Refusal, Result, number, variable_name}
+use Rattle.certificates.specs.Below.horn.specs.Names.{Name, questioned, bare}
+use Rattle.certificates.specs.Below.horn.specs.Tokens.{Stream, Token}
+use Rattle.certificates.specs.Below.horn.specs.NestedLists.{Items}
+use Rattle.certificates.specs.Below.horn.specs.StoredTerms.{Store}
+use Rattle.certificates.specs.Below.horn.specs.Checker as definition
+use Rattle.certificates.specs.Below.horn.proofs.Equality.{case}
+use Rattle.certificates.specs.Below.words.specs.Parts.{part}
+use Rattle.certificates.specs.Below.words.proofs.Laws.{part-length}
+use Rattle.certificates.specs.Below.lex.specs.declared.Reader.{Reader}
+use Rattle.certificates.specs.Below.outcomes.specs.Outcomes as outcomes
+use Rattle.certificates.specs.Below.outcomes.specs.Outcomes.{Outcome}
+use Rattle.certificates.specs.Below.outcomes.specs.Leaving as leaving
+use Rattle.certificates.specs.Below.outcomes.specs.Leaving.{Did, ◌leaving◌}
+use Rattle.certificates.specs.Below.items.specs.Items.{question}
+use Rattle.certificates.specs.Below.outcomes.specs.Simulation.{Answers, both_refuse, both_ok, then, Simulates, refuse}
+use Rattle.certificates.specs.Below.theory_laws.proofs.Lookups.{part-question, bare_width}
+use Rattle.steps_laws.specs.Below.asking_laws.proofs.Places.{RestComes, At}
+use Rattle.steps_laws.specs.Below.asking_laws.proofs.Asking.{WordMet, word_met, word_law}
+use Rattle.certificates.specs.Below.asking.specs.Asking.{in_form, atom_due}
+use Rattle.certificates.specs.Below.forms.specs.Forms.{def_named}
 
 -- What was asked for and tested at once, where the definition does one after the other.
 pub lifted_tested : {S A B C D : Type 0} {Q : A → B → Type 0} {R : C → S → D → Type 0} {o : Outcome A} {s : S} (ts : Store) (m : Result B) (g : B → Bool)

@@ -5,44 +5,44 @@ use mathlib.Core.Bool.{false, not, ◌&&◌}
 use mathlib.Core.List.{List}
 use native.Mathlib.Omega.{arith}
 use lib.ListN.{length}
-use Rattle.horn.specs.Refusals.{Result, number, variable_name, duplicate, ok}
-use Rattle.horn.specs.Setting.{document01}
-use Rattle.horn.specs.Names.{Name, questioned, bare, some_of}
-use Rattle.horn.specs.Tokens.{Stream, Token}
-use Rattle.horn.specs.NestedLists.{Item, Items, ◌then◌}
-use Rattle.horn.specs.Rulebook.{Theory}
-use Rattle.horn.specs.StoredTerms.{Term, Store}
-use Rattle.horn.specs.Checker as checker
-use Rattle.horn.specs.Checker.{Goal, Def, def, is_def, ask_word}
-use Rattle.horn.specs.Matching.{Step}
-use Rattle.horn.specs.Certificate as definition
-use Rattle.horn.specs.Certificate.{Progress, Witness, with_def}
+use Rattle.certificates.specs.Below.horn.specs.Refusals.{Result, number, variable_name, duplicate, ok}
+use Rattle.certificates.specs.Below.horn.specs.Setting.{document01}
+use Rattle.certificates.specs.Below.horn.specs.Names.{Name, questioned, bare, some_of}
+use Rattle.certificates.specs.Below.horn.specs.Tokens.{Stream, Token}
+use Rattle.certificates.specs.Below.horn.specs.NestedLists.{Item, Items, ◌then◌}
+use Rattle.certificates.specs.Below.horn.specs.Rulebook.{Theory}
+use Rattle.certificates.specs.Below.horn.specs.StoredTerms.{Term, Store}
+use Rattle.certificates.specs.Below.horn.specs.Checker as checker
+use Rattle.certificates.specs.Below.horn.specs.Checker.{Goal, Def, def, is_def, ask_word}
+use Rattle.certificates.specs.Below.horn.specs.Matching.{Step}
+use Rattle.certificates.specs.Below.horn.specs.Certificate as definition
+use Rattle.certificates.specs.Below.horn.specs.Certificate.{Progress, Witness, with_def}
 use borrow.Author.Tests.{not-true}
-use Rattle.words.specs.Parts.{part}
-use Rattle.lex.specs.declared.Reader.{Reader}
-use Rattle.names.specs.Tables.{present}
-use Rattle.outcomes.specs.Leaving.{Did}
-use Rattle.outcomes.specs.Simulation.{Simulates, refuse, leave, knowing}
-use Rattle.items.specs.Places as places
-use Rattle.theory_laws.specs.Representation.{Entries, Holds}
-use Rattle.theory_laws.proofs.Frames.{Keeps}
-use Rattle.theory_reading.specs.Storing.{Areas}
-use Rattle.theory_reading.proofs.Held.{holds_now}
-use Rattle.theory_reading.proofs.Stored.{Longer, Stored, Means}
-use Rattle.tables.specs.declared.Tally.{Tally}
-use Rattle.tables.specs.Words.{def_found, def_added, def_counted}
-use Rattle.tables.specs.Representation.{Tables}
-use Rattle.tables.proofs.Laws.{known_def}
-use Rattle.tables.proofs.Phases.{next_def}
-use Rattle.asking.specs.Asking.{in_form}
-use Rattle.asking_laws.proofs.Places.{RestComes, Any, At, at_less}
-use Rattle.asking_laws.proofs.Asking.{closing_law}
-use Rattle.nodes.specs.Limits.{index_places, def_buckets}
-use Rattle.terms_laws.proofs.Judgments.{lifted, AskedRead}
-use Rattle.terms_laws.proofs.Whole.{certificate-term}
-use Rattle.forms.specs.Forms as walk
+use Rattle.certificates.specs.Below.words.specs.Parts.{part}
+use Rattle.certificates.specs.Below.lex.specs.declared.Reader.{Reader}
+use Rattle.certificates.specs.Below.names.specs.Tables.{present}
+use Rattle.certificates.specs.Below.outcomes.specs.Leaving.{Did}
+use Rattle.certificates.specs.Below.outcomes.specs.Simulation.{Simulates, refuse, leave, knowing}
+use Rattle.certificates.specs.Below.items.specs.Places as places
+use Rattle.certificates.specs.Below.theory_laws.specs.Representation.{Entries, Holds}
+use Rattle.certificates.specs.Below.theory_laws.proofs.Frames.{Keeps}
+use Rattle.certificates.specs.Below.theory_reading.specs.Storing.{Areas}
+use Rattle.certificates.specs.Below.theory_reading.proofs.Held.{holds_now}
+use Rattle.certificates.specs.Below.theory_reading.proofs.Stored.{Longer, Stored, Means}
+use Rattle.certificates.specs.Below.tables.specs.declared.Tally.{Tally}
+use Rattle.certificates.specs.Below.tables.specs.Words.{def_found, def_added, def_counted}
+use Rattle.certificates.specs.Below.tables.specs.Representation.{Tables}
+use Rattle.certificates.specs.Below.tables.proofs.Laws.{known_def}
+use Rattle.certificates.specs.Below.tables.proofs.Phases.{next_def}
+use Rattle.certificates.specs.Below.asking.specs.Asking.{in_form}
+use Rattle.steps_laws.specs.Below.asking_laws.proofs.Places.{RestComes, Any, At, at_less}
+use Rattle.steps_laws.specs.Below.asking_laws.proofs.Asking.{closing_law}
+use Rattle.certificates.specs.Below.nodes.specs.Limits.{index_places, def_buckets}
+use Rattle.steps_laws.specs.Below.terms_laws.proofs.Judgments.{lifted, AskedRead}
+use Rattle.steps_laws.specs.Below.terms_laws.proofs.Whole.{certificate-term}
+use Rattle.certificates.specs.Below.forms.specs.Forms as walk
 use Rattle.certificates.specs.Certificates.{AllAreas, around}
-use Rattle.terms_laws.proofs.Following.{tested, bind_before}
+use Rattle.steps_laws.specs.Below.terms_laws.proofs.Following.{tested, bind_before}
 use Rattle.certificates_laws.proofs.Asked.{lifted_tested, def_named_lem}
 use Rattle.certificates_laws.proofs.Standing.{SoFar, Standing, StepRecorded, between_longer}
 

@@ -4,35 +4,35 @@ use mathlib.Core.Path.{◌≡◌, refl}
 use mathlib.Core.List.{List}
 use native.Mathlib.Omega.{arith}
 use lib.ListN.{length}
-use Rattle.horn.specs.Refusals as refusals
-use Rattle.horn.specs.Refusals.{number}
-use Rattle.horn.specs.Setting.{document01}
-use Rattle.horn.specs.NestedLists.{group, Items, ◌then◌}
-use Rattle.horn.specs.Rulebook.{Theory}
-use Rattle.horn.specs.StoredTerms.{Store}
-use Rattle.horn.specs.Checker as checker
-use Rattle.horn.specs.Checker.{Goal}
-use Rattle.horn.specs.Certificate as definition
-use Rattle.horn.specs.Certificate.{Progress}
-use Rattle.horn.proofs.Counts.{item_count}
-use Rattle.horn.proofs.SoundnessWords.{WellFormed}
-use Rattle.lex.specs.declared.Reader.{Reader}
-use Rattle.outcomes.specs.Outcomes.{Outcome}
-use Rattle.outcomes.specs.Leaving as leaving
-use Rattle.outcomes.specs.Leaving.{◌leaving◌}
-use Rattle.outcomes.specs.Simulation.{Simulates, refuse, leave, bind, knowing_answer}
-use Rattle.items.specs.Places as places
-use Rattle.theory_laws.specs.Representation.{Entries, Holds}
-use Rattle.tables.specs.declared.Tally.{Tally}
-use Rattle.asking.specs.Asking.{Top}
-use Rattle.asking_laws.proofs.Places.{RestComes, Any, At, at_less}
-use Rattle.asking_laws.proofs.Asking.{FormMet, form_over, form_bad, form_closing, form_atom, form_list}
-use Rattle.asking_laws.proofs.Asking as asking
-use Rattle.terms_laws.proofs.Judgments.{lifted}
+use Rattle.certificates.specs.Below.horn.specs.Refusals as refusals
+use Rattle.certificates.specs.Below.horn.specs.Refusals.{number}
+use Rattle.certificates.specs.Below.horn.specs.Setting.{document01}
+use Rattle.certificates.specs.Below.horn.specs.NestedLists.{group, Items, ◌then◌}
+use Rattle.certificates.specs.Below.horn.specs.Rulebook.{Theory}
+use Rattle.certificates.specs.Below.horn.specs.StoredTerms.{Store}
+use Rattle.certificates.specs.Below.horn.specs.Checker as checker
+use Rattle.certificates.specs.Below.horn.specs.Checker.{Goal}
+use Rattle.certificates.specs.Below.horn.specs.Certificate as definition
+use Rattle.certificates.specs.Below.horn.specs.Certificate.{Progress}
+use Rattle.certificates.specs.Below.horn.proofs.Counts.{item_count}
+use Rattle.certificates.specs.Below.horn.proofs.SoundnessWords.{WellFormed}
+use Rattle.certificates.specs.Below.lex.specs.declared.Reader.{Reader}
+use Rattle.certificates.specs.Below.outcomes.specs.Outcomes.{Outcome}
+use Rattle.certificates.specs.Below.outcomes.specs.Leaving as leaving
+use Rattle.certificates.specs.Below.outcomes.specs.Leaving.{◌leaving◌}
+use Rattle.certificates.specs.Below.outcomes.specs.Simulation.{Simulates, refuse, leave, bind, knowing_answer}
+use Rattle.certificates.specs.Below.items.specs.Places as places
+use Rattle.certificates.specs.Below.theory_laws.specs.Representation.{Entries, Holds}
+use Rattle.certificates.specs.Below.tables.specs.declared.Tally.{Tally}
+use Rattle.certificates.specs.Below.asking.specs.Asking.{Top}
+use Rattle.steps_laws.specs.Below.asking_laws.proofs.Places.{RestComes, Any, At, at_less}
+use Rattle.steps_laws.specs.Below.asking_laws.proofs.Asking.{FormMet, form_over, form_bad, form_closing, form_atom, form_list}
+use Rattle.steps_laws.specs.Below.asking_laws.proofs.Asking as asking
+use Rattle.steps_laws.specs.Below.terms_laws.proofs.Judgments.{lifted}
 use Rattle.steps_laws.proofs.Whole.{step_law}
 use Rattle.certificates.specs.Certificates as walk
 use Rattle.certificates.specs.Certificates.{AllAreas}
-use Rattle.forms.specs.declared.Keyword as walk_keyword
+use Rattle.certificates.specs.Below.forms.specs.declared.Keyword as walk_keyword
 use Rattle.certificates_laws.proofs.Heads.{Headed, is_step_lem, is_result, is_def_lem, is_other, headed}
 use Rattle.certificates_laws.proofs.Asked.{member_law}
 use Rattle.certificates_laws.proofs.Standing.{StepRecorded, Standing, Finished}

@@ -1,13 +1,13 @@
 -- The head of a form: the walk's keyword is the definition's. Assumes nothing.
 use mathlib.Core.Bool.{Bool, true, false}
-use Rattle.horn.specs.Names.{Name, named, codes}
-use Rattle.horn.specs.Certificate as definition
-use Rattle.horn.specs.Certificate.{form_word, step_word, result_word, def_word, other_form}
-use Rattle.outcomes.specs.Outcomes.{pick}
-use Rattle.facts.proofs.Comparing.{same_named}
-use Rattle.forms.specs.Forms.{step_name, result_name, def_name, keyword_of}
-use Rattle.forms.specs.declared.Keyword.{Keyword}
-use Rattle.forms.specs.declared.Keyword.TheVariants.{Step, Result, Def, Other}
+use Rattle.certificates.specs.Below.horn.specs.Names.{Name, named, codes}
+use Rattle.certificates.specs.Below.horn.specs.Certificate as definition
+use Rattle.certificates.specs.Below.horn.specs.Certificate.{form_word, step_word, result_word, def_word, other_form}
+use Rattle.certificates.specs.Below.outcomes.specs.Outcomes.{pick}
+use Rattle.certificates.specs.Below.facts.proofs.Comparing.{same_named}
+use Rattle.certificates.specs.Below.forms.specs.Forms.{step_name, result_name, def_name, keyword_of}
+use Rattle.certificates.specs.Below.forms.specs.declared.Keyword.{Keyword}
+use Rattle.certificates.specs.Below.forms.specs.declared.Keyword.TheVariants.{Step, Result, Def, Other}
 
 pub data Headed : Keyword → definition.FormWord → Type 0 where
   is_step_lem : Headed Step step_word

@@ -2,27 +2,27 @@
 use Prim.Native.Nat.{ℕ}
 use mathlib.Core.Path.{◌≡◌, ap, ◌∙◌}
 use mathlib.Core.List.{List}
-use Rattle.horn.specs.Refusals.{ok}
-use Rattle.horn.specs.Setting.{document01}
-use Rattle.horn.specs.NestedLists.{Item, Items, ◌then◌}
-use Rattle.horn.specs.Rulebook.{Theory}
-use Rattle.horn.specs.StoredTerms.{Store}
-use Rattle.horn.specs.Checker.{Goal}
-use Rattle.horn.specs.Matching.{step, judgment_of, rule_of, references_of}
-use Rattle.horn.specs.Certificate as definition
-use Rattle.horn.specs.Certificate.{Progress, with_step}
-use Rattle.lex.specs.declared.Reader.{Reader}
-use Rattle.outcomes.specs.Simulation.{Simulates, leave, knowing}
-use Rattle.theory_laws.specs.Representation.{Entries}
-use Rattle.theory_reading.proofs.Stored.{Means}
-use Rattle.tables.specs.declared.Tally.{Tally}
-use Rattle.tables.proofs.Phases.{next_step}
-use Rattle.asking_laws.proofs.Places.{RestComes, Any}
-use Rattle.nodes.specs.Limits.{def_buckets}
-use Rattle.steps.specs.Steps as steps
+use Rattle.certificates.specs.Below.horn.specs.Refusals.{ok}
+use Rattle.certificates.specs.Below.horn.specs.Setting.{document01}
+use Rattle.certificates.specs.Below.horn.specs.NestedLists.{Item, Items, ◌then◌}
+use Rattle.certificates.specs.Below.horn.specs.Rulebook.{Theory}
+use Rattle.certificates.specs.Below.horn.specs.StoredTerms.{Store}
+use Rattle.certificates.specs.Below.horn.specs.Checker.{Goal}
+use Rattle.certificates.specs.Below.horn.specs.Matching.{step, judgment_of, rule_of, references_of}
+use Rattle.certificates.specs.Below.horn.specs.Certificate as definition
+use Rattle.certificates.specs.Below.horn.specs.Certificate.{Progress, with_step}
+use Rattle.certificates.specs.Below.lex.specs.declared.Reader.{Reader}
+use Rattle.certificates.specs.Below.outcomes.specs.Simulation.{Simulates, leave, knowing}
+use Rattle.certificates.specs.Below.theory_laws.specs.Representation.{Entries}
+use Rattle.certificates.specs.Below.theory_reading.proofs.Stored.{Means}
+use Rattle.certificates.specs.Below.tables.specs.declared.Tally.{Tally}
+use Rattle.certificates.specs.Below.tables.proofs.Phases.{next_step}
+use Rattle.steps_laws.specs.Below.asking_laws.proofs.Places.{RestComes, Any}
+use Rattle.certificates.specs.Below.nodes.specs.Limits.{def_buckets}
+use Rattle.certificates.specs.Below.steps.specs.Steps as steps
 use Rattle.steps_laws.proofs.Whole.{StepRead}
 use Rattle.certificates.specs.Certificates as walk
-use Rattle.terms_laws.proofs.Following.{giving_before}
+use Rattle.steps_laws.specs.Below.terms_laws.proofs.Following.{giving_before}
 use Rattle.certificates_laws.proofs.Standing.{SoFar, Standing, StepRecorded, between_longer}
 
 module _ {rules heap : List ℕ} {es : Entries} {bound : ℕ} {th : Theory} (goals_text certificate : List ℕ) {goals : List Goal} {tally : Tally} (now : Progress)

@@ -6,44 +6,44 @@ use mathlib.Core.Option.{Option}
 use native.Mathlib.Omega.{arith}
 use lib.Dec.{eqb}
 use lib.ListN.{length, get_elem?}
-use Rattle.horn.specs.Refusals as refusals
-use Rattle.horn.specs.Refusals.{number, ok, unknown, no_such_step, other_judgment}
-use Rattle.horn.specs.Setting.{document01}
-use Rattle.horn.specs.Names.{Name, first}
-use Rattle.horn.specs.Tokens.{Stream, Token}
-use Rattle.horn.specs.NestedLists.{Item, Items, ◌then◌}
-use Rattle.horn.specs.Rulebook.{Theory}
-use Rattle.horn.specs.StoredTerms.{Term, Store}
-use Rattle.horn.specs.Checker as checker
-use Rattle.horn.specs.Checker.{Def, Goal, is_goal, goal_judgment}
-use Rattle.horn.specs.Matching.{Step, judgment_of}
-use Rattle.horn.specs.Certificate as definition
-use Rattle.horn.specs.Certificate.{Progress, Witness, with_result}
-use Rattle.horn.proofs.Equality.{at_below}
-use Rattle.horn.proofs.Inversion.{was_found_lem}
-use Rattle.lex.specs.declared.Reader.{Reader}
-use Rattle.outcomes.specs.Outcomes as outcomes
-use Rattle.outcomes.specs.Leaving.{beside}
-use Rattle.outcomes.specs.Simulation.{Answers, both_refuse, both_ok, Simulates, leave, knowing, knowing_answer, aside}
-use Rattle.numerals.specs.Numbers.{saturated}
-use Rattle.numerals.proofs.Turns.{kept_small}
-use Rattle.items.specs.Places as places
-use Rattle.theory_laws.specs.Representation.{Entries, Holds}
-use Rattle.theory_laws.proofs.Frames.{Keeps}
-use Rattle.theory_reading.proofs.Stored.{Stored, Means, means_same}
-use Rattle.tables.specs.declared.Tally.{Tally}
-use Rattle.tables.specs.Words.{goal_buckets, closed_from, goal_open, goal_closed, goal_done, step_word}
-use Rattle.tables.specs.Representation.{Tables, OpenAt, OpenAgree, none_open, one_open, StepAgree, no_step, one_step}
-use Rattle.tables.proofs.Laws.{open_goal_lem, step_of}
-use Rattle.tables.proofs.Phases.{next_result}
-use Rattle.asking.specs.Asking.{in_form}
-use Rattle.asking_laws.proofs.Places.{RestComes, Any, At, at_less}
-use Rattle.asking_laws.proofs.Asking.{closing_law}
-use Rattle.nodes.specs.Limits.{index_places, def_buckets}
-use Rattle.terms_laws.proofs.Judgments.{lifted}
+use Rattle.certificates.specs.Below.horn.specs.Refusals as refusals
+use Rattle.certificates.specs.Below.horn.specs.Refusals.{number, ok, unknown, no_such_step, other_judgment}
+use Rattle.certificates.specs.Below.horn.specs.Setting.{document01}
+use Rattle.certificates.specs.Below.horn.specs.Names.{Name, first}
+use Rattle.certificates.specs.Below.horn.specs.Tokens.{Stream, Token}
+use Rattle.certificates.specs.Below.horn.specs.NestedLists.{Item, Items, ◌then◌}
+use Rattle.certificates.specs.Below.horn.specs.Rulebook.{Theory}
+use Rattle.certificates.specs.Below.horn.specs.StoredTerms.{Term, Store}
+use Rattle.certificates.specs.Below.horn.specs.Checker as checker
+use Rattle.certificates.specs.Below.horn.specs.Checker.{Def, Goal, is_goal, goal_judgment}
+use Rattle.certificates.specs.Below.horn.specs.Matching.{Step, judgment_of}
+use Rattle.certificates.specs.Below.horn.specs.Certificate as definition
+use Rattle.certificates.specs.Below.horn.specs.Certificate.{Progress, Witness, with_result}
+use Rattle.certificates.specs.Below.horn.proofs.Equality.{at_below}
+use Rattle.certificates.specs.Below.horn.proofs.Inversion.{was_found_lem}
+use Rattle.certificates.specs.Below.lex.specs.declared.Reader.{Reader}
+use Rattle.certificates.specs.Below.outcomes.specs.Outcomes as outcomes
+use Rattle.certificates.specs.Below.outcomes.specs.Leaving.{beside}
+use Rattle.certificates.specs.Below.outcomes.specs.Simulation.{Answers, both_refuse, both_ok, Simulates, leave, knowing, knowing_answer, aside}
+use Rattle.certificates.specs.Below.numerals.specs.Numbers.{saturated}
+use Rattle.certificates.specs.Below.numerals.proofs.Turns.{kept_small}
+use Rattle.certificates.specs.Below.items.specs.Places as places
+use Rattle.certificates.specs.Below.theory_laws.specs.Representation.{Entries, Holds}
+use Rattle.certificates.specs.Below.theory_laws.proofs.Frames.{Keeps}
+use Rattle.certificates.specs.Below.theory_reading.proofs.Stored.{Stored, Means, means_same}
+use Rattle.certificates.specs.Below.tables.specs.declared.Tally.{Tally}
+use Rattle.certificates.specs.Below.tables.specs.Words.{goal_buckets, closed_from, goal_open, goal_closed, goal_done, step_word}
+use Rattle.certificates.specs.Below.tables.specs.Representation.{Tables, OpenAt, OpenAgree, none_open, one_open, StepAgree, no_step, one_step}
+use Rattle.certificates.specs.Below.tables.proofs.Laws.{open_goal_lem, step_of}
+use Rattle.certificates.specs.Below.tables.proofs.Phases.{next_result}
+use Rattle.certificates.specs.Below.asking.specs.Asking.{in_form}
+use Rattle.steps_laws.specs.Below.asking_laws.proofs.Places.{RestComes, Any, At, at_less}
+use Rattle.steps_laws.specs.Below.asking_laws.proofs.Asking.{closing_law}
+use Rattle.certificates.specs.Below.nodes.specs.Limits.{index_places, def_buckets}
+use Rattle.steps_laws.specs.Below.terms_laws.proofs.Judgments.{lifted}
 use Rattle.steps_laws.proofs.Numbers.{number_law}
-use Rattle.forms.specs.Forms as walk
-use Rattle.terms_laws.proofs.Following.{tested}
+use Rattle.certificates.specs.Below.forms.specs.Forms as walk
+use Rattle.steps_laws.specs.Below.terms_laws.proofs.Following.{tested}
 use Rattle.certificates_laws.proofs.Asked.{member_law}
 use Rattle.certificates_laws.proofs.Standing.{SoFar, Standing, StepRecorded}
 

@@ -4,28 +4,28 @@ use Prim.Native.Nat.{ℕ, ◌*◌, ◌≤◌}
 use mathlib.Core.Path.{◌≡◌}
 use mathlib.Core.List.{List}
 use lib.ListN.{length}
-use Rattle.horn.specs.Setting.{document01}
-use Rattle.horn.specs.NestedLists.{Items}
-use Rattle.horn.specs.Rulebook.{Theory}
-use Rattle.horn.specs.StoredTerms.{Store}
-use Rattle.horn.specs.Checker.{Goal}
-use Rattle.horn.specs.Matching.{Step, judgment_of, rule_of, references_of}
-use Rattle.horn.specs.Certificate.{Progress}
-use Rattle.lex.specs.declared.Reader.{Reader}
-use Rattle.arena.specs.Store.{count}
-use Rattle.arena.proofs.Readings.{trees_counted}
-use Rattle.items.specs.Places as places
-use Rattle.theory_laws.specs.Representation.{Entries, RuleAt}
-use Rattle.theory_laws.proofs.Frames.{Keeps}
-use Rattle.theory_reading.specs.Addresses.{symbol_at, Used}
-use Rattle.theory_reading.proofs.Stored.{Longer, Stored, Means, means_longer}
-use Rattle.tables.specs.declared.Tally.{Tally}
-use Rattle.tables.specs.Representation.{Tables}
-use Rattle.tables.specs.Phases.{Between}
-use Rattle.tables.proofs.Phases.{between_more}
-use Rattle.asking_laws.proofs.Places.{RestComes, Any, At}
+use Rattle.certificates.specs.Below.horn.specs.Setting.{document01}
+use Rattle.certificates.specs.Below.horn.specs.NestedLists.{Items}
+use Rattle.certificates.specs.Below.horn.specs.Rulebook.{Theory}
+use Rattle.certificates.specs.Below.horn.specs.StoredTerms.{Store}
+use Rattle.certificates.specs.Below.horn.specs.Checker.{Goal}
+use Rattle.certificates.specs.Below.horn.specs.Matching.{Step, judgment_of, rule_of, references_of}
+use Rattle.certificates.specs.Below.horn.specs.Certificate.{Progress}
+use Rattle.certificates.specs.Below.lex.specs.declared.Reader.{Reader}
+use Rattle.certificates.specs.Below.arena.specs.Store.{count}
+use Rattle.certificates.specs.Below.arena.proofs.Readings.{trees_counted}
+use Rattle.certificates.specs.Below.items.specs.Places as places
+use Rattle.certificates.specs.Below.theory_laws.specs.Representation.{Entries, RuleAt}
+use Rattle.certificates.specs.Below.theory_laws.proofs.Frames.{Keeps}
+use Rattle.certificates.specs.Below.theory_reading.specs.Addresses.{symbol_at, Used}
+use Rattle.certificates.specs.Below.theory_reading.proofs.Stored.{Longer, Stored, Means, means_longer}
+use Rattle.certificates.specs.Below.tables.specs.declared.Tally.{Tally}
+use Rattle.certificates.specs.Below.tables.specs.Representation.{Tables}
+use Rattle.certificates.specs.Below.tables.specs.Phases.{Between}
+use Rattle.certificates.specs.Below.tables.proofs.Phases.{between_more}
+use Rattle.steps_laws.specs.Below.asking_laws.proofs.Places.{RestComes, Any, At}
 use Rattle.steps_laws.proofs.Whole.{ReferencesListed}
-use Rattle.nodes.specs.Limits.{index_places, def_buckets}
+use Rattle.certificates.specs.Below.nodes.specs.Limits.{index_places, def_buckets}
 use Rattle.certificates.specs.Certificates.{AllAreas}
 
 -- The store's count is the number of its trees.

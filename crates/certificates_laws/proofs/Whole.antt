@@ -5,32 +5,32 @@ use mathlib.Core.List.{List}
 use native.Mathlib.Omega.{arith}
 use lib.Dec.{eqb}
 use lib.ListN.{length}
-use Rattle.horn.specs.Refusals.{number, goal_open}
-use Rattle.horn.specs.Setting.{document01}
-use Rattle.horn.specs.Tokens.{tokens}
-use Rattle.horn.specs.NestedLists.{Items, items}
-use Rattle.horn.specs.Rulebook.{Theory}
-use Rattle.horn.specs.StoredTerms.{Store}
-use Rattle.horn.specs.Checker as checker
-use Rattle.horn.specs.Checker.{Goal}
-use Rattle.horn.specs.Certificate as definition
-use Rattle.horn.proofs.Counts.{few_items}
-use Rattle.horn.proofs.SoundnessWords.{WellFormed}
-use Rattle.lex.specs.Answers.{start}
-use Rattle.outcomes.specs.Simulation.{Simulates, leave, bind}
-use Rattle.items.specs.Places as places
-use Rattle.theory_laws.specs.Representation.{Entries, Holds}
-use Rattle.theory_laws.proofs.Frames.{Keeps}
-use Rattle.theory_reading.proofs.Stored.{Stored, Means}
-use Rattle.tables.specs.declared.Tally.{Tally}
-use Rattle.tables.specs.Phases.{Gathering}
-use Rattle.tables.proofs.Laws.{none_left}
-use Rattle.tables.proofs.Phases.{first_form}
-use Rattle.asking_laws.proofs.Places.{at_start}
-use Rattle.nodes.specs.Limits.{index_places, def_buckets}
-use Rattle.terms_laws.proofs.Judgments.{lifted}
+use Rattle.certificates.specs.Below.horn.specs.Refusals.{number, goal_open}
+use Rattle.certificates.specs.Below.horn.specs.Setting.{document01}
+use Rattle.certificates.specs.Below.horn.specs.Tokens.{tokens}
+use Rattle.certificates.specs.Below.horn.specs.NestedLists.{Items, items}
+use Rattle.certificates.specs.Below.horn.specs.Rulebook.{Theory}
+use Rattle.certificates.specs.Below.horn.specs.StoredTerms.{Store}
+use Rattle.certificates.specs.Below.horn.specs.Checker as checker
+use Rattle.certificates.specs.Below.horn.specs.Checker.{Goal}
+use Rattle.certificates.specs.Below.horn.specs.Certificate as definition
+use Rattle.certificates.specs.Below.horn.proofs.Counts.{few_items}
+use Rattle.certificates.specs.Below.horn.proofs.SoundnessWords.{WellFormed}
+use Rattle.certificates.specs.Below.lex.specs.Answers.{start}
+use Rattle.certificates.specs.Below.outcomes.specs.Simulation.{Simulates, leave, bind}
+use Rattle.certificates.specs.Below.items.specs.Places as places
+use Rattle.certificates.specs.Below.theory_laws.specs.Representation.{Entries, Holds}
+use Rattle.certificates.specs.Below.theory_laws.proofs.Frames.{Keeps}
+use Rattle.certificates.specs.Below.theory_reading.proofs.Stored.{Stored, Means}
+use Rattle.certificates.specs.Below.tables.specs.declared.Tally.{Tally}
+use Rattle.certificates.specs.Below.tables.specs.Phases.{Gathering}
+use Rattle.certificates.specs.Below.tables.proofs.Laws.{none_left}
+use Rattle.certificates.specs.Below.tables.proofs.Phases.{first_form}
+use Rattle.steps_laws.specs.Below.asking_laws.proofs.Places.{at_start}
+use Rattle.certificates.specs.Below.nodes.specs.Limits.{index_places, def_buckets}
+use Rattle.steps_laws.specs.Below.terms_laws.proofs.Judgments.{lifted}
 use Rattle.certificates.specs.Certificates as walk
-use Rattle.terms_laws.proofs.Following.{tested}
+use Rattle.steps_laws.specs.Below.terms_laws.proofs.Following.{tested}
 use Rattle.certificates_laws.proofs.Standing.{StepRecorded, Finished}
 use Rattle.certificates_laws.proofs.Forms.{forms_law}
 

@@ -1,6 +1,6 @@
 -- The three texts one after the other: what is answered, and what is left of the four areas.
 use Rattle.std.specs.Prelude.{ℕ, ◌+◌, List}
-use Rattle.words.specs.Parts.{cleared}
+use Rattle.theory.specs.Below.words.specs.Parts.{cleared}
 use Rattle.arena.specs.Store.{count}
 use Rattle.requests.specs.Requests.{emptied, requested_of}
 use Rattle.outcomes.specs.Outcomes.{Outcome, ok, refused}

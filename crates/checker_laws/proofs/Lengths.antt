@@ -5,9 +5,9 @@ use mathlib.Core.Bool.{true, false}
 use mathlib.Core.List.{List}
 use lib.ListN.{length}
 use borrow.Author.Tests.{le-leb, lt-leb}
-use Rattle.horn.specs.Refusals.{Result, refused, need, ◌>>=◌, area_short, text_long}
-use Rattle.horn.specs.Setting.{document01}
-use Rattle.horn.specs.Calls.{Release, release_read}
+use Rattle.clearing.specs.Below.horn.specs.Refusals.{Result, refused, need, ◌>>=◌, area_short, text_long}
+use Rattle.clearing.specs.Below.horn.specs.Setting.{document01}
+use Rattle.clearing.specs.Below.horn.specs.Calls.{Release, release_read}
 use Rattle.clearing.specs.Lengths.{long_enough}
 use Rattle.clearing.proofs.Areas.{areas_long_lem}
 use Rattle.checker_laws.proofs.Whole.{judged}

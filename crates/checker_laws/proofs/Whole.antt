@@ -4,40 +4,40 @@ use mathlib.Core.Path.{◌≡◌, refl, ap, sym, subst, ◌∙◌}
 use mathlib.Core.List.{List}
 use native.Mathlib.Omega.{arith}
 use lib.ListN.{length}
-use Rattle.horn.specs.Refusals.{Result, ok, ◌>>=◌}
-use Rattle.horn.specs.Setting.{document01}
-use Rattle.horn.specs.Rulebook as definition
-use Rattle.horn.specs.Rulebook.{Theory}
-use Rattle.horn.specs.StoredTerms.{Store, empty_store}
-use Rattle.horn.specs.Checker.{Goal, goals_of}
-use Rattle.horn.specs.Certificate.{Progress, certificate_of}
-use Rattle.horn.specs.Calls.{Release}
-use Rattle.horn.proofs.SoundnessRulebook.{theory_formed}
-use Rattle.horn.proofs.Accepting.{ReadRun}
-use Rattle.horn.proofs.Arising.{last_store}
-use Rattle.horn.proofs.Requests.{arising_made}
-use Rattle.horn.proofs.RequestsBound.{few_requests}
-use Rattle.words.specs.Parts.{cleared}
-use Rattle.requests.specs.Requests.{emptied, requested_of}
-use Rattle.requests.proofs.Counting.{requested_count}
-use Rattle.arena.proofs.Settings.{limits_01}
-use Rattle.outcomes.specs.Outcomes as outcomes
-use Rattle.outcomes.specs.Leaving as leaving
-use Rattle.outcomes.specs.Leaving.{Did, ◌leaving◌}
-use Rattle.items.specs.Places as places
-use Rattle.theory.specs.Walks as walks
-use Rattle.theory.specs.declared.Counts as declared
-use Rattle.outcomes.specs.Simulation.{Simulates, refuse, leave, bind, knowing}
-use Rattle.theory_laws.specs.Representation.{Entries, Holds}
-use Rattle.theory_laws.proofs.Frames.{Keeps, keeps_all}
-use Rattle.theory_laws.proofs.Whole.{Judged, theory_law}
-use Rattle.theory_reading.proofs.Stored.{Stored, nothing_stored, means_longer}
-use Rattle.tables.specs.declared.Tally.{Tally}
-use Rattle.tables.specs.Words.{goal_buckets, none_yet}
-use Rattle.nodes.specs.Limits.{node_limit, word_limit, index_places, def_buckets}
-use Rattle.goals.specs.Goals as goals
+use Rattle.clearing.specs.Below.horn.specs.Refusals.{Result, ok, ◌>>=◌}
+use Rattle.clearing.specs.Below.horn.specs.Setting.{document01}
+use Rattle.clearing.specs.Below.horn.specs.Rulebook as definition
+use Rattle.clearing.specs.Below.horn.specs.Rulebook.{Theory}
+use Rattle.clearing.specs.Below.horn.specs.StoredTerms.{Store, empty_store}
+use Rattle.clearing.specs.Below.horn.specs.Checker.{Goal, goals_of}
+use Rattle.clearing.specs.Below.horn.specs.Certificate.{Progress, certificate_of}
+use Rattle.clearing.specs.Below.horn.specs.Calls.{Release}
+use Rattle.clearing.specs.Below.horn.proofs.SoundnessRulebook.{theory_formed}
+use Rattle.clearing.specs.Below.horn.proofs.Accepting.{ReadRun}
+use Rattle.clearing.specs.Below.horn.proofs.Arising.{last_store}
+use Rattle.clearing.specs.Below.horn.proofs.Requests.{arising_made}
+use Rattle.clearing.specs.Below.horn.proofs.RequestsBound.{few_requests}
+use Rattle.clearing.specs.Below.words.specs.Parts.{cleared}
+use Rattle.checker.specs.Below.requests.specs.Requests.{emptied, requested_of}
+use Rattle.checker.specs.Below.requests.proofs.Counting.{requested_count}
+use Rattle.checker.specs.Below.arena.proofs.Settings.{limits_01}
+use Rattle.checker.specs.Below.outcomes.specs.Outcomes as outcomes
+use Rattle.checker.specs.Below.outcomes.specs.Leaving as leaving
+use Rattle.checker.specs.Below.outcomes.specs.Leaving.{Did, ◌leaving◌}
+use Rattle.goals_laws.specs.Below.items.specs.Places as places
+use Rattle.checker.specs.Below.theory.specs.Walks as walks
+use Rattle.checker.specs.Below.theory.specs.declared.Counts as declared
+use Rattle.checker.specs.Below.outcomes.specs.Simulation.{Simulates, refuse, leave, bind, knowing}
+use Rattle.goals_laws.specs.Below.theory_laws.specs.Representation.{Entries, Holds}
+use Rattle.goals_laws.specs.Below.theory_laws.proofs.Frames.{Keeps, keeps_all}
+use Rattle.goals_laws.specs.Below.theory_laws.proofs.Whole.{Judged, theory_law}
+use Rattle.checker.specs.Below.theory_reading.proofs.Stored.{Stored, nothing_stored, means_longer}
+use Rattle.checker.specs.Below.tables.specs.declared.Tally.{Tally}
+use Rattle.checker.specs.Below.tables.specs.Words.{goal_buckets, none_yet}
+use Rattle.checker.specs.Below.nodes.specs.Limits.{node_limit, word_limit, index_places, def_buckets}
+use Rattle.goals_laws.specs.Below.goals.specs.Goals as goals
 use Rattle.goals_laws.proofs.Whole.{goals_whole}
-use Rattle.certificates.specs.Certificates.{AllAreas, around, certificate}
+use Rattle.checker.specs.Below.certificates.specs.Certificates.{AllAreas, around, certificate}
 use Rattle.certificates_laws.proofs.Standing.{StepRecorded, Finished, terms_counted}
 use Rattle.certificates_laws.proofs.Whole.{certificate_law}
 use Rattle.checker.specs.Checker as walk

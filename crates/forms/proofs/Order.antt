@@ -8,7 +8,7 @@ use Rattle.lex.specs.declared.Reader.{Reader}
 use Rattle.names.specs.Tables.{present}
 use Rattle.outcomes.specs.Outcomes.{ok, refused, need}
 use Rattle.outcomes.specs.Leaving.{Did, ◌leaving◌, ◌>>=◌}
-use Rattle.theory_reading.specs.Storing.{Areas}
+use Rattle.nodes.specs.Below.theory_reading.specs.Storing.{Areas}
 use Rattle.tables.specs.declared.Tally.{Tally}
 use Rattle.tables.specs.Words.{def_found, def_added, def_counted}
 use Rattle.asking.specs.Asking.{in_form, closing_due}

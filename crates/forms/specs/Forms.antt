@@ -8,7 +8,7 @@ use Rattle.outcomes.specs.Outcomes.{Outcome, ok, need, or_else, pick}
 use Rattle.outcomes.specs.Outcomes as outcomes
 use Rattle.outcomes.specs.Leaving.{Did, ◌leaving◌, ◌>>=◌}
 use Rattle.items.specs.Items.{question}
-use Rattle.theory_reading.specs.Storing.{Areas, before}
+use Rattle.nodes.specs.Below.theory_reading.specs.Storing.{Areas, before}
 use Rattle.tables.specs.declared.Tally.{Tally}
 use Rattle.tables.specs.Words.{goal_open, goal_closed, goal_done, def_found, def_added, def_counted, step_word}
 use Rattle.asking.specs.Asking.{in_form, atom_due, closing_due}

@@ -8,7 +8,7 @@ use Rattle.outcomes.specs.Outcomes.{Outcome, ok, refused, need}
 use Rattle.outcomes.specs.Outcomes as outcomes
 use Rattle.outcomes.specs.Leaving.{Did, ◌leaving◌, ◌>>=◌}
 use Rattle.items.specs.Items.{question}
-use Rattle.theory_reading.specs.Storing.{Areas, before}
+use Rattle.nodes.specs.Below.theory_reading.specs.Storing.{Areas, before}
 use Rattle.tables.specs.declared.Tally.{Tally}
 use Rattle.tables.specs.Words.{goal_found, goal_added, goal_counted}
 use Rattle.asking.specs.Asking.{in_form, Top, over, form, atom_due, closing_due, form_due}

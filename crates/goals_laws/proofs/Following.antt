@@ -3,24 +3,24 @@ use Prim.Native.Nat.{ℕ, ◌+◌, ◌≤◌, ◌<◌}
 use mathlib.Core.Path.{◌≡◌}
 use mathlib.Core.List.{List}
 use lib.ListN.{length}
-use Rattle.horn.specs.Refusals as refusals
-use Rattle.horn.specs.Refusals.{Result}
-use Rattle.horn.specs.Names.{Name}
-use Rattle.horn.specs.Tokens.{Stream, Token}
-use Rattle.horn.specs.NestedLists.{Items}
-use Rattle.horn.specs.StoredTerms.{Store}
-use Rattle.horn.specs.Checker as definition
-use Rattle.words.specs.Parts.{part}
-use Rattle.lex.specs.declared.Reader.{Reader}
-use Rattle.outcomes.specs.Outcomes as outcomes
-use Rattle.outcomes.specs.Outcomes.{Outcome}
-use Rattle.outcomes.specs.Leaving as leaving
-use Rattle.outcomes.specs.Leaving.{Did, ◌leaving◌}
-use Rattle.outcomes.specs.Simulation.{Simulates}
-use Rattle.asking.specs.Asking.{atom_due}
-use Rattle.asking_laws.proofs.Places.{RestComes, At}
+use Rattle.goals.specs.Below.horn.specs.Refusals as refusals
+use Rattle.goals.specs.Below.horn.specs.Refusals.{Result}
+use Rattle.goals.specs.Below.horn.specs.Names.{Name}
+use Rattle.goals.specs.Below.horn.specs.Tokens.{Stream, Token}
+use Rattle.goals.specs.Below.horn.specs.NestedLists.{Items}
+use Rattle.goals.specs.Below.horn.specs.StoredTerms.{Store}
+use Rattle.goals.specs.Below.horn.specs.Checker as definition
+use Rattle.goals.specs.Below.words.specs.Parts.{part}
+use Rattle.goals.specs.Below.lex.specs.declared.Reader.{Reader}
+use Rattle.goals.specs.Below.outcomes.specs.Outcomes as outcomes
+use Rattle.goals.specs.Below.outcomes.specs.Outcomes.{Outcome}
+use Rattle.goals.specs.Below.outcomes.specs.Leaving as leaving
+use Rattle.goals.specs.Below.outcomes.specs.Leaving.{Did, ◌leaving◌}
+use Rattle.goals.specs.Below.outcomes.specs.Simulation.{Simulates}
+use Rattle.goals.specs.Below.asking.specs.Asking.{atom_due}
+use Rattle.terms_laws.specs.Below.asking_laws.proofs.Places.{RestComes, At}
 use Rattle.terms_laws.proofs.Following.{first_of_lem}
-use Rattle.asking_laws.proofs.Asking.{WordMet, word_met, word_law}
+use Rattle.terms_laws.specs.Below.asking_laws.proofs.Asking.{WordMet, word_met, word_law}
 
 module _ {S C D E : Type 0} {R : E → S → D → Type 0} (s : S) (ts : Store) (f : C × S → Did S E) where
   -- What comes first of something that leaves the areas as they are, where that is an atom, by its bounds.

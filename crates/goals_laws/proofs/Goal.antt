@@ -5,33 +5,33 @@ use mathlib.Core.Bool.{false, not}
 use mathlib.Core.List.{List, [], ◌∷◌, ◌++◌}
 use native.Mathlib.Omega.{arith}
 use lib.ListN.{length}
-use Rattle.horn.specs.Refusals as refusals
-use Rattle.horn.specs.Refusals.{number, duplicate, form, variable_name}
-use Rattle.horn.specs.Setting.{document01}
-use Rattle.horn.specs.Names.{codes, some_of}
-use Rattle.horn.specs.Tokens.{Stream, Token}
-use Rattle.horn.specs.NestedLists.{Items, group, ◌then◌}
-use Rattle.horn.specs.Rulebook.{Theory}
-use Rattle.horn.specs.StoredTerms.{Term, Store}
-use Rattle.horn.specs.Checker as definition
-use Rattle.horn.specs.Checker.{Goal, is_goal}
-use Rattle.horn.specs.Matching.{Step}
-use Rattle.words.specs.Parts.{part}
-use Rattle.lex.specs.declared.Reader.{Reader}
-use Rattle.outcomes.specs.Simulation.{Simulates, leave, knowing, weaker}
-use Rattle.theory_laws.specs.Representation.{Entries, Holds}
-use Rattle.facts.proofs.Comparing.{same_named}
-use Rattle.theory_laws.proofs.Lookups.{part-question}
-use Rattle.theory_reading.proofs.Stored.{Longer, Stored, Means, means_longer, few_terms}
-use Rattle.tables.specs.declared.Tally.{Tally}
-use Rattle.tables.specs.Words.{goal_added, goal_counted}
-use Rattle.tables.specs.Phases.{Gathering}
-use Rattle.tables.proofs.Laws.{known_goal}
-use Rattle.tables.proofs.Phases.{gathering_more, next_goal}
-use Rattle.asking.specs.Asking.{in_form}
-use Rattle.asking_laws.proofs.Places.{RestComes, At, at_less}
-use Rattle.asking_laws.proofs.Asking.{closing_law}
-use Rattle.nodes.specs.Limits.{index_places, def_buckets}
+use Rattle.goals.specs.Below.horn.specs.Refusals as refusals
+use Rattle.goals.specs.Below.horn.specs.Refusals.{number, duplicate, form, variable_name}
+use Rattle.goals.specs.Below.horn.specs.Setting.{document01}
+use Rattle.goals.specs.Below.horn.specs.Names.{codes, some_of}
+use Rattle.goals.specs.Below.horn.specs.Tokens.{Stream, Token}
+use Rattle.goals.specs.Below.horn.specs.NestedLists.{Items, group, ◌then◌}
+use Rattle.goals.specs.Below.horn.specs.Rulebook.{Theory}
+use Rattle.goals.specs.Below.horn.specs.StoredTerms.{Term, Store}
+use Rattle.goals.specs.Below.horn.specs.Checker as definition
+use Rattle.goals.specs.Below.horn.specs.Checker.{Goal, is_goal}
+use Rattle.goals.specs.Below.horn.specs.Matching.{Step}
+use Rattle.goals.specs.Below.words.specs.Parts.{part}
+use Rattle.goals.specs.Below.lex.specs.declared.Reader.{Reader}
+use Rattle.goals.specs.Below.outcomes.specs.Simulation.{Simulates, leave, knowing, weaker}
+use Rattle.terms_laws.specs.Below.theory_laws.specs.Representation.{Entries, Holds}
+use Rattle.goals.specs.Below.facts.proofs.Comparing.{same_named}
+use Rattle.terms_laws.specs.Below.theory_laws.proofs.Lookups.{part-question}
+use Rattle.goals.specs.Below.theory_reading.proofs.Stored.{Longer, Stored, Means, means_longer, few_terms}
+use Rattle.goals.specs.Below.tables.specs.declared.Tally.{Tally}
+use Rattle.goals.specs.Below.tables.specs.Words.{goal_added, goal_counted}
+use Rattle.goals.specs.Below.tables.specs.Phases.{Gathering}
+use Rattle.goals.specs.Below.tables.proofs.Laws.{known_goal}
+use Rattle.goals.specs.Below.tables.proofs.Phases.{gathering_more, next_goal}
+use Rattle.goals.specs.Below.asking.specs.Asking.{in_form}
+use Rattle.terms_laws.specs.Below.asking_laws.proofs.Places.{RestComes, At, at_less}
+use Rattle.terms_laws.specs.Below.asking_laws.proofs.Asking.{closing_law}
+use Rattle.goals.specs.Below.nodes.specs.Limits.{index_places, def_buckets}
 use borrow.Author.Tests.{not-true}
 use Rattle.terms_laws.proofs.Judgments.{lifted, AskedRead}
 use Rattle.terms_laws.proofs.Whole.{goal_judgment_lem}

@@ -6,37 +6,37 @@ use mathlib.Core.List.{List, []}
 use native.Mathlib.Omega.{arith}
 use lib.Dec.{eqb}
 use lib.ListN.{length}
-use Rattle.horn.specs.Refusals as refusals
-use Rattle.horn.specs.Refusals.{number, atom_or_list, no_goal}
-use Rattle.horn.specs.Setting.{document01}
-use Rattle.horn.specs.Names.{Name}
-use Rattle.horn.specs.Tokens.{tokens}
-use Rattle.horn.specs.NestedLists.{Items, word, items}
-use Rattle.horn.specs.Rulebook.{Theory}
-use Rattle.horn.specs.StoredTerms.{Store, empty_store}
-use Rattle.horn.specs.Checker as definition
-use Rattle.horn.specs.Checker.{Goal}
-use Rattle.horn.specs.Matching.{Step}
-use Rattle.horn.proofs.Counts.{item_count, few_items}
-use Rattle.words.specs.Parts.{cleared}
-use Rattle.lex.specs.Answers.{start}
-use Rattle.lex.specs.declared.Reader.{Reader}
-use Rattle.outcomes.specs.Outcomes.{Outcome}
-use Rattle.outcomes.specs.Leaving as leaving
-use Rattle.outcomes.specs.Leaving.{◌leaving◌}
-use Rattle.outcomes.specs.Simulation.{Simulates, refuse, leave, bind}
-use Rattle.theory_laws.specs.Representation.{Entries, Holds}
-use Rattle.theory_reading.proofs.Stored.{Longer, Stored, Means}
-use Rattle.capacity.proofs.Rooms.{roomy_01}
-use Rattle.tables.specs.declared.Tally.{Tally}
-use Rattle.tables.specs.Words.{goal_buckets, none_yet}
-use Rattle.tables.specs.Phases.{Gathering}
-use Rattle.tables.proofs.Laws.{none_left}
-use Rattle.tables.proofs.Phases.{first_goal}
-use Rattle.asking.specs.Asking.{Top}
-use Rattle.asking_laws.proofs.Places.{RestComes, Any, At, at_start}
-use Rattle.asking_laws.proofs.Asking.{FormMet, form_over, form_bad, form_closing, form_atom, form_list, form_law}
-use Rattle.nodes.specs.Limits.{index_places, def_buckets}
+use Rattle.goals.specs.Below.horn.specs.Refusals as refusals
+use Rattle.goals.specs.Below.horn.specs.Refusals.{number, atom_or_list, no_goal}
+use Rattle.goals.specs.Below.horn.specs.Setting.{document01}
+use Rattle.goals.specs.Below.horn.specs.Names.{Name}
+use Rattle.goals.specs.Below.horn.specs.Tokens.{tokens}
+use Rattle.goals.specs.Below.horn.specs.NestedLists.{Items, word, items}
+use Rattle.goals.specs.Below.horn.specs.Rulebook.{Theory}
+use Rattle.goals.specs.Below.horn.specs.StoredTerms.{Store, empty_store}
+use Rattle.goals.specs.Below.horn.specs.Checker as definition
+use Rattle.goals.specs.Below.horn.specs.Checker.{Goal}
+use Rattle.goals.specs.Below.horn.specs.Matching.{Step}
+use Rattle.goals.specs.Below.horn.proofs.Counts.{item_count, few_items}
+use Rattle.goals.specs.Below.words.specs.Parts.{cleared}
+use Rattle.goals.specs.Below.lex.specs.Answers.{start}
+use Rattle.goals.specs.Below.lex.specs.declared.Reader.{Reader}
+use Rattle.goals.specs.Below.outcomes.specs.Outcomes.{Outcome}
+use Rattle.goals.specs.Below.outcomes.specs.Leaving as leaving
+use Rattle.goals.specs.Below.outcomes.specs.Leaving.{◌leaving◌}
+use Rattle.goals.specs.Below.outcomes.specs.Simulation.{Simulates, refuse, leave, bind}
+use Rattle.terms_laws.specs.Below.theory_laws.specs.Representation.{Entries, Holds}
+use Rattle.goals.specs.Below.theory_reading.proofs.Stored.{Longer, Stored, Means}
+use Rattle.goals.specs.Below.capacity.proofs.Rooms.{roomy_01}
+use Rattle.goals.specs.Below.tables.specs.declared.Tally.{Tally}
+use Rattle.goals.specs.Below.tables.specs.Words.{goal_buckets, none_yet}
+use Rattle.goals.specs.Below.tables.specs.Phases.{Gathering}
+use Rattle.goals.specs.Below.tables.proofs.Laws.{none_left}
+use Rattle.goals.specs.Below.tables.proofs.Phases.{first_goal}
+use Rattle.goals.specs.Below.asking.specs.Asking.{Top}
+use Rattle.terms_laws.specs.Below.asking_laws.proofs.Places.{RestComes, Any, At, at_start}
+use Rattle.terms_laws.specs.Below.asking_laws.proofs.Asking.{FormMet, form_over, form_bad, form_closing, form_atom, form_list, form_law}
+use Rattle.goals.specs.Below.nodes.specs.Limits.{index_places, def_buckets}
 use Rattle.terms_laws.proofs.Judgments.{lifted}
 use Rattle.goals.specs.Goals as walk
 use Rattle.goals.specs.Goals.{Gathered}

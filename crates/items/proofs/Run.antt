@@ -1,15 +1,15 @@
 -- What the second walk reads, opened for computing it on small texts: an order of tests is shown by a text that fails two of them.
 use Prim.Native.Nat.{ℕ}
-use Rattle.horn.specs.Refusals
-use Rattle.horn.specs.Utf8
-use Rattle.horn.specs.Tokens
+use Rattle.lex.specs.Below.horn.specs.Refusals
+use Rattle.lex.specs.Below.horn.specs.Utf8
+use Rattle.lex.specs.Below.horn.specs.Tokens
 use Rattle.words.specs.Parts
 use Rattle.words.specs.Sums
 use Rattle.lex.specs.Answers
-use Rattle.utf8.specs.Characters
-use Rattle.utf8.specs.Classes
-use Rattle.scanning.specs.Scan
-use Rattle.names.specs.Chains
+use Rattle.lex.specs.Below.utf8.specs.Characters
+use Rattle.lex.specs.Below.utf8.specs.Classes
+use Rattle.lex.specs.Below.scanning.specs.Scan
+use Rattle.outcomes.specs.Below.names.specs.Chains
 use Rattle.outcomes.specs.Outcomes.{refusal}
 use Rattle.outcomes.specs.Leaving.{Did, ◌leaving◌}
 use Rattle.items.specs.Places as places

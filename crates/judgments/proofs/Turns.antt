@@ -6,7 +6,7 @@ use native.Mathlib.Omega.{arith}
 use Rattle.lex.specs.declared.Reader.{Reader}
 use Rattle.outcomes.specs.Leaving.{Did, ◌leaving◌, ◌>>=◌}
 use Rattle.asking.specs.Asking.{list_due, atom_due}
-use Rattle.theory_reading.specs.Storing.{Areas}
+use Rattle.nodes.specs.Below.theory_reading.specs.Storing.{Areas}
 use Rattle.judgments.specs.Judgments.{headed_judgment, judgment}
 
 module _ (left : ℕ) (text rules heap table : List ℕ) (top : ℕ) (r : Reader) (store stack : List ℕ) where

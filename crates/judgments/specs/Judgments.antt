@@ -4,7 +4,7 @@ use Rattle.words.specs.Sums.{sum32}
 use Rattle.lex.specs.declared.Reader.{Reader}
 use Rattle.outcomes.specs.Outcomes.{refused}
 use Rattle.outcomes.specs.Leaving.{Did, ◌leaving◌, ◌>>=◌}
-use Rattle.theory_reading.specs.Storing.{Areas}
+use Rattle.nodes.specs.Below.theory_reading.specs.Storing.{Areas}
 use Rattle.asking.specs.Asking.{atom_due, list_due}
 use Rattle.nodes.specs.Nodes.{make, predicate_due}
 use Rattle.terms.specs.Terms.{arguments}

@@ -6,7 +6,7 @@ use native.Mathlib.Omega.{arith}
 use borrow.Author.Tests.{lt-leb, le-leb, eq-eqb, ne_eqb, eqb-true, eqb-false, ltb-true, ltb-false}
 use lib.Dec.{eqb, ltb}
 use lib.ListN.{length, get_or, drop}
-use Rattle.horn.specs.Refusals.{number, not_utf8}
+use Rattle.utf8.specs.Below.horn.specs.Refusals.{number, not_utf8}
 use Rattle.utf8.specs.Classes.{is_ordinary, is_opening, is_closing}
 use Rattle.utf8.specs.Characters.{first, width, kind_at}
 use Rattle.scanning.specs.Scan.{blanks, atom_end, line_end}
@@ -14,7 +14,7 @@ use Rattle.lex.specs.Answers.{token, ended, refused, after, token_at, scanned_on
 use Rattle.scanning.specs.declared.Line.TheVariants as lines
 use Rattle.lex.specs.declared.Token.TheVariants.{Opening, Closing, Atom}
 use Rattle.lex.specs.declared.Ahead.TheVariants.{Nothing}
-use Rattle.horn.proofs.Equality.{case}
+use Rattle.utf8.specs.Below.horn.proofs.Equality.{case}
 use Rattle.utf8.proofs.Looks.{width_steps}
 use Rattle.scanning.proofs.Turns.{line_stop, line_bad, line_step, line_over}
 

@@ -5,7 +5,7 @@ use mathlib.Core.Logic.{◌⊎◌, inl, inr}
 use Prim.Native.Nat.{ℕ, ◌≤◌, ◌<◌}
 use native.Mathlib.Omega.{arith}
 use lib.ListN.{length, drop}
-use Rattle.horn.specs.Tokens.{Stream, Token}
+use Rattle.utf8.specs.Below.horn.specs.Tokens.{Stream, Token}
 use Rattle.utf8.specs.Classes.{is_ordinary}
 use Rattle.utf8.specs.Characters.{first, width}
 use Rattle.lex.specs.declared.Reader.{Reader}

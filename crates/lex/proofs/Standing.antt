@@ -8,12 +8,12 @@ use native.Mathlib.Omega.{arith}
 use borrow.Author.Tests.{ltb-true, ltb-false}
 use lib.Dec.{ltb}
 use lib.ListN.{length, take, drop}
-use Rattle.horn.specs.Refusals.{number, not_utf8}
-use Rattle.horn.specs.Utf8.{Char, char}
-use Rattle.horn.specs.Tokens.{Stream, end, bad, ◌▹◌, before, between, in_atom, unended, tokens_from, tokens}
-use Rattle.horn.specs.Tokens.{kind, Kind, blank, opens, closes, comments, ordinary}
-use Rattle.horn.specs.Tokens as horn
-use Rattle.words.specs.Parts.{part}
+use Rattle.utf8.specs.Below.horn.specs.Refusals.{number, not_utf8}
+use Rattle.utf8.specs.Below.horn.specs.Utf8.{Char, char}
+use Rattle.utf8.specs.Below.horn.specs.Tokens.{Stream, end, bad, ◌▹◌, before, between, in_atom, unended, tokens_from, tokens}
+use Rattle.utf8.specs.Below.horn.specs.Tokens.{kind, Kind, blank, opens, closes, comments, ordinary}
+use Rattle.utf8.specs.Below.horn.specs.Tokens as horn
+use Rattle.utf8.specs.Below.words.specs.Parts.{part}
 use Rattle.utf8.specs.Classes.{is_ordinary, is_white, is_opening, is_closing, is_comment, kind_number}
 use Rattle.utf8.specs.Characters.{first, kind_at}
 use Rattle.scanning.specs.Scan.{blanks, atom_end, line_end}
@@ -25,7 +25,7 @@ use Rattle.lex.specs.declared.Token.TheVariants.{Opening, Closing, Atom}
 use Rattle.lex.specs.declared.Ahead.{Ahead}
 use Rattle.lex.specs.declared.Ahead.TheVariants.{Nothing, Held}
 use Rattle.lex.specs.declared.Reader.{Reader}
-use Rattle.horn.proofs.Equality.{case}
+use Rattle.utf8.specs.Below.horn.proofs.Equality.{case}
 use Rattle.utf8.proofs.Grammar.{lt_of_le_of_ne}
 use Rattle.lex.proofs.Answering.{line_bounds, scan_token, scan_ended, scan_bad, scan_step, at_atom, at_opening, at_closing}
 use Rattle.scanning.proofs.Streams.{stream_bad}

@@ -1,6 +1,6 @@
 -- What a reader answers.
 use Rattle.std.specs.Prelude.{ℕ, zero, suc, ◌+◌, Bool, true, false, List, eqb, ltb, leb, length, drop}
-use Rattle.horn.specs.Refusals.{number, not_utf8}
+use Rattle.utf8.specs.Below.horn.specs.Refusals.{number, not_utf8}
 use Rattle.utf8.specs.Classes.{is_ordinary, is_opening, is_closing}
 use Rattle.utf8.specs.Characters.{first, width, kind_at}
 use Rattle.scanning.specs.Scan.{blanks, atom_end, line_end}

@@ -6,21 +6,21 @@ use Prim.Native.Nat.{ℕ, zero, suc, ◌+◌, ◌≤◌, ◌<◌}
 use native.Mathlib.Omega.{arith}
 use lib.ListN.{length, get_or, set, length-set}
 use lib.Seq.{get_or-set_same, get_or-set_other}
-use Rattle.horn.specs.Names.{Name, named}
-use Rattle.horn.specs.Rulebook.{Variable, Theory}
-use Rattle.horn.specs.StoredTerms.{Term, Store}
-use Rattle.horn.specs.Matching.{Bind, bind, lookup}
-use Rattle.horn.proofs.Equality.{case, chose_true, chose_false, named_decides, decides_false}
-use Rattle.names.proofs.Holds.{by_number}
-use Rattle.horn.proofs.SoundnessMatching.{lookup_new}
-use Rattle.horn.proofs.SoundnessWords.{Apart}
-use Rattle.items.specs.Places as layout
-use Rattle.theory_laws.specs.Representation.{Entries, Nth}
-use Rattle.theory_laws.proofs.Frames.{Keeps}
-use Rattle.theory_laws.proofs.Ready.{nth_below}
-use Rattle.theory_reading.proofs.Naming.{nth_one, nth_name}
-use Rattle.theory_reading.proofs.Stored.{Longer, Means, means_longer}
-use Rattle.matching.specs.Matching.{binding_of, binding_at}
+use Rattle.numerals.specs.Below.horn.specs.Names.{Name, named}
+use Rattle.numerals.specs.Below.horn.specs.Rulebook.{Variable, Theory}
+use Rattle.numerals.specs.Below.horn.specs.StoredTerms.{Term, Store}
+use Rattle.numerals.specs.Below.horn.specs.Matching.{Bind, bind, lookup}
+use Rattle.numerals.specs.Below.horn.proofs.Equality.{case, chose_true, chose_false, named_decides, decides_false}
+use Rattle.nodes.specs.Below.names.proofs.Holds.{by_number}
+use Rattle.numerals.specs.Below.horn.proofs.SoundnessMatching.{lookup_new}
+use Rattle.numerals.specs.Below.horn.proofs.SoundnessWords.{Apart}
+use Rattle.nodes.specs.Below.items.specs.Places as layout
+use Rattle.concluding.specs.Below.theory_laws.specs.Representation.{Entries, Nth}
+use Rattle.concluding.specs.Below.theory_laws.proofs.Frames.{Keeps}
+use Rattle.concluding.specs.Below.theory_laws.proofs.Ready.{nth_below}
+use Rattle.nodes.specs.Below.theory_reading.proofs.Naming.{nth_one, nth_name}
+use Rattle.nodes.specs.Below.theory_reading.proofs.Stored.{Longer, Means, means_longer}
+use Rattle.concluding.specs.Below.matching.specs.Matching.{binding_of, binding_at}
 use Rattle.concluding.specs.Concluding.{unbound}
 use Rattle.matching_laws.proofs.Relations.{Bound, not_bound, bound_to, Binds}
 

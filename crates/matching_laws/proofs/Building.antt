@@ -7,38 +7,38 @@ use native.Mathlib.Omega.{arith}
 use borrow.Author.Tests.{le-leb, lt-leb, eq-eqb, ne_eqb}
 use lib.ListN.{length, get_or, set, length-set}
 use lib.Seq.{get_or-set_same}
-use Rattle.horn.specs.Refusals.{number, Result, ok, refused, found, unbound}
-use Rattle.horn.specs.Refusals as results
-use Rattle.horn.specs.Names.{Name}
-use Rattle.horn.specs.Setting.{Setting}
-use Rattle.horn.specs.Rulebook.{Symbol, inputs, Variable, Pattern, var, app, Patterns, []ₚ, ◌∷ₚ◌, Theory}
-use Rattle.horn.specs.StoredTerms.{Term, node, Terms, []ₜ, ◌∷ₜ◌, Store, width}
-use Rattle.horn.specs.Checker.{Reading, give, lift}
-use Rattle.horn.specs.Checker as checker
-use Rattle.horn.specs.Matching.{Bind, lookup, build, builds}
-use Rattle.words.specs.Parts.{part}
-use Rattle.arena.specs.Store.{words_at}
-use Rattle.arena.proofs.Copies.{words_at-part}
-use Rattle.arena.proofs.Limits.{Limits}
-use Rattle.arena.proofs.Trees as trees
-use Rattle.arena.proofs.Trees.{tree_of, lookups, Below, formed}
-use Rattle.outcomes.specs.Leaving as leaving
-use Rattle.outcomes.specs.Leaving.{Did, ◌leaving◌}
-use Rattle.words.specs.Sums.{sum32}
-use Rattle.items.specs.Places as layout
-use Rattle.theory_laws.specs.Representation.{Entries, SymbolAt, Flat, flat_variable, flat_symbol, Flats, no_flats, one_flat, Holds}
-use Rattle.outcomes.specs.Simulation.{Simulates, refuse, leave, bind, paired}
-use Rattle.theory_laws.proofs.Frames.{Keeps, keeps_all, keeps_then, keeps_set}
-use Rattle.words.proofs.Sums.{sum_small}
-use Rattle.theory_laws.proofs.Readback.{symbol_arity, symbol_below}
-use Rattle.theory_reading.specs.Reading.{arity_of}
-use Rattle.theory_reading.specs.Addresses.{symbol_at}
-use Rattle.theory_reading.proofs.Bridge.{symbol_is, used_at}
-use Rattle.theory_reading.proofs.Held.{flat_rises}
-use Rattle.theory_reading.proofs.Terms.{lookups-width}
-use Rattle.theory_reading.proofs.Stored.{sized, Stored, Means, Longer, longer_none, longer_then, longer_length, longer_tree, stored_law}
-use Rattle.theory_reading.specs.Storing.{Areas, before}
-use Rattle.matching.specs.Matching.{binding_of, bound_term, node_made, arguments_built, term_built}
+use Rattle.numerals.specs.Below.horn.specs.Refusals.{number, Result, ok, refused, found, unbound}
+use Rattle.numerals.specs.Below.horn.specs.Refusals as results
+use Rattle.numerals.specs.Below.horn.specs.Names.{Name}
+use Rattle.numerals.specs.Below.horn.specs.Setting.{Setting}
+use Rattle.numerals.specs.Below.horn.specs.Rulebook.{Symbol, inputs, Variable, Pattern, var, app, Patterns, []ₚ, ◌∷ₚ◌, Theory}
+use Rattle.numerals.specs.Below.horn.specs.StoredTerms.{Term, node, Terms, []ₜ, ◌∷ₜ◌, Store, width}
+use Rattle.numerals.specs.Below.horn.specs.Checker.{Reading, give, lift}
+use Rattle.numerals.specs.Below.horn.specs.Checker as checker
+use Rattle.numerals.specs.Below.horn.specs.Matching.{Bind, lookup, build, builds}
+use Rattle.numerals.specs.Below.words.specs.Parts.{part}
+use Rattle.nodes.specs.Below.arena.specs.Store.{words_at}
+use Rattle.nodes.specs.Below.arena.proofs.Copies.{words_at-part}
+use Rattle.nodes.specs.Below.arena.proofs.Limits.{Limits}
+use Rattle.nodes.specs.Below.arena.proofs.Trees as trees
+use Rattle.nodes.specs.Below.arena.proofs.Trees.{tree_of, lookups, Below, formed}
+use Rattle.concluding.specs.Below.outcomes.specs.Leaving as leaving
+use Rattle.concluding.specs.Below.outcomes.specs.Leaving.{Did, ◌leaving◌}
+use Rattle.numerals.specs.Below.words.specs.Sums.{sum32}
+use Rattle.nodes.specs.Below.items.specs.Places as layout
+use Rattle.concluding.specs.Below.theory_laws.specs.Representation.{Entries, SymbolAt, Flat, flat_variable, flat_symbol, Flats, no_flats, one_flat, Holds}
+use Rattle.concluding.specs.Below.outcomes.specs.Simulation.{Simulates, refuse, leave, bind, paired}
+use Rattle.concluding.specs.Below.theory_laws.proofs.Frames.{Keeps, keeps_all, keeps_then, keeps_set}
+use Rattle.numerals.specs.Below.words.proofs.Sums.{sum_small}
+use Rattle.concluding.specs.Below.theory_laws.proofs.Readback.{symbol_arity, symbol_below}
+use Rattle.nodes.specs.Below.theory_reading.specs.Reading.{arity_of}
+use Rattle.nodes.specs.Below.theory_reading.specs.Addresses.{symbol_at}
+use Rattle.nodes.specs.Below.theory_reading.proofs.Bridge.{symbol_is, used_at}
+use Rattle.nodes.specs.Below.theory_reading.proofs.Held.{flat_rises}
+use Rattle.nodes.specs.Below.theory_reading.proofs.Terms.{lookups-width}
+use Rattle.nodes.specs.Below.theory_reading.proofs.Stored.{sized, Stored, Means, Longer, longer_none, longer_then, longer_length, longer_tree, stored_law}
+use Rattle.nodes.specs.Below.theory_reading.specs.Storing.{Areas, before}
+use Rattle.concluding.specs.Below.matching.specs.Matching.{binding_of, bound_term, node_made, arguments_built, term_built}
 use Rattle.matching_laws.proofs.Relations.{width_of, Full, full_variable, full_symbol, Fulls, full_none, full_next, Bound, not_bound, bound_to, Binds}
 use Rattle.matching_laws.proofs.Bindings.{binds_longer}
 

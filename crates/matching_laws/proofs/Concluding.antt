@@ -6,28 +6,28 @@ use Prim.Native.Nat.{ℕ, ◌+◌, ◌-◌, ◌≤◌, ◌<◌}
 use native.Mathlib.Omega.{arith}
 use borrow.Author.Tests.{eq-eqb, ne_eqb}
 use lib.ListN.{length}
-use Rattle.horn.specs.Refusals.{number, Result, ok, refused, found, bad_conclusion}
-use Rattle.horn.specs.Refusals as results
-use Rattle.horn.specs.Names.{Name}
-use Rattle.horn.specs.Setting.{Setting}
-use Rattle.horn.specs.Rulebook.{Variable, Pattern, Rule, rule, variables_of, premises_of, conclusion_of, Theory}
-use Rattle.horn.specs.StoredTerms.{Term, Store}
-use Rattle.horn.specs.Checker.{Reading, give, lift}
-use Rattle.horn.specs.Checker as checker
-use Rattle.horn.specs.Matching.{Bind, Step, match, match_premises, build}
-use Rattle.horn.specs.Certificate.{given, conclude}
-use Rattle.arena.proofs.Limits.{Limits}
-use Rattle.arena.proofs.Trees.{tree_of}
-use Rattle.items.specs.Places as layout
-use Rattle.theory_laws.specs.Representation.{Entries, FlatList, no_premises, one_premise, RuleWords, RuleAt, rule_at, Holds}
-use Rattle.outcomes.specs.Simulation.{Simulates, leave, bind, aside, bind_aside, giving}
-use Rattle.theory_laws.proofs.Frames.{Keeps}
-use Rattle.words.proofs.Sums.{sum_small}
-use Rattle.theory_reading.specs.Reading.{premise_count, premises_place, conclusion_place}
-use Rattle.theory_reading.specs.Addresses.{symbol_at}
-use Rattle.theory_reading.specs.Storing.{Areas}
-use Rattle.theory_reading.proofs.Held.{flat_rises}
-use Rattle.theory_reading.proofs.Stored.{Stored, Means, Longer, longer_none}
+use Rattle.numerals.specs.Below.horn.specs.Refusals.{number, Result, ok, refused, found, bad_conclusion}
+use Rattle.numerals.specs.Below.horn.specs.Refusals as results
+use Rattle.numerals.specs.Below.horn.specs.Names.{Name}
+use Rattle.numerals.specs.Below.horn.specs.Setting.{Setting}
+use Rattle.numerals.specs.Below.horn.specs.Rulebook.{Variable, Pattern, Rule, rule, variables_of, premises_of, conclusion_of, Theory}
+use Rattle.numerals.specs.Below.horn.specs.StoredTerms.{Term, Store}
+use Rattle.numerals.specs.Below.horn.specs.Checker.{Reading, give, lift}
+use Rattle.numerals.specs.Below.horn.specs.Checker as checker
+use Rattle.numerals.specs.Below.horn.specs.Matching.{Bind, Step, match, match_premises, build}
+use Rattle.numerals.specs.Below.horn.specs.Certificate.{given, conclude}
+use Rattle.nodes.specs.Below.arena.proofs.Limits.{Limits}
+use Rattle.nodes.specs.Below.arena.proofs.Trees.{tree_of}
+use Rattle.nodes.specs.Below.items.specs.Places as layout
+use Rattle.concluding.specs.Below.theory_laws.specs.Representation.{Entries, FlatList, no_premises, one_premise, RuleWords, RuleAt, rule_at, Holds}
+use Rattle.concluding.specs.Below.outcomes.specs.Simulation.{Simulates, leave, bind, aside, bind_aside, giving}
+use Rattle.concluding.specs.Below.theory_laws.proofs.Frames.{Keeps}
+use Rattle.numerals.specs.Below.words.proofs.Sums.{sum_small}
+use Rattle.nodes.specs.Below.theory_reading.specs.Reading.{premise_count, premises_place, conclusion_place}
+use Rattle.nodes.specs.Below.theory_reading.specs.Addresses.{symbol_at}
+use Rattle.nodes.specs.Below.theory_reading.specs.Storing.{Areas}
+use Rattle.nodes.specs.Below.theory_reading.proofs.Held.{flat_rises}
+use Rattle.nodes.specs.Below.theory_reading.proofs.Stored.{Stored, Means, Longer, longer_none}
 use Rattle.concluding.specs.Concluding.{stated_concluded, built_concluded, step_concluded}
 use Rattle.matching_laws.proofs.Relations.{Bound, not_bound, bound_to, Binds, StepsAt, ReferencesAt}
 use Rattle.matching_laws.proofs.Matching.{pattern_matches}

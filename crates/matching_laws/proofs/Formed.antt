@@ -3,9 +3,9 @@ use mathlib.Core.Path.{◌≡◌, refl, ap}
 use mathlib.Core.List.{List, Memᴰ}
 use Prim.Native.Nat.{suc}
 use lib.ListN.{length}
-use Rattle.horn.specs.Names.{Name}
-use Rattle.horn.specs.Rulebook.{Symbol, inputs, Variable, Pattern, Patterns, Rule, variables_of, premises_of, conclusion_of}
-use Rattle.horn.proofs.SoundnessWords.{Sorted, a_variable, a_term, AllSorted, no_pattern, pattern_then, SortedJudgment, a_judgment, Apart, RuleFormed}
+use Rattle.numerals.specs.Below.horn.specs.Names.{Name}
+use Rattle.numerals.specs.Below.horn.specs.Rulebook.{Symbol, inputs, Variable, Pattern, Patterns, Rule, variables_of, premises_of, conclusion_of}
+use Rattle.numerals.specs.Below.horn.proofs.SoundnessWords.{Sorted, a_variable, a_term, AllSorted, no_pattern, pattern_then, SortedJudgment, a_judgment, Apart, RuleFormed}
 use Rattle.matching_laws.proofs.Relations.{width_of, Full, full_variable, full_symbol, Fulls, full_none, full_next}
 
 -- Sorted patterns are full.

@@ -8,30 +8,30 @@ use native.Mathlib.Omega.{arith}
 use borrow.Author.Tests.{le-leb, lt-leb, eq-eqb, ne_eqb}
 use lib.Dec.{eqb}
 use lib.ListN.{length, get_or}
-use Rattle.horn.specs.Names.{Name}
-use Rattle.horn.specs.Setting.{Setting}
-use Rattle.horn.specs.Rulebook.{Symbol, inputs, same_symbol, Variable, Pattern, var, app, Patterns, []ₚ, ◌∷ₚ◌, Theory}
-use Rattle.horn.specs.StoredTerms.{Term, node, Terms, []ₜ, ◌∷ₜ◌, same_term, Store}
-use Rattle.horn.specs.Matching.{Bind, lookup, match_var, match, matches}
-use Rattle.horn.proofs.Equality.{case, chose_true, chose_false, same_term_decides, same_symbol_decides, decides_false}
-use Rattle.names.proofs.Holds.{by_number}
-use Rattle.arena.specs.Store.{argument_of}
-use Rattle.arena.proofs.Trees as trees
-use Rattle.arena.proofs.Trees.{tree_of, lookups, Below}
-use Rattle.words.specs.Sums.{sum32}
-use Rattle.items.specs.Places as layout
-use Rattle.theory_laws.specs.Representation.{Entries, Nth, Flat, flat_variable, flat_symbol, Flats, no_flats, one_flat, Holds}
-use Rattle.theory_laws.proofs.Frames.{Keeps, keeps_then, keeps_set}
-use Rattle.words.proofs.Sums.{sum_small}
-use Rattle.theory_laws.proofs.Readback.{same_symbol_lem, symbol_arity, symbol_below}
-use Rattle.horn.proofs.SoundnessWords.{Apart}
-use Rattle.theory_reading.specs.Reading.{arity_of}
-use Rattle.theory_reading.specs.Addresses.{symbol_at}
-use Rattle.theory_reading.proofs.Bridge.{stands_at}
-use Rattle.theory_reading.proofs.Held.{flat_rises}
-use Rattle.theory_reading.proofs.Stored.{Stored, few_terms, one_number, node_at}
-use Rattle.matching.specs.Matching as models
-use Rattle.matching.specs.Matching.{Tried, ◌keeping◌, binding_of, binding_at, agrees, with_binding, variable_matched, arguments_matched, matched}
+use Rattle.numerals.specs.Below.horn.specs.Names.{Name}
+use Rattle.numerals.specs.Below.horn.specs.Setting.{Setting}
+use Rattle.numerals.specs.Below.horn.specs.Rulebook.{Symbol, inputs, same_symbol, Variable, Pattern, var, app, Patterns, []ₚ, ◌∷ₚ◌, Theory}
+use Rattle.numerals.specs.Below.horn.specs.StoredTerms.{Term, node, Terms, []ₜ, ◌∷ₜ◌, same_term, Store}
+use Rattle.numerals.specs.Below.horn.specs.Matching.{Bind, lookup, match_var, match, matches}
+use Rattle.numerals.specs.Below.horn.proofs.Equality.{case, chose_true, chose_false, same_term_decides, same_symbol_decides, decides_false}
+use Rattle.nodes.specs.Below.names.proofs.Holds.{by_number}
+use Rattle.nodes.specs.Below.arena.specs.Store.{argument_of}
+use Rattle.nodes.specs.Below.arena.proofs.Trees as trees
+use Rattle.nodes.specs.Below.arena.proofs.Trees.{tree_of, lookups, Below}
+use Rattle.numerals.specs.Below.words.specs.Sums.{sum32}
+use Rattle.nodes.specs.Below.items.specs.Places as layout
+use Rattle.concluding.specs.Below.theory_laws.specs.Representation.{Entries, Nth, Flat, flat_variable, flat_symbol, Flats, no_flats, one_flat, Holds}
+use Rattle.concluding.specs.Below.theory_laws.proofs.Frames.{Keeps, keeps_then, keeps_set}
+use Rattle.numerals.specs.Below.words.proofs.Sums.{sum_small}
+use Rattle.concluding.specs.Below.theory_laws.proofs.Readback.{same_symbol_lem, symbol_arity, symbol_below}
+use Rattle.numerals.specs.Below.horn.proofs.SoundnessWords.{Apart}
+use Rattle.nodes.specs.Below.theory_reading.specs.Reading.{arity_of}
+use Rattle.nodes.specs.Below.theory_reading.specs.Addresses.{symbol_at}
+use Rattle.nodes.specs.Below.theory_reading.proofs.Bridge.{stands_at}
+use Rattle.nodes.specs.Below.theory_reading.proofs.Held.{flat_rises}
+use Rattle.nodes.specs.Below.theory_reading.proofs.Stored.{Stored, few_terms, one_number, node_at}
+use Rattle.concluding.specs.Below.matching.specs.Matching as models
+use Rattle.concluding.specs.Below.matching.specs.Matching.{Tried, ◌keeping◌, binding_of, binding_at, agrees, with_binding, variable_matched, arguments_matched, matched}
 use Rattle.matching_laws.proofs.Relations.{width_of, Full, full_variable, full_symbol, Fulls, full_none, full_next, Bound, not_bound, bound_to, Binds}
 use Rattle.matching_laws.proofs.Bindings.{binds_more}
 

@@ -8,22 +8,22 @@ use native.Mathlib.Omega.{arith}
 use native.Mathlib.Decide.{dec_le}
 use borrow.Author.Tests.{lt-ltb, le-ltb}
 use lib.ListN.{length, get_or, get_elem?}
-use Rattle.horn.specs.Refusals.{Refusal, number, Result, found, ◌>>=◌, no_such_step, bad_premise}
-use Rattle.horn.specs.Setting.{Setting}
-use Rattle.horn.specs.Rulebook.{Variable, Pattern, Theory}
-use Rattle.horn.specs.StoredTerms.{Store}
-use Rattle.horn.specs.Matching.{Bind, Step, match_premises}
-use Rattle.outcomes.specs.Outcomes as outcomes
-use Rattle.outcomes.specs.Leaving as leaving
-use Rattle.outcomes.specs.Leaving.{Did, ◌leaving◌}
-use Rattle.items.specs.Places as layout
-use Rattle.theory_laws.specs.Representation.{Entries, FlatList, no_premises, one_premise, Holds}
-use Rattle.outcomes.specs.Simulation.{Simulates, refuse, leave}
-use Rattle.theory_laws.proofs.Frames.{Keeps}
-use Rattle.horn.proofs.SoundnessWords.{Apart}
-use Rattle.theory_reading.proofs.Stored.{Stored}
-use Rattle.facts.proofs.Lists.{beyond}
-use Rattle.matching.specs.Matching.{Tried}
+use Rattle.numerals.specs.Below.horn.specs.Refusals.{Refusal, number, Result, found, ◌>>=◌, no_such_step, bad_premise}
+use Rattle.numerals.specs.Below.horn.specs.Setting.{Setting}
+use Rattle.numerals.specs.Below.horn.specs.Rulebook.{Variable, Pattern, Theory}
+use Rattle.numerals.specs.Below.horn.specs.StoredTerms.{Store}
+use Rattle.numerals.specs.Below.horn.specs.Matching.{Bind, Step, match_premises}
+use Rattle.concluding.specs.Below.outcomes.specs.Outcomes as outcomes
+use Rattle.concluding.specs.Below.outcomes.specs.Leaving as leaving
+use Rattle.concluding.specs.Below.outcomes.specs.Leaving.{Did, ◌leaving◌}
+use Rattle.nodes.specs.Below.items.specs.Places as layout
+use Rattle.concluding.specs.Below.theory_laws.specs.Representation.{Entries, FlatList, no_premises, one_premise, Holds}
+use Rattle.concluding.specs.Below.outcomes.specs.Simulation.{Simulates, refuse, leave}
+use Rattle.concluding.specs.Below.theory_laws.proofs.Frames.{Keeps}
+use Rattle.numerals.specs.Below.horn.proofs.SoundnessWords.{Apart}
+use Rattle.nodes.specs.Below.theory_reading.proofs.Stored.{Stored}
+use Rattle.numerals.specs.Below.facts.proofs.Lists.{beyond}
+use Rattle.concluding.specs.Below.matching.specs.Matching.{Tried}
 use Rattle.concluding.specs.Concluding.{or_refused, step_judgment, premises_matched}
 use Rattle.matching_laws.proofs.Relations.{Full, Binds, StepsAt, Saturates, as_it_is, at_most, ReferencesAt, no_references, one_reference}
 use Rattle.matching_laws.proofs.Matching.{Matching, both_differ, both_match, pattern_matches}

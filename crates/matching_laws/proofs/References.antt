@@ -7,9 +7,9 @@ use borrow.Author.Tests.{ltb-true, ltb-false}
 use lib.Dec.{ltb}
 use lib.ListN.{length, get_or, set}
 use lib.Seq.{get_or-set_same}
-use Rattle.horn.proofs.Equality.{case}
+use Rattle.numerals.specs.Below.horn.proofs.Equality.{case}
 use Rattle.numerals.specs.Numbers.{saturated}
-use Rattle.theory_laws.proofs.Frames.{Keeps, keeps_set}
+use Rattle.concluding.specs.Below.theory_laws.proofs.Frames.{Keeps, keeps_set}
 use Rattle.matching_laws.proofs.Relations.{Saturates, as_it_is, at_most, ReferencesAt, no_references, one_reference}
 
 -- A number saturated is held.

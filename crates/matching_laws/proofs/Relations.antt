@@ -4,13 +4,13 @@ use mathlib.Core.List.{List, [], ◌∷◌}
 use mathlib.Core.Option.{Option, none, some}
 use Prim.Native.Nat.{ℕ, zero, suc, ◌+◌, ◌≤◌, ◌<◌}
 use lib.ListN.{length, get_or, get_elem?}
-use Rattle.horn.specs.Names.{Name}
-use Rattle.horn.specs.Rulebook.{Symbol, inputs, Variable, Pattern, var, app, Patterns, []ₚ, ◌∷ₚ◌, Theory}
-use Rattle.horn.specs.StoredTerms.{Term, Store}
-use Rattle.horn.specs.Matching.{Bind, lookup, Step, judgment_of}
-use Rattle.theory_laws.specs.Representation.{Entries, Nth}
-use Rattle.theory_reading.proofs.Stored.{Means}
-use Rattle.matching.specs.Matching.{binding_of}
+use Rattle.numerals.specs.Below.horn.specs.Names.{Name}
+use Rattle.numerals.specs.Below.horn.specs.Rulebook.{Symbol, inputs, Variable, Pattern, var, app, Patterns, []ₚ, ◌∷ₚ◌, Theory}
+use Rattle.numerals.specs.Below.horn.specs.StoredTerms.{Term, Store}
+use Rattle.numerals.specs.Below.horn.specs.Matching.{Bind, lookup, Step, judgment_of}
+use Rattle.concluding.specs.Below.theory_laws.specs.Representation.{Entries, Nth}
+use Rattle.nodes.specs.Below.theory_reading.proofs.Stored.{Means}
+use Rattle.concluding.specs.Below.matching.specs.Matching.{binding_of}
 use Rattle.concluding.specs.Concluding.{step_judgment}
 
 -- A pattern has, at each of its nodes, as many arguments as the symbol has inputs.

@@ -5,18 +5,18 @@ use Prim.Native.Nat.{ℕ, ◌<◌}
 use native.Mathlib.Omega.{arith}
 use lib.Dec.{lit<}
 use lib.ListN.{length}
-use Rattle.horn.specs.Refusals.{ok}
-use Rattle.horn.specs.Setting.{document01}
-use Rattle.horn.specs.Names.{Name}
-use Rattle.horn.specs.Rulebook.{Rule, Theory, is_rule, rule_named}
-use Rattle.horn.proofs.Equality.{first-some}
-use Rattle.horn.proofs.Inversion.{was_found_lem}
-use Rattle.horn.proofs.SoundnessWords.{WellFormed}
-use Rattle.horn.specs.StoredTerms.{Store}
-use Rattle.horn.specs.Matching.{Step, judgment_of}
-use Rattle.theory_laws.specs.Representation.{Entries}
-use Rattle.theory_reading.proofs.Stored.{Means}
-use Rattle.tables.specs.Representation.{StepAt, Steps}
+use Rattle.numerals.specs.Below.horn.specs.Refusals.{ok}
+use Rattle.numerals.specs.Below.horn.specs.Setting.{document01}
+use Rattle.numerals.specs.Below.horn.specs.Names.{Name}
+use Rattle.numerals.specs.Below.horn.specs.Rulebook.{Rule, Theory, is_rule, rule_named}
+use Rattle.numerals.specs.Below.horn.proofs.Equality.{first-some}
+use Rattle.numerals.specs.Below.horn.proofs.Inversion.{was_found_lem}
+use Rattle.numerals.specs.Below.horn.proofs.SoundnessWords.{WellFormed}
+use Rattle.numerals.specs.Below.horn.specs.StoredTerms.{Store}
+use Rattle.numerals.specs.Below.horn.specs.Matching.{Step, judgment_of}
+use Rattle.concluding.specs.Below.theory_laws.specs.Representation.{Entries}
+use Rattle.nodes.specs.Below.theory_reading.proofs.Stored.{Means}
+use Rattle.concluding.specs.Below.tables.specs.Representation.{StepAt, Steps}
 use Rattle.concluding.specs.Concluding.{step_judgment}
 use Rattle.matching_laws.proofs.Relations.{StepsAt}
 use Rattle.matching_laws.proofs.Formed.{RuleReady, rule_ready}

@@ -5,20 +5,20 @@ use mathlib.Core.Option.{Option}
 use Prim.Native.Nat.{ℕ, ◌≤◌}
 use native.Mathlib.Omega.{arith}
 use lib.ListN.{length}
-use Rattle.horn.specs.Setting.{document01}
-use Rattle.horn.specs.Rulebook.{Rule, Theory, premises_of, variables_of}
-use Rattle.horn.specs.StoredTerms.{Term, Store}
-use Rattle.horn.specs.Checker.{Def, Goal}
-use Rattle.horn.specs.Matching.{Bind, Step, judgment_of}
-use Rattle.horn.specs.Certificate.{Witness, given, conclude}
-use Rattle.arena.proofs.Settings.{limits_01}
-use Rattle.items.specs.Places as layout
-use Rattle.theory_laws.specs.Representation.{Entries, RuleAt, Holds}
-use Rattle.outcomes.specs.Simulation.{Simulates}
-use Rattle.theory_laws.proofs.Frames.{Keeps}
-use Rattle.theory_reading.proofs.Stored.{Stored, Means}
-use Rattle.tables.specs.declared.Tally.{Tally}
-use Rattle.tables.specs.Representation.{Tables}
+use Rattle.numerals.specs.Below.horn.specs.Setting.{document01}
+use Rattle.numerals.specs.Below.horn.specs.Rulebook.{Rule, Theory, premises_of, variables_of}
+use Rattle.numerals.specs.Below.horn.specs.StoredTerms.{Term, Store}
+use Rattle.numerals.specs.Below.horn.specs.Checker.{Def, Goal}
+use Rattle.numerals.specs.Below.horn.specs.Matching.{Bind, Step, judgment_of}
+use Rattle.numerals.specs.Below.horn.specs.Certificate.{Witness, given, conclude}
+use Rattle.nodes.specs.Below.arena.proofs.Settings.{limits_01}
+use Rattle.nodes.specs.Below.items.specs.Places as layout
+use Rattle.concluding.specs.Below.theory_laws.specs.Representation.{Entries, RuleAt, Holds}
+use Rattle.concluding.specs.Below.outcomes.specs.Simulation.{Simulates}
+use Rattle.concluding.specs.Below.theory_laws.proofs.Frames.{Keeps}
+use Rattle.nodes.specs.Below.theory_reading.proofs.Stored.{Stored, Means}
+use Rattle.concluding.specs.Below.tables.specs.declared.Tally.{Tally}
+use Rattle.concluding.specs.Below.tables.specs.Representation.{Tables}
 use Rattle.nodes.specs.Limits.{node_limit, word_limit, index_places, def_buckets}
 use Rattle.concluding.specs.Concluding.{step_concluded}
 use Rattle.matching_laws.proofs.Relations.{Bound, Binds, ReferencesAt}

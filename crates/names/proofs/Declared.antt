@@ -4,9 +4,9 @@ use mathlib.Core.Bool.{Bool, true, false, true≢false}
 use mathlib.Core.List.{List, [], ◌∷◌, ◌++◌, Memᴰ}
 use mathlib.Core.Option.{Option, none, some}
 use Prim.Native.Nat.{ℕ}
-use Rattle.horn.specs.Names.{Name, first, some_of}
-use Rattle.horn.proofs.Equality.{case, named_decides, decides_false}
-use Rattle.horn.proofs.Inversion.{none-some}
+use Rattle.facts.specs.Below.horn.specs.Names.{Name, first, some_of}
+use Rattle.facts.specs.Below.horn.proofs.Equality.{case, named_decides, decides_false}
+use Rattle.facts.specs.Below.horn.proofs.Inversion.{none-some}
 use Rattle.names.specs.Chains.{found}
 use Rattle.names.specs.Tables.{Entry, entry, lookup, Table, Stands, nothing_yet, other_kind, declared, Agree, both_none, both_some, present}
 use Rattle.names.proofs.Holds.{by_name, lookup_here, lookup_on, find_law}

@@ -7,8 +7,8 @@ use native.Mathlib.Omega.{arith}
 use borrow.Author.Tests.{eqb-true, eqb-false, eq-eqb, ne_eqb}
 use lib.Dec.{eqb}
 use lib.ListN.{get_or}
-use Rattle.horn.specs.Names.{Name, named}
-use Rattle.horn.proofs.Equality.{case, named_decides, decides_false, differ}
+use Rattle.facts.specs.Below.horn.specs.Names.{Name, named}
+use Rattle.facts.specs.Below.horn.proofs.Equality.{case, named_decides, decides_false, differ}
 use Rattle.facts.proofs.Comparing.{same_named}
 use Rattle.names.specs.Chains.{bucket_of, name_at, chased, found}
 use Rattle.names.specs.Tables.{Entry, entry, lookup, top, newest, Chained, no_entry, one_more, Table}

@@ -7,7 +7,7 @@ use native.Mathlib.Omega.{arith}
 use lib.ListN.{length, get_or, set, length-set}
 use lib.Seq.{get_or-set_same, get_or-set_other}
 use Rattle.words.specs.Parts.{part}
-use Rattle.horn.specs.Names.{Name}
+use Rattle.facts.specs.Below.horn.specs.Names.{Name}
 use Rattle.names.specs.Chains.{bucket_of, name_at, linked, added}
 use Rattle.names.specs.Tables.{Entry, entry, top, newest, Chained, no_entry, one_more, Table, Owns, bucket_word, entry_word}
 use Rattle.names.proofs.Turns.{bucket_below}

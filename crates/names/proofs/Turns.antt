@@ -12,7 +12,7 @@ use lib.Dec.{eqb, ltb}
 use lib.ListN.{length, drop, get_or, drop_of_length-le}
 use lib.Seq.{drop-cons}
 use Rattle.words.specs.Parts.{same_bytes}
-use Rattle.horn.proofs.Equality.{case}
+use Rattle.facts.specs.Below.horn.proofs.Equality.{case}
 use Rattle.names.specs.Chains.{hashed_all, hash_of, bucket_of, name_at, before, searched, chased}
 
 pub hash_on : (s : List ℕ) (i h : ℕ) → i < length s

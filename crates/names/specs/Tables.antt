@@ -2,7 +2,7 @@
 use Rattle.std.specs.Prelude.{ℕ, ◌+◌, ◌≤◌, ◌<◌, ◌≡◌, Bool, true, false, eqb, length, get_or}
 use mathlib.Core.List.{List, [], ◌∷◌, ◌++◌, Memᴰ}
 use Rattle.std.proofs.Math.Option.{Option, none, some}
-use Rattle.horn.specs.Names.{Name, named, some_of}
+use Rattle.facts.specs.Below.horn.specs.Names.{Name, named, some_of}
 use Rattle.names.specs.Chains.{bucket_of, name_at}
 
 -- Its address and its name. Entries are listed newest first.

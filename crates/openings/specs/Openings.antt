@@ -3,7 +3,7 @@ use Rattle.std.specs.Prelude.{ℕ, ◌-◌, Bool, true, false, List}
 use Rattle.lex.specs.declared.Reader.{Reader}
 use Rattle.outcomes.specs.Outcomes.{Outcome, ok, refused}
 use Rattle.outcomes.specs.Leaving.{Did, ◌leaving◌, ◌>>=◌}
-use Rattle.theory_reading.specs.Storing.{Areas}
+use Rattle.nodes.specs.Below.theory_reading.specs.Storing.{Areas}
 use Rattle.asking.specs.Asking as asking
 use Rattle.asking.specs.Asking.{Met, item_due, closing_next}
 use Rattle.nodes.specs.Nodes.{atom_term, head_due}

@@ -1,3 +1,4 @@
+pub mod Below
 pub mod Outcomes
 pub mod Leaving
 pub mod Simulation

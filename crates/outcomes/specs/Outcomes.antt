@@ -1,6 +1,6 @@
 -- What a function of the walk answers: a value, or a refusal by document 01's number.
 use Rattle.std.specs.Prelude.{ℕ, Bool, true, false}
-pub use Rattle.words.specs.Choice.{pick}
+pub use Rattle.names.specs.Below.words.specs.Choice.{pick}
 use Rattle.std.proofs.Math.Option.{Option, none, some}
 
 pub data Outcome (A : Type 0) : Type 0 where

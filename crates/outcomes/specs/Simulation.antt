@@ -2,7 +2,7 @@
 use Rattle.std.specs.Prelude.{ℕ, ◌≡◌, refl, Bool, true, false, ◌&&◌}
 use Rattle.std.proofs.Common.{sym, true≢false}
 use Rattle.std.proofs.Math.Option.{Option}
-use Rattle.horn.specs.Refusals.{Refusal, number, unknown, Result, ok, refused, ◌>>=◌, need, found}
+use Rattle.names.specs.Below.horn.specs.Refusals.{Refusal, number, unknown, Result, ok, refused, ◌>>=◌, need, found}
 use Rattle.names.specs.Tables.{Agree, both_none, both_some}
 use Rattle.outcomes.specs.Outcomes as outcomes
 use Rattle.outcomes.specs.Outcomes.{Outcome}

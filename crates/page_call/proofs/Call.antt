@@ -10,9 +10,9 @@ use Rattle.horn.specs.Setting.{document01}
 use Rattle.horn.specs.Calls.{Release, release_read, called, leaving}
 use Rattle.horn.specs.Output.{Output, output, fitting, output_of}
 use Rattle.horn.specs.Page.{page_of, page_judged, page_call, page_left}
-use Rattle.checker.specs.Checker as walk
-use Rattle.checker_laws.proofs.Whole.{check_law}
-use Rattle.checker_laws.proofs.Lengths.{read_judged}
+use Rattle.page_walks.specs.Below.checker.specs.Checker as walk
+use Rattle.reports.specs.Below.checker_laws.proofs.Whole.{check_law}
+use Rattle.reports.specs.Below.checker_laws.proofs.Lengths.{read_judged}
 use Rattle.reports.proofs.ReleaseReported.{later_judged}
 use Rattle.clearing.specs.Lengths.{area_words, long_enough}
 use Rattle.clearing.proofs.Areas.{Long, untouched_short, untouched_long, all_cleared}

@@ -8,26 +8,26 @@ use mathlib.Core.Option.{some}
 use native.Mathlib.Omega.{arith}
 use native.Mathlib.Nat.{mod-eq_of_lt}
 use lib.ListN.{length, get_or, get_elem?}
-use Rattle.horn.specs.Names.{Name, first, some_of}
-use Rattle.horn.specs.Rulebook.{Rule, Theory}
-use Rattle.horn.specs.StoredTerms.{Term}
-use Rattle.horn.specs.Checker.{Goal, goal, is_goal}
-use Rattle.horn.specs.Certificate.{Witness, witness}
-use Rattle.horn.specs.Layout.{rule_name}
-use Rattle.horn.specs.Used.{result_step}
-use Rattle.horn.specs.Page.{is_result_of}
-use Rattle.horn.proofs.Equality.{named_decides, first-some, first-none, some_of_false, at_below}
-use Rattle.horn.proofs.Inversion.{none-some, some_equal}
-use Rattle.names.specs.Chains.{name_at}
-use Rattle.names.proofs.Kept.{member_named}
-use Rattle.names.proofs.Declared.{find_agrees, found_some}
-use Rattle.tables.specs.Words.{goal_buckets, entry_words, value_offset, closed_from, goal_at, goal_result, goal_found}
-use Rattle.tables.specs.Representation.{Sits, here, there, GoalsAt, no_goal, still_open, is_closed, Goals}
-use Rattle.tables.proofs.Goals.{agreed}
-use Rattle.nodes.specs.Limits.{def_buckets}
-use Rattle.items.specs.Places as places
-use Rattle.theory_laws.specs.Representation.{Entries, Holds, RuleAt, rule_at}
-use Rattle.theory_laws.proofs.Frames.{Keeps}
+use Rattle.checker_laws.specs.Below.horn.specs.Names.{Name, first, some_of}
+use Rattle.checker_laws.specs.Below.horn.specs.Rulebook.{Rule, Theory}
+use Rattle.checker_laws.specs.Below.horn.specs.StoredTerms.{Term}
+use Rattle.checker_laws.specs.Below.horn.specs.Checker.{Goal, goal, is_goal}
+use Rattle.checker_laws.specs.Below.horn.specs.Certificate.{Witness, witness}
+use Rattle.checker_laws.specs.Below.horn.specs.Layout.{rule_name}
+use Rattle.checker_laws.specs.Below.horn.specs.Used.{result_step}
+use Rattle.checker_laws.specs.Below.horn.specs.Page.{is_result_of}
+use Rattle.checker_laws.specs.Below.horn.proofs.Equality.{named_decides, first-some, first-none, some_of_false, at_below}
+use Rattle.checker_laws.specs.Below.horn.proofs.Inversion.{none-some, some_equal}
+use Rattle.used_laws.specs.Below.names.specs.Chains.{name_at}
+use Rattle.used_laws.specs.Below.names.proofs.Kept.{member_named}
+use Rattle.used_laws.specs.Below.names.proofs.Declared.{find_agrees, found_some}
+use Rattle.used_laws.specs.Below.tables.specs.Words.{goal_buckets, entry_words, value_offset, closed_from, goal_at, goal_result, goal_found}
+use Rattle.used_laws.specs.Below.tables.specs.Representation.{Sits, here, there, GoalsAt, no_goal, still_open, is_closed, Goals}
+use Rattle.used_laws.specs.Below.tables.proofs.Goals.{agreed}
+use Rattle.used_laws.specs.Below.nodes.specs.Limits.{def_buckets}
+use Rattle.used_laws.specs.Below.items.specs.Places as places
+use Rattle.used_laws.specs.Below.theory_laws.specs.Representation.{Entries, Holds, RuleAt, rule_at}
+use Rattle.used_laws.specs.Below.theory_laws.proofs.Frames.{Keeps}
 
 -- Where the k-th thing sits, and that what sits somewhere is there.
 sits_at : {A : Type 0} (b k p : ℕ) (things : List A) {a : A} → get_elem? things k ≡ some a → p ≡ b + entry_words * k → Sits b things p a

@@ -5,14 +5,14 @@ use mathlib.Core.List.{List, [], ◌∷◌, ◌++◌, append-nil, append_assoc}
 use mathlib.Core.Option.{some}
 use native.Mathlib.Omega.{arith}
 use lib.ListN.{length, take, get_elem?, length-append}
-use Rattle.horn.specs.Checker.{Goal}
-use Rattle.horn.specs.Certificate.{Progress}
-use Rattle.horn.specs.Page.{line_of, goal_lines}
-use Rattle.horn.proofs.Equality.{at_there}
-use Rattle.horn.proofs.Inversion.{none-some, some_equal}
-use Rattle.writing.specs.Buffer.{placed}
-use Rattle.writing.proofs.Placed.{placed_none, placed-append}
-use Rattle.pages.specs.Pages.{line_at, lines_to}
+use Rattle.checker_laws.specs.Below.horn.specs.Checker.{Goal}
+use Rattle.checker_laws.specs.Below.horn.specs.Certificate.{Progress}
+use Rattle.checker_laws.specs.Below.horn.specs.Page.{line_of, goal_lines}
+use Rattle.checker_laws.specs.Below.horn.proofs.Equality.{at_there}
+use Rattle.checker_laws.specs.Below.horn.proofs.Inversion.{none-some, some_equal}
+use Rattle.page_walks.specs.Below.writing.specs.Buffer.{placed}
+use Rattle.page_walks.specs.Below.writing.proofs.Placed.{placed_none, placed-append}
+use Rattle.page_walks.specs.Below.pages.specs.Pages.{line_at, lines_to}
 
 module _ (last : Progress) where
   -- One line more.

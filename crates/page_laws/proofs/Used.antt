@@ -6,24 +6,24 @@ use mathlib.Core.List.{List, [], ◌∷◌, map, append-nil, Memᴰ}
 use mathlib.Core.Option.{some}
 use native.Mathlib.Omega.{arith}
 use lib.ListN.{length, get_elem?}
-use Rattle.horn.specs.Setting.{document01}
-use Rattle.horn.specs.StoredTerms.{Term}
-use Rattle.horn.specs.Checker.{Goal, goal}
-use Rattle.horn.specs.Matching.{Step, references_of}
-use Rattle.horn.specs.Certificate.{Witness, witness}
-use Rattle.horn.specs.Calls.{Release}
-use Rattle.horn.specs.Used.{result_step, used_steps}
-use Rattle.horn.specs.Page.{is_result_of}
-use Rattle.horn.proofs.Equality.{first-some, at_member, at_there}
-use Rattle.horn.proofs.Accepting.{ReadRun}
-use Rattle.horn.proofs.Progressing.{run_progressing, goal_shown}
-use Rattle.words.specs.Parts.{cleared}
-use Rattle.words.proofs.Writing.{length-cleared, get_d_cleared}
-use Rattle.tables.specs.Words.{goal_buckets, goal_at, goal_result, step_kept}
-use Rattle.tables.specs.Representation.{Goals}
-use Rattle.nodes.specs.Limits.{def_buckets}
-use Rattle.steps_laws.proofs.Whole.{ReferencesListed}
-use Rattle.used_steps.specs.Marks.{marked_by, used_count}
+use Rattle.checker_laws.specs.Below.horn.specs.Setting.{document01}
+use Rattle.checker_laws.specs.Below.horn.specs.StoredTerms.{Term}
+use Rattle.checker_laws.specs.Below.horn.specs.Checker.{Goal, goal}
+use Rattle.checker_laws.specs.Below.horn.specs.Matching.{Step, references_of}
+use Rattle.checker_laws.specs.Below.horn.specs.Certificate.{Witness, witness}
+use Rattle.checker_laws.specs.Below.horn.specs.Calls.{Release}
+use Rattle.checker_laws.specs.Below.horn.specs.Used.{result_step, used_steps}
+use Rattle.checker_laws.specs.Below.horn.specs.Page.{is_result_of}
+use Rattle.checker_laws.specs.Below.horn.proofs.Equality.{first-some, at_member, at_there}
+use Rattle.checker_laws.specs.Below.horn.proofs.Accepting.{ReadRun}
+use Rattle.checker_laws.specs.Below.horn.proofs.Progressing.{run_progressing, goal_shown}
+use Rattle.page_walks.specs.Below.words.specs.Parts.{cleared}
+use Rattle.page_walks.specs.Below.words.proofs.Writing.{length-cleared, get_d_cleared}
+use Rattle.used_laws.specs.Below.tables.specs.Words.{goal_buckets, goal_at, goal_result, step_kept}
+use Rattle.used_laws.specs.Below.tables.specs.Representation.{Goals}
+use Rattle.used_laws.specs.Below.nodes.specs.Limits.{def_buckets}
+use Rattle.used_laws.specs.Below.steps_laws.proofs.Whole.{ReferencesListed}
+use Rattle.used_laws.specs.Below.used_steps.specs.Marks.{marked_by, used_count}
 use Rattle.used_laws.proofs.Marking.{Leaned, leaned_more, length_marked}
 use Rattle.used_laws.proofs.Counting.{Marks, counted_law}
 use Rattle.page_laws.proofs.Kept.{goal_result_lem}

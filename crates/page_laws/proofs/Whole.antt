@@ -10,36 +10,36 @@ use borrow.Author.Tests.{le-leb, lt-leb, ltb-true, ltb-false, ne_eqb}
 use lib.Dec.{leb, ltb}
 use lib.ListN.{length, get_elem?}
 use lib.Seq.{take-length}
-use Rattle.horn.specs.Refusals.{Result, ok, number, need, ◌>>=◌, output_long}
-use Rattle.horn.specs.Setting.{document01}
-use Rattle.horn.specs.Checker.{Goal, goal}
-use Rattle.horn.specs.Matching.{Step, rule_of, references_of}
-use Rattle.horn.specs.Calls.{Release}
-use Rattle.horn.specs.Layout.{rule_name}
-use Rattle.horn.specs.Output.{Output, output, fitting, output_of}
-use Rattle.horn.specs.Used.{used_steps}
-use Rattle.horn.specs.Page.{line_of, goal_lines, percentage, last_line, page_of}
-use Rattle.horn.proofs.Equality.{case, at_member, at_below}
-use Rattle.horn.proofs.Progressing.{goal_shown, shown_line, some_step}
-use Rattle.horn.proofs.Refusing.{refuses_none, refuses}
-use Rattle.horn.proofs.Later.{Later}
-use Rattle.horn.proofs.Page.{length-goal_lines, length-line_of, run_percentage, page_length}
-use Rattle.names.specs.Chains.{name_at}
-use Rattle.outcomes.specs.Outcomes as outcomes
-use Rattle.outcomes.specs.Leaving.{Did}
-use Rattle.outcomes.specs.Simulation.{Simulates, refuse, leave}
-use Rattle.tables.specs.Words.{step_kept}
-use Rattle.tables.specs.Representation.{StepAt}
-use Rattle.certificates.specs.Certificates.{AllAreas}
-use Rattle.checker.specs.declared.Counts.{Counts}
-use Rattle.steps_laws.proofs.Whole.{ReferencesListed}
+use Rattle.checker_laws.specs.Below.horn.specs.Refusals.{Result, ok, number, need, ◌>>=◌, output_long}
+use Rattle.checker_laws.specs.Below.horn.specs.Setting.{document01}
+use Rattle.checker_laws.specs.Below.horn.specs.Checker.{Goal, goal}
+use Rattle.checker_laws.specs.Below.horn.specs.Matching.{Step, rule_of, references_of}
+use Rattle.checker_laws.specs.Below.horn.specs.Calls.{Release}
+use Rattle.checker_laws.specs.Below.horn.specs.Layout.{rule_name}
+use Rattle.checker_laws.specs.Below.horn.specs.Output.{Output, output, fitting, output_of}
+use Rattle.checker_laws.specs.Below.horn.specs.Used.{used_steps}
+use Rattle.checker_laws.specs.Below.horn.specs.Page.{line_of, goal_lines, percentage, last_line, page_of}
+use Rattle.checker_laws.specs.Below.horn.proofs.Equality.{case, at_member, at_below}
+use Rattle.checker_laws.specs.Below.horn.proofs.Progressing.{goal_shown, shown_line, some_step}
+use Rattle.checker_laws.specs.Below.horn.proofs.Refusing.{refuses_none, refuses}
+use Rattle.checker_laws.specs.Below.horn.proofs.Later.{Later}
+use Rattle.checker_laws.specs.Below.horn.proofs.Page.{length-goal_lines, length-line_of, run_percentage, page_length}
+use Rattle.used_laws.specs.Below.names.specs.Chains.{name_at}
+use Rattle.page_walks.specs.Below.outcomes.specs.Outcomes as outcomes
+use Rattle.page_walks.specs.Below.outcomes.specs.Leaving.{Did}
+use Rattle.page_walks.specs.Below.outcomes.specs.Simulation.{Simulates, refuse, leave}
+use Rattle.used_laws.specs.Below.tables.specs.Words.{step_kept}
+use Rattle.used_laws.specs.Below.tables.specs.Representation.{StepAt}
+use Rattle.page_walks.specs.Below.certificates.specs.Certificates.{AllAreas}
+use Rattle.page_walks.specs.Below.checker.specs.declared.Counts.{Counts}
+use Rattle.used_laws.specs.Below.steps_laws.proofs.Whole.{ReferencesListed}
 use Rattle.checker_laws.proofs.Whole.{Released}
-use Rattle.clearing.proofs.Reported.{Reported}
-use Rattle.writing.specs.Buffer.{placed}
-use Rattle.writing.proofs.Placed.{placed-append, placed_front}
-use Rattle.used_steps.specs.Marks.{used_count}
-use Rattle.page_lines.specs.Lines.{percent, used_line}
-use Rattle.pages.specs.Pages.{line_at, page_from}
+use Rattle.checker_laws.specs.Below.clearing.proofs.Reported.{Reported}
+use Rattle.page_walks.specs.Below.writing.specs.Buffer.{placed}
+use Rattle.page_walks.specs.Below.writing.proofs.Placed.{placed-append, placed_front}
+use Rattle.used_laws.specs.Below.used_steps.specs.Marks.{used_count}
+use Rattle.page_walks.specs.Below.page_lines.specs.Lines.{percent, used_line}
+use Rattle.page_walks.specs.Below.pages.specs.Pages.{line_at, page_from}
 use Rattle.page_walks.specs.Walks.{answered, page_by}
 use Rattle.page_laws.proofs.Kept.{goal_result_lem, goal_named, rule_named_lem}
 use Rattle.page_laws.proofs.Lines.{lines_law}

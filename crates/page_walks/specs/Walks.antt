@@ -1,10 +1,10 @@
 -- What is answered of what the walks over three texts answer, for any words, and what is left of the buffer and of two areas.
 use Rattle.std.specs.Prelude.{ℕ, ◌+◌, ◌*◌, true, false, List, ltb, length}
-use Rattle.horn.specs.Output.{Output, output}
+use Rattle.clearing.specs.Below.horn.specs.Output.{Output, output}
 use Rattle.words.specs.Sums.{low32}
-use Rattle.outcomes.specs.Outcomes.{Outcome, ok, refused}
-use Rattle.outcomes.specs.Leaving.{Did, ◌leaving◌}
-use Rattle.certificates.specs.Certificates.{AllAreas}
+use Rattle.checker.specs.Below.outcomes.specs.Outcomes.{Outcome, ok, refused}
+use Rattle.checker.specs.Below.outcomes.specs.Leaving.{Did, ◌leaving◌}
+use Rattle.checker.specs.Below.certificates.specs.Certificates.{AllAreas}
 use Rattle.checker.specs.declared.Counts.{Counts}
 use Rattle.pages.specs.Pages.{page_from}
 

@@ -1,10 +1,10 @@
 -- What each function leaves of the buffer and of the areas, for any words.
 use Rattle.std.specs.Prelude.{ℕ, zero, suc, ◌*◌, ◌%◌, List}
-use Rattle.horn.specs.Page.{goal_line}
-use Rattle.names.specs.Chains.{name_at}
+use Rattle.page_lines.specs.Below.horn.specs.Page.{goal_line}
+use Rattle.nodes.specs.Below.names.specs.Chains.{name_at}
 use Rattle.tables.specs.Words.{goal_at, goal_result, step_kept}
 use Rattle.nodes.specs.Limits.{def_buckets}
-use Rattle.writing.specs.Buffer.{placed}
+use Rattle.page_lines.specs.Below.writing.specs.Buffer.{placed}
 use Rattle.used_steps.specs.Marks.{used_count}
 use Rattle.page_lines.specs.Lines.{percent, used_line}
 

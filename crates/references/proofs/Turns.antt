@@ -5,7 +5,7 @@ use mathlib.Core.List.{List}
 use native.Mathlib.Omega.{arith}
 use lib.ListN.{set}
 use Rattle.lex.specs.declared.Reader.{Reader}
-use Rattle.words.specs.Sums.{sum32}
+use Rattle.names.specs.Below.words.specs.Sums.{sum32}
 use Rattle.numerals.specs.Numbers.{saturated}
 use Rattle.outcomes.specs.Outcomes.{Outcome, ok, refused}
 use Rattle.outcomes.specs.Leaving.{◌leaving◌}

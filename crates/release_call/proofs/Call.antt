@@ -14,8 +14,8 @@ use Rattle.horn.specs.Longer.{Kept}
 use Rattle.horn.proofs.Soundness.{sound}
 use Rattle.horn.proofs.Complete.{complete_01}
 use Rattle.horn.proofs.Longer.{longer_kept}
-use Rattle.checker.specs.Checker as walk
-use Rattle.checker_laws.proofs.Lengths.{read_judged}
+use Rattle.reports.specs.Below.checker.specs.Checker as walk
+use Rattle.reports.specs.Below.checker_laws.proofs.Lengths.{read_judged}
 use Rattle.reports.proofs.ReleaseReported.{reported, release_reported}
 use Rattle.clearing.specs.Lengths.{area_words, long_enough}
 use Rattle.reports.specs.Release.{released_by, told}

@@ -4,22 +4,22 @@ use mathlib.Core.Path.{◌≡◌, sym, ap}
 use mathlib.Core.List.{List}
 use native.Mathlib.Omega.{arith}
 use lib.ListN.{length}
-use Rattle.horn.specs.Refusals.{number, Result, ok, ◌>>=◌}
-use Rattle.horn.specs.Setting.{document01}
-use Rattle.horn.specs.StoredTerms.{empty_store}
-use Rattle.horn.specs.Calls as calls
-use Rattle.horn.specs.Calls.{report, Release, report_of, release_answer}
-use Rattle.horn.proofs.Refusing.{refuses_none, refuses, refuses_bind}
-use Rattle.horn.proofs.Later.{Later, later_theory}
-use Rattle.horn.proofs.Readings.{later_goals, later_certificate}
-use Rattle.outcomes.specs.Leaving.{Did}
-use Rattle.outcomes.specs.Simulation.{Simulates, refuse, leave}
-use Rattle.certificates.specs.Certificates.{AllAreas}
+use Rattle.checker_laws.specs.Below.horn.specs.Refusals.{number, Result, ok, ◌>>=◌}
+use Rattle.checker_laws.specs.Below.horn.specs.Setting.{document01}
+use Rattle.checker_laws.specs.Below.horn.specs.StoredTerms.{empty_store}
+use Rattle.checker_laws.specs.Below.horn.specs.Calls as calls
+use Rattle.checker_laws.specs.Below.horn.specs.Calls.{report, Release, report_of, release_answer}
+use Rattle.checker_laws.specs.Below.horn.proofs.Refusing.{refuses_none, refuses, refuses_bind}
+use Rattle.checker_laws.specs.Below.horn.proofs.Later.{Later, later_theory}
+use Rattle.checker_laws.specs.Below.horn.proofs.Readings.{later_goals, later_certificate}
+use Rattle.checker.specs.Below.outcomes.specs.Leaving.{Did}
+use Rattle.checker.specs.Below.outcomes.specs.Simulation.{Simulates, refuse, leave}
+use Rattle.checker.specs.Below.certificates.specs.Certificates.{AllAreas}
 use Rattle.checker.specs.Checker as walk
 use Rattle.checker.specs.declared.Counts.{Counts}
 use Rattle.checker_laws.proofs.Whole.{judged, Released, check_law}
 use Rattle.reports.specs.Release.{released_by, told}
-use Rattle.clearing.proofs.Reported.{Reported}
+use Rattle.checker_laws.specs.Below.clearing.proofs.Reported.{Reported}
 
 -- Reading and judging give neither 1 nor 2.
 pub later_judged : (rulebook goals certificate : List ℕ) → Later (judged rulebook goals certificate)

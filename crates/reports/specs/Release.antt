@@ -1,9 +1,9 @@
 -- What the call with three texts answers, in the definition's words.
 use Rattle.std.specs.Prelude.{ℕ}
-use Rattle.horn.specs.Calls as calls
-use Rattle.outcomes.specs.Outcomes.{Outcome, ok, refused}
-use Rattle.outcomes.specs.Leaving.{Did, ◌leaving◌}
-use Rattle.certificates.specs.Certificates.{AllAreas}
+use Rattle.checker_laws.specs.Below.horn.specs.Calls as calls
+use Rattle.checker.specs.Below.outcomes.specs.Outcomes.{Outcome, ok, refused}
+use Rattle.checker.specs.Below.outcomes.specs.Leaving.{Did, ◌leaving◌}
+use Rattle.checker.specs.Below.certificates.specs.Certificates.{AllAreas}
 use Rattle.checker.specs.declared.Counts.{Counts}
 use Rattle.reports.specs.declared.Report.{Report}
 

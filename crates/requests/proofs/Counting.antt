@@ -7,11 +7,11 @@ use lib.ListN.{length, set, length-set}
 use lib.Seq.{get_or-set_same}
 use Rattle.words.specs.Sums.{low32, sum32}
 use Rattle.words.proofs.Writing.{length-cleared}
-use Rattle.horn.specs.Refusals.{ok, refused, store_full, ◌>>=◌}
-use Rattle.horn.specs.Setting.{Setting}
-use Rattle.horn.specs.Rulebook.{Symbol}
-use Rattle.horn.specs.StoredTerms.{Term, Met, was_found, was_made, met_by, found_in, made_in, intern, Store, empty_store, request}
-use Rattle.horn.proofs.Requests.{found_or_made}
+use Rattle.arena.specs.Below.horn.specs.Refusals.{ok, refused, store_full, ◌>>=◌}
+use Rattle.arena.specs.Below.horn.specs.Setting.{Setting}
+use Rattle.arena.specs.Below.horn.specs.Rulebook.{Symbol}
+use Rattle.arena.specs.Below.horn.specs.StoredTerms.{Term, Met, was_found, was_made, met_by, found_in, made_in, intern, Store, empty_store, request}
+use Rattle.arena.specs.Below.horn.proofs.Requests.{found_or_made}
 use Rattle.arena.specs.Store as store
 use Rattle.arena.specs.Store.{area_words, intern_answer, intern_area}
 use Rattle.arena.specs.declared.Answer.{Answer}

@@ -11,8 +11,8 @@ use Rattle.horn.specs.Calls as calls
 use Rattle.horn.specs.Calls.{rulebook_answer}
 use Rattle.horn.proofs.Refusing.{refuses_none, refuses}
 use Rattle.horn.proofs.Later.{Later, later_theory}
-use Rattle.outcomes.specs.Outcomes as outcomes
-use Rattle.outcomes.specs.Leaving.{Did, ◌leaving◌}
+use Rattle.theory.specs.Below.outcomes.specs.Outcomes as outcomes
+use Rattle.theory.specs.Below.outcomes.specs.Leaving.{Did, ◌leaving◌}
 use Rattle.theory.specs.Walks as walks
 use Rattle.theory.specs.Walks.{AllAreas}
 use Rattle.theory.specs.declared.Counts.{Counts}

@@ -1,7 +1,7 @@
 -- What the call with the rulebook alone answers, in the definition's words.
 use Rattle.horn.specs.Calls as calls
-use Rattle.outcomes.specs.Outcomes.{Outcome, ok, refused}
-use Rattle.outcomes.specs.Leaving.{Did, ◌leaving◌}
+use Rattle.theory.specs.Below.outcomes.specs.Outcomes.{Outcome, ok, refused}
+use Rattle.theory.specs.Below.outcomes.specs.Leaving.{Did, ◌leaving◌}
 use Rattle.theory.specs.Walks.{AllAreas}
 use Rattle.theory.specs.declared.Counts.{Counts}
 use Rattle.rulebook_call.specs.declared.RulebookReport.{RulebookReport}

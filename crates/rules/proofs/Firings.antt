@@ -1,7 +1,7 @@
 -- The order of tests in a rule's declaration, on the least text that fails both. Assumes nothing.
 use mathlib.Core.Path.{◌≡◌, refl}
 use mathlib.Core.List.{[], ◌∷◌}
-use Rattle.leaves.specs.Leaves as leaves
+use Rattle.patterns.specs.Below.leaves.specs.Leaves as leaves
 use Rattle.patterns.specs.Patterns as patterns
 use Rattle.items.proofs.Run.{open_tokens, open_names, open_items, at_start, answered_with}
 use Rattle.rule_names.specs.RuleNames.{name_kept}

@@ -7,7 +7,7 @@ use Rattle.outcomes.specs.Leaving.{Did, ◌leaving◌, ◌>>=◌, beside}
 use Rattle.words.specs.Parts.{copied}
 use Rattle.words.specs.Sums.{sum32}
 use Rattle.items.specs.Items.{with_top, list_due, closing_due, question}
-use Rattle.variables.specs.Variables.{Areas}
+use Rattle.patterns.specs.Below.variables.specs.Variables.{Areas}
 use Rattle.patterns.specs.Patterns.{judgment, judgments}
 use Rattle.items.specs.declared.Walk.{Walk}
 use Rattle.symbols.specs.Symbols.{entered}

@@ -8,13 +8,13 @@ use borrow.Author.Tests.{eqb-true, eqb-false, ltb-true, ltb-false}
 use lib.Dec.{eqb, ltb}
 use lib.ListN.{length, get_or, take, drop, length-drop, drop_of_length-le}
 use lib.Seq.{drop-drop, drop-cons}
-use Rattle.horn.specs.Utf8.{Char, char}
-use Rattle.horn.specs.Tokens.{Stream, end, ◌▹◌, before, lines, characters}
+use Rattle.utf8.specs.Below.horn.specs.Utf8.{Char, char}
+use Rattle.utf8.specs.Below.horn.specs.Tokens.{Stream, end, ◌▹◌, before, lines, characters}
 use Rattle.utf8.specs.Characters.{First, broken, found, first, width}
 use Rattle.scanning.specs.Scan.{line_end}
 use Rattle.scanning.specs.declared.Line.TheVariants as line
-use Rattle.horn.proofs.Equality.{case}
-use Rattle.horn.proofs.CompleteLines.{before-append}
+use Rattle.utf8.specs.Below.horn.proofs.Equality.{case}
+use Rattle.utf8.specs.Below.horn.proofs.CompleteLines.{before-append}
 use Rattle.utf8.proofs.Looks.{at_drop, Sound, sound, width_zero, width_steps}
 use Rattle.scanning.proofs.Turns.{line_stop, line_bad, line_step, line_over}
 use Rattle.scanning.proofs.Streams.{GoodLine, BadLine, good_end, good_newline, good_on, bad_on, head_broken}

@@ -7,15 +7,15 @@ use borrow.Author.Tests.{ne_eqb, eqb-true, eqb-false}
 use lib.Dec.{eqb}
 use lib.ListN.{length, get_or, take, drop}
 use lib.Seq.{drop-drop, take-add}
-use Rattle.horn.specs.Utf8.{Char, char, within}
-use Rattle.horn.specs.Tokens.{Stream, ◌▹◌, before, Token, opening, closing, atom}
-use Rattle.horn.specs.Tokens.{kind, Kind, blank, opens, closes, comments, ordinary, white, white_ranges, in_some}
-use Rattle.horn.specs.Tokens.{Place, between, in_comment, in_atom, begins, continues, ends_comment, move, unended, tokens_from}
-use Rattle.words.specs.Parts.{part}
+use Rattle.utf8.specs.Below.horn.specs.Utf8.{Char, char, within}
+use Rattle.utf8.specs.Below.horn.specs.Tokens.{Stream, ◌▹◌, before, Token, opening, closing, atom}
+use Rattle.utf8.specs.Below.horn.specs.Tokens.{kind, Kind, blank, opens, closes, comments, ordinary, white, white_ranges, in_some}
+use Rattle.utf8.specs.Below.horn.specs.Tokens.{Place, between, in_comment, in_atom, begins, continues, ends_comment, move, unended, tokens_from}
+use Rattle.utf8.specs.Below.words.specs.Parts.{part}
 use Rattle.utf8.specs.Classes.{is_ordinary, is_white, is_comment, kind_number}
 use Rattle.utf8.specs.Characters.{found, first, width, kind_at}
 use Rattle.scanning.specs.Scan.{blanks, atom_end}
-use Rattle.horn.proofs.Equality.{case}
+use Rattle.utf8.specs.Below.horn.proofs.Equality.{case}
 use Rattle.utf8.proofs.Sixteen.{kind_at_lem}
 use Rattle.scanning.proofs.Turns.{atom_stop, atom_step, atom_over, blank_stop, blank_step, blank_over, comment_stop}
 use Rattle.scanning.proofs.Streams.{first_newline}

@@ -8,14 +8,14 @@ use native.Mathlib.Omega.{arith}
 use borrow.Author.Tests.{ne_eqb, eqb-true, eqb-false}
 use lib.Dec.{T, eqb, ltb, leb, eqb→eq, ltb→lt, leb→le}
 use lib.ListN.{length, get_or, take, drop}
-use Rattle.horn.specs.Utf8.{Range, range, within, Sequence, sequence, sequences, started_by, tail, Char, char, resumed, decoded}
-use Rattle.horn.specs.Tokens.{Stream, bad, ◌▹◌, before, onto_first_line, lines, characters}
+use Rattle.utf8.specs.Below.horn.specs.Utf8.{Range, range, within, Sequence, sequence, sequences, started_by, tail, Char, char, resumed, decoded}
+use Rattle.utf8.specs.Below.horn.specs.Tokens.{Stream, bad, ◌▹◌, before, onto_first_line, lines, characters}
 use Rattle.utf8.specs.Characters.{First, broken, found, one_more, rest, first}
 use Rattle.utf8.proofs.Table.{and_left, and_right}
 use Rattle.utf8.proofs.Alternatives.{starts, all_pass, started}
-use Rattle.horn.proofs.Equality.{case}
-use Rattle.horn.proofs.Inversion.{case_option}
-use Rattle.horn.proofs.CompleteUtf8.{resumed_done}
+use Rattle.utf8.specs.Below.horn.proofs.Equality.{case}
+use Rattle.utf8.specs.Below.horn.proofs.Inversion.{case_option}
+use Rattle.utf8.specs.Below.horn.proofs.CompleteUtf8.{resumed_done}
 
 -- The first line and the others.
 top_line : List (List ℕ) → List ℕ

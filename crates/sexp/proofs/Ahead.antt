@@ -1,6 +1,6 @@
 -- How the second walk reads the counts back: one word for each opening, in order.
 use Rattle.std.proofs.Common.{◌≡◌, ℕ, suc, ◌+◌, ◌<◌, List, [], ◌∷◌, length, get_or, take, ap, ◌∙◌, arith}
-use Rattle.horn.specs.NestedLists.{Sexps}
+use Rattle.lex.specs.Below.horn.specs.NestedLists.{Sexps}
 use Rattle.sexp.specs.Flattening.{counts_all, counts}
 use Rattle.sexp.proofs.Held.{count_at}
 

@@ -2,10 +2,10 @@
 use Rattle.std.proofs.Common.{subst, ◌≡◌, ℕ, zero, suc, ◌+◌, ◌<◌, List, [], ◌∷◌, ◌++◌, length, get_or, set, sym, refl, ap, ◌∙◌, ap₂, append-nil, arith, length-append, length-set}
 use lib.ListN.{get_or-append}
 use lib.Seq.{set-append_left, set_at, get_or_at, append_snoc}
-use Rattle.horn.specs.Refusals.{Refusal, not_utf8, text_ends, stray_closing, Result, ok, refused, ◌>>=◌}
-use Rattle.horn.specs.Tokens.{Stream, end, bad, ◌▹◌, Token, opening, closing, atom}
-use Rattle.horn.specs.NestedLists.{items, sexps, asked_at, absent, Sexp, leaf, list, []ₛ}
-use Rattle.horn.specs.Rulebook.{count}
+use Rattle.lex.specs.Below.horn.specs.Refusals.{Refusal, not_utf8, text_ends, stray_closing, Result, ok, refused, ◌>>=◌}
+use Rattle.lex.specs.Below.horn.specs.Tokens.{Stream, end, bad, ◌▹◌, Token, opening, closing, atom}
+use Rattle.lex.specs.Below.horn.specs.NestedLists.{items, sexps, asked_at, absent, Sexp, leaf, list, []ₛ}
+use Rattle.lex.specs.Below.horn.specs.Rulebook.{count}
 use Rattle.sexp.specs.Flattening.{counts_one, counts_all, counts}
 use Rattle.sexp.proofs.Levels.{Levels, top, ◌within◌, put, ended_list, read, read-sexps}
 

@@ -1,11 +1,11 @@
 -- The first walk is the definition's: for every text of at most 8,192 bytes and every area of at least 16,384 words the
 -- answer is the definition's refusal, or the area's first words are the member counts of the definition's nested lists.
 use Rattle.std.proofs.Common.{◌≡◌, ℕ, ◌≤◌, List, [], length, take, refl, subst, arith}
-use Rattle.horn.specs.Refusals.{Refusal, number, Result, ok, ◌>>=◌}
-use Rattle.horn.specs.Refusals as refusals
-use Rattle.horn.specs.Tokens.{tokens}
-use Rattle.horn.specs.NestedLists.{items, sexps, Sexps}
-use Rattle.horn.proofs.Counts.{stream_length, few_tokens}
+use Rattle.lex.specs.Below.horn.specs.Refusals.{Refusal, number, Result, ok, ◌>>=◌}
+use Rattle.lex.specs.Below.horn.specs.Refusals as refusals
+use Rattle.lex.specs.Below.horn.specs.Tokens.{tokens}
+use Rattle.lex.specs.Below.horn.specs.NestedLists.{items, sexps, Sexps}
+use Rattle.lex.specs.Below.horn.proofs.Counts.{stream_length, few_tokens}
 use Rattle.lex.specs.Answers as lexed
 use Rattle.lex.proofs.Standing.{start_stands}
 use Rattle.sexp.specs.Flattening.{flattened, counts}

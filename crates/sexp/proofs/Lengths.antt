@@ -1,6 +1,6 @@
 -- The first walk leaves as many words as it was lent. Assumes nothing.
 use Rattle.std.proofs.Common.{◌≡◌, ℕ, zero, suc, ◌+◌, true, false, eqb, ltb, List, length, set, refl, ◌∙◌, length-set}
-use Rattle.horn.proofs.Post.{either}
+use Rattle.lex.specs.Below.horn.proofs.Post.{either}
 use Rattle.lex.specs.Answers as lexed
 use Rattle.lex.specs.declared.Token.{Token}
 use Rattle.lex.specs.declared.Token.TheVariants.{Opening, Closing, Atom}

@@ -1,12 +1,12 @@
 -- The definition of nested lists says the same as a machine that goes over the tokens and knows only how many lists are
 -- open.
 use Rattle.std.proofs.Common.{◌≡◌, ℕ, zero, suc, sym, refl, ap, ◌∙◌}
-use Rattle.horn.specs.Refusals.{Refusal, not_utf8, text_ends, stray_closing, Result, ok, refused, ◌>>=◌, need}
-use Rattle.horn.specs.Tokens.{Stream, end, bad, ◌▹◌, Token, opening, closing, atom}
-use Rattle.horn.specs.NestedLists.{Around}
-use Rattle.horn.specs.NestedLists.{innermost, outer, add, around, items, asked_at, absent, sexp, members, sexps}
-use Rattle.horn.specs.NestedLists.{Sexp, leaf, list, Sexps, []ₛ, ◌∷ₛ◌}
-use Rattle.horn.proofs.Post.{Post, post_ok, post_refused, post_bind, post_after}
+use Rattle.lex.specs.Below.horn.specs.Refusals.{Refusal, not_utf8, text_ends, stray_closing, Result, ok, refused, ◌>>=◌, need}
+use Rattle.lex.specs.Below.horn.specs.Tokens.{Stream, end, bad, ◌▹◌, Token, opening, closing, atom}
+use Rattle.lex.specs.Below.horn.specs.NestedLists.{Around}
+use Rattle.lex.specs.Below.horn.specs.NestedLists.{innermost, outer, add, around, items, asked_at, absent, sexp, members, sexps}
+use Rattle.lex.specs.Below.horn.specs.NestedLists.{Sexp, leaf, list, Sexps, []ₛ, ◌∷ₛ◌}
+use Rattle.lex.specs.Below.horn.proofs.Post.{Post, post_ok, post_refused, post_bind, post_after}
 use Rattle.sexp.specs.Flattening.{flat_one, flat}
 
 -- What was read of each list that is open, innermost first, and then at top level.

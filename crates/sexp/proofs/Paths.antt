@@ -1,6 +1,6 @@
 -- One law for each way through a token's step and through the end of the text.
 use Rattle.std.proofs.Common.{◌≡◌, ℕ, ◌+◌, ◌-◌, ◌%◌, ◌<◌, ◌≤◌, Bool, true, false, List, get_or, set, refl, ap, le-ltb, lt-ltb, eq-eqb, ne_eqb}
-use Rattle.horn.specs.Refusals.{number}
+use Rattle.lex.specs.Below.horn.specs.Refusals.{number}
 use Rattle.lex.specs.declared.Token.TheVariants.{Opening, Closing, Atom}
 use Rattle.sexp.specs.declared.Place.{Place}
 use Rattle.sexp.specs.declared.Step.TheVariants.{On, Refused}

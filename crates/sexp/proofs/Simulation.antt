@@ -1,12 +1,12 @@
 -- The walk over a reader that stands before some tokens answers as the counting over these tokens.
 use Rattle.std.proofs.Common.{◌≡◌, ℕ, zero, suc, ◌+◌, ◌-◌, ◌<◌, ◌≤◌, leb, List, [], ◌∷◌, ◌++◌, length, take, sym, refl, ap, ◌∙◌, subst, ap₂, arith, le-leb, leb-false, leb-true}
 use borrow.Author.Tests.{lt-leb}
-use Rattle.horn.specs.Refusals.{Refusal, number, not_utf8, nesting, text_ends, stray_closing, Result, ok, ◌>>=◌, need}
-use Rattle.horn.specs.Refusals as refusals
-use Rattle.horn.specs.Tokens.{Stream, end, bad, ◌▹◌, Token, opening, closing, atom}
-use Rattle.horn.specs.NestedLists.{asked_at, absent}
-use Rattle.horn.proofs.Counts.{stream_length}
-use Rattle.horn.proofs.Equality.{case}
+use Rattle.lex.specs.Below.horn.specs.Refusals.{Refusal, number, not_utf8, nesting, text_ends, stray_closing, Result, ok, ◌>>=◌, need}
+use Rattle.lex.specs.Below.horn.specs.Refusals as refusals
+use Rattle.lex.specs.Below.horn.specs.Tokens.{Stream, end, bad, ◌▹◌, Token, opening, closing, atom}
+use Rattle.lex.specs.Below.horn.specs.NestedLists.{asked_at, absent}
+use Rattle.lex.specs.Below.horn.proofs.Counts.{stream_length}
+use Rattle.lex.specs.Below.horn.proofs.Equality.{case}
 use Rattle.lex.specs.Answers as lexed
 use Rattle.lex.specs.declared.Token as read
 use Rattle.lex.specs.declared.Token.TheVariants.{Opening, Closing, Atom}

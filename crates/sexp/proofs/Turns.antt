@@ -1,6 +1,6 @@
 -- One law for each way through the loop of the walk.
 use Rattle.std.proofs.Common.{◌≡◌, ℕ, suc, ◌-◌, ◌<◌, ◌≤◌, List, sym, ap, ◌∙◌, arith}
-use Rattle.horn.specs.Refusals.{number}
+use Rattle.lex.specs.Below.horn.specs.Refusals.{number}
 use Rattle.lex.specs.Answers as lexed
 use Rattle.lex.specs.declared.Token.{Token}
 use Rattle.lex.specs.declared.Reader.{Reader}

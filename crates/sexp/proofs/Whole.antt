@@ -1,11 +1,11 @@
 -- A rulebook that is read whole: its tokens are its nested lists written out, and it has no more lists than bytes.
 use Rattle.std.proofs.Common.{◌≡◌, ℕ, zero, ◌+◌, ◌≤◌, List, [], ◌∷◌, length, ap, ◌∙◌, arith}
-use Rattle.horn.specs.Refusals.{ok}
-use Rattle.horn.specs.Tokens.{Stream, end, ◌▹◌, Token, closing, tokens}
-use Rattle.horn.specs.NestedLists.{items, sexps, Sexp, leaf, list, Sexps, []ₛ, ◌∷ₛ◌}
-use Rattle.horn.proofs.Counts.{stream_length, few_tokens}
-use Rattle.horn.proofs.Inversion.{onᵣ}
-use Rattle.horn.proofs.Post.{post_at}
+use Rattle.lex.specs.Below.horn.specs.Refusals.{ok}
+use Rattle.lex.specs.Below.horn.specs.Tokens.{Stream, end, ◌▹◌, Token, closing, tokens}
+use Rattle.lex.specs.Below.horn.specs.NestedLists.{items, sexps, Sexp, leaf, list, Sexps, []ₛ, ◌∷ₛ◌}
+use Rattle.lex.specs.Below.horn.proofs.Counts.{stream_length, few_tokens}
+use Rattle.lex.specs.Below.horn.proofs.Inversion.{onᵣ}
+use Rattle.lex.specs.Below.horn.proofs.Post.{post_at}
 use Rattle.sexp.specs.Flattening.{flat_one, flat, flattened, counts_one, counts_all, counts}
 use Rattle.sexp.proofs.Levels.{top, written, read-written, read-sexps}
 

@@ -1,9 +1,9 @@
 -- What the first walk says of a rulebook that it reads whole: its tokens are its nested lists written out, and how many
 -- members each list has.
 use Rattle.std.specs.Prelude.{ℕ, List, [], ◌∷◌}
-use Rattle.horn.specs.Tokens.{Stream, end, ◌▹◌, Token, opening, closing, atom}
-use Rattle.horn.specs.NestedLists.{Sexp, leaf, list, Sexps, []ₛ, ◌∷ₛ◌}
-use Rattle.horn.specs.Rulebook.{count}
+use Rattle.lex.specs.Below.horn.specs.Tokens.{Stream, end, ◌▹◌, Token, opening, closing, atom}
+use Rattle.lex.specs.Below.horn.specs.NestedLists.{Sexp, leaf, list, Sexps, []ₛ, ◌∷ₛ◌}
+use Rattle.lex.specs.Below.horn.specs.Rulebook.{count}
 
 -- A nested list written in front of other tokens, and several.
 unfoldable mutual

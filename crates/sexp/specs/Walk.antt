@@ -1,6 +1,6 @@
 -- What the first walk answers, and what it leaves in the lent words.
 use Rattle.std.specs.Prelude.{ℕ, zero, suc, ◌+◌, ◌-◌, ◌%◌, true, false, List, ◌==◌, nat_lt, slice_index, slice_set}
-use Rattle.horn.specs.Refusals.{number, text_long, nesting, text_ends, stray_closing}
+use Rattle.lex.specs.Below.horn.specs.Refusals.{number, text_long, nesting, text_ends, stray_closing}
 use Rattle.lex.specs.Answers as lexed
 use Rattle.lex.specs.declared.Token.{Token}
 use Rattle.lex.specs.declared.Token.TheVariants.{Opening, Closing, Atom}

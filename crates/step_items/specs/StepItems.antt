@@ -5,7 +5,7 @@ use Rattle.lex.specs.declared.Reader.{Reader}
 use Rattle.outcomes.specs.Outcomes.{ok, refused, need, pick}
 use Rattle.outcomes.specs.Leaving.{Did, ◌leaving◌, ◌>>=◌}
 use Rattle.items.specs.Items.{question}
-use Rattle.theory_reading.specs.Storing.{before}
+use Rattle.nodes.specs.Below.theory_reading.specs.Storing.{before}
 use Rattle.asking.specs.Asking.{in_form, in_list, Ahead, closing, member, atom_due, list_due, closing_next}
 use Rattle.judgments.specs.Judgments.{headed_judgment}
 use Rattle.step_bindings.specs.StepBindings.{Worked, binding}

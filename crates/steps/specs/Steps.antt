@@ -7,7 +7,7 @@ use Rattle.theory_reading.specs.Reading.{variable_count}
 use Rattle.theory_reading.specs.Storing.{before}
 use Rattle.concluding.specs.Concluding.{unbound, step_concluded}
 use Rattle.references.specs.References.{rule_due, counted_references}
-use Rattle.step_bindings.specs.StepBindings.{Worked}
+use Rattle.step_items.specs.Below.step_bindings.specs.StepBindings.{Worked}
 use Rattle.step_items.specs.StepItems.{items}
 use Rattle.steps.specs.declared.Stepped.{Stepped}
 use Rattle.steps.specs.declared.Stepped.TheVariants as stepped

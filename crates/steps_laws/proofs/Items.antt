@@ -8,55 +8,55 @@ use native.Mathlib.Omega.{arith}
 use borrow.Author.Tests.{eq-eqb, ne_eqb}
 use lib.Dec.{eqb}
 use lib.ListN.{length, set}
-use Rattle.horn.specs.Refusals as refusals
-use Rattle.horn.specs.Refusals.{Result, number, text_ends, bad_binding, second_conclusion}
-use Rattle.horn.specs.Setting.{document01}
-use Rattle.horn.specs.Names.{Name, questioned}
-use Rattle.horn.specs.Tokens.{Stream, Token}
-use Rattle.horn.specs.NestedLists.{Item, Items, closed, ended, bad_line, ◌then◌, absent}
-use Rattle.horn.specs.Rulebook as rulebook
-use Rattle.horn.specs.Rulebook.{Variable, Rule, Theory, variables_of}
-use Rattle.horn.specs.StoredTerms.{Term, Store}
-use Rattle.horn.specs.Checker as definition
-use Rattle.horn.specs.Checker.{Def, has_sort}
-use Rattle.horn.specs.Matching.{Bind, bind, lookup}
-use Rattle.horn.specs.Certificate as certificates
-use Rattle.horn.specs.Certificate.{Given, given, is_bound, is_stated}
-use Rattle.horn.proofs.Equality.{case, both, not-true}
-use Rattle.horn.proofs.SoundnessWords.{Apart}
-use Rattle.words.specs.Parts.{part}
-use Rattle.words.specs.Sums.{sum32}
-use Rattle.words.proofs.Sums.{sum_small}
-use Rattle.lex.specs.declared.Reader.{Reader}
-use Rattle.outcomes.specs.Outcomes as outcomes
-use Rattle.outcomes.specs.Outcomes.{Outcome}
-use Rattle.outcomes.specs.Leaving as leaving
-use Rattle.outcomes.specs.Leaving.{Did, ◌leaving◌}
-use Rattle.items.specs.Places as places
-use Rattle.items.specs.Items.{question}
-use Rattle.outcomes.specs.Simulation.{Answers, both_refuse, Simulates, refuse, leave, bind as bind_all, test, tests, sought, giving}
-use Rattle.theory_laws.specs.Representation.{Entries, Nth, SortAt, RuleAt, Holds}
-use Rattle.theory_laws.proofs.Lookups.{part-question}
-use Rattle.theory_laws.proofs.Frames.{Keeps, keeps_then, keeps_set, rule_kept, grown_none}
-use Rattle.theory_reading.specs.Reading.{sort_of_variable}
-use Rattle.theory_reading.specs.Storing.{Areas}
-use Rattle.theory_reading.proofs.Held.{VariableIs, variable_is, variable_found_lem, bindings_fit, holds_now}
-use Rattle.theory_reading.proofs.Terms.{number_sort}
-use Rattle.theory_reading.proofs.Stored.{Longer, longer_then, Stored, Means, few_terms}
-use Rattle.tables.specs.Representation.{Defs}
-use Rattle.asking.specs.Asking.{in_list, Ahead}
-use Rattle.asking_laws.proofs.Places.{RestComes, At, at_less, at_within}
-use Rattle.asking_laws.proofs.Asking.{WordMet, word_met, word_law, GroupMet, closing_law, Looked, look_closed, look_bad, look_ended, look_item, look_law}
-use Rattle.nodes.specs.Nodes.{sort_of}
-use Rattle.nodes.specs.Limits.{node_limit, word_limit, index_places, def_buckets}
+use Rattle.matching_laws.specs.Below.horn.specs.Refusals as refusals
+use Rattle.matching_laws.specs.Below.horn.specs.Refusals.{Result, number, text_ends, bad_binding, second_conclusion}
+use Rattle.matching_laws.specs.Below.horn.specs.Setting.{document01}
+use Rattle.matching_laws.specs.Below.horn.specs.Names.{Name, questioned}
+use Rattle.matching_laws.specs.Below.horn.specs.Tokens.{Stream, Token}
+use Rattle.matching_laws.specs.Below.horn.specs.NestedLists.{Item, Items, closed, ended, bad_line, ◌then◌, absent}
+use Rattle.matching_laws.specs.Below.horn.specs.Rulebook as rulebook
+use Rattle.matching_laws.specs.Below.horn.specs.Rulebook.{Variable, Rule, Theory, variables_of}
+use Rattle.matching_laws.specs.Below.horn.specs.StoredTerms.{Term, Store}
+use Rattle.matching_laws.specs.Below.horn.specs.Checker as definition
+use Rattle.matching_laws.specs.Below.horn.specs.Checker.{Def, has_sort}
+use Rattle.matching_laws.specs.Below.horn.specs.Matching.{Bind, bind, lookup}
+use Rattle.matching_laws.specs.Below.horn.specs.Certificate as certificates
+use Rattle.matching_laws.specs.Below.horn.specs.Certificate.{Given, given, is_bound, is_stated}
+use Rattle.matching_laws.specs.Below.horn.proofs.Equality.{case, both, not-true}
+use Rattle.matching_laws.specs.Below.horn.proofs.SoundnessWords.{Apart}
+use Rattle.matching_laws.specs.Below.words.specs.Parts.{part}
+use Rattle.matching_laws.specs.Below.words.specs.Sums.{sum32}
+use Rattle.matching_laws.specs.Below.words.proofs.Sums.{sum_small}
+use Rattle.steps.specs.Below.lex.specs.declared.Reader.{Reader}
+use Rattle.steps.specs.Below.outcomes.specs.Outcomes as outcomes
+use Rattle.steps.specs.Below.outcomes.specs.Outcomes.{Outcome}
+use Rattle.steps.specs.Below.outcomes.specs.Leaving as leaving
+use Rattle.steps.specs.Below.outcomes.specs.Leaving.{Did, ◌leaving◌}
+use Rattle.matching_laws.specs.Below.items.specs.Places as places
+use Rattle.matching_laws.specs.Below.items.specs.Items.{question}
+use Rattle.steps.specs.Below.outcomes.specs.Simulation.{Answers, both_refuse, Simulates, refuse, leave, bind as bind_all, test, tests, sought, giving}
+use Rattle.terms_laws.specs.Below.theory_laws.specs.Representation.{Entries, Nth, SortAt, RuleAt, Holds}
+use Rattle.terms_laws.specs.Below.theory_laws.proofs.Lookups.{part-question}
+use Rattle.terms_laws.specs.Below.theory_laws.proofs.Frames.{Keeps, keeps_then, keeps_set, rule_kept, grown_none}
+use Rattle.steps.specs.Below.theory_reading.specs.Reading.{sort_of_variable}
+use Rattle.steps.specs.Below.theory_reading.specs.Storing.{Areas}
+use Rattle.steps.specs.Below.theory_reading.proofs.Held.{VariableIs, variable_is, variable_found_lem, bindings_fit, holds_now}
+use Rattle.steps.specs.Below.theory_reading.proofs.Terms.{number_sort}
+use Rattle.steps.specs.Below.theory_reading.proofs.Stored.{Longer, longer_then, Stored, Means, few_terms}
+use Rattle.matching_laws.specs.Below.tables.specs.Representation.{Defs}
+use Rattle.matching_laws.specs.Below.asking.specs.Asking.{in_list, Ahead}
+use Rattle.terms_laws.specs.Below.asking_laws.proofs.Places.{RestComes, At, at_less, at_within}
+use Rattle.terms_laws.specs.Below.asking_laws.proofs.Asking.{WordMet, word_met, word_law, GroupMet, closing_law, Looked, look_closed, look_bad, look_ended, look_item, look_law}
+use Rattle.matching_laws.specs.Below.nodes.specs.Nodes.{sort_of}
+use Rattle.matching_laws.specs.Below.nodes.specs.Limits.{node_limit, word_limit, index_places, def_buckets}
 use Rattle.terms_laws.proofs.Following.{bind_before}
 use Rattle.terms_laws.proofs.Reading.{asked_yes, Ready}
 use Rattle.terms_laws.proofs.Judgments.{lifted, AskedRead, ask_term_law, headed_law}
-use Rattle.matching.specs.Matching.{binding_of, binding_at}
+use Rattle.matching_laws.specs.Below.matching.specs.Matching.{binding_of, binding_at}
 use Rattle.matching_laws.proofs.Relations.{Bound, not_bound, bound_to, Binds}
 use Rattle.matching_laws.proofs.Bindings.{bound_longer, binds_longer, binds_more}
-use Rattle.step_items.specs.StepItems as walk
-use Rattle.step_bindings.specs.StepBindings.{Worked, binding}
+use Rattle.steps.specs.Below.step_items.specs.StepItems as walk
+use Rattle.steps.specs.Below.step_bindings.specs.StepBindings.{Worked, binding}
 use Rattle.steps_laws.proofs.Numbers.{list_ended, list_member}
 
 -- What the items so far have given, beside the areas: `heap` is the theory's area as the rulebook left it, `held` the stack with the step's references.

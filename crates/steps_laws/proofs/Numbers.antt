@@ -3,23 +3,23 @@ use Prim.Native.Nat.{ℕ, ◌+◌}
 use mathlib.Core.Path.{◌≡◌, refl}
 use mathlib.Core.List.{List}
 use mathlib.Core.Option.{Option, none, some}
-use Rattle.horn.specs.Refusals as refusals
-use Rattle.horn.specs.Refusals.{Result, number, not_number, text_ends}
-use Rattle.horn.specs.Tokens.{Stream, Token}
-use Rattle.horn.specs.NestedLists.{Item, Items, ended, ◌then◌, absent}
-use Rattle.horn.specs.Checker as definition
-use Rattle.horn.specs.Checker.{numeral}
-use Rattle.words.specs.Parts.{part}
-use Rattle.lex.specs.declared.Reader.{Reader}
-use Rattle.outcomes.specs.Outcomes as outcomes
-use Rattle.outcomes.specs.Outcomes.{Outcome}
-use Rattle.outcomes.specs.Simulation.{Answers, both_refuse, both_ok}
-use Rattle.asking.specs.Asking as asked
-use Rattle.asking.specs.Asking.{in_form, in_list, Met, atom_due, list_due}
-use Rattle.asking_laws.proofs.Places.{RestComes, At}
-use Rattle.asking_laws.proofs.Asking.{ItemMet, atom_met, list_met, item_law, GroupMet, group_met, group_law}
+use Rattle.matching_laws.specs.Below.horn.specs.Refusals as refusals
+use Rattle.matching_laws.specs.Below.horn.specs.Refusals.{Result, number, not_number, text_ends}
+use Rattle.matching_laws.specs.Below.horn.specs.Tokens.{Stream, Token}
+use Rattle.matching_laws.specs.Below.horn.specs.NestedLists.{Item, Items, ended, ◌then◌, absent}
+use Rattle.matching_laws.specs.Below.horn.specs.Checker as definition
+use Rattle.matching_laws.specs.Below.horn.specs.Checker.{numeral}
+use Rattle.matching_laws.specs.Below.words.specs.Parts.{part}
+use Rattle.steps.specs.Below.lex.specs.declared.Reader.{Reader}
+use Rattle.steps.specs.Below.outcomes.specs.Outcomes as outcomes
+use Rattle.steps.specs.Below.outcomes.specs.Outcomes.{Outcome}
+use Rattle.steps.specs.Below.outcomes.specs.Simulation.{Answers, both_refuse, both_ok}
+use Rattle.matching_laws.specs.Below.asking.specs.Asking as asked
+use Rattle.matching_laws.specs.Below.asking.specs.Asking.{in_form, in_list, Met, atom_due, list_due}
+use Rattle.terms_laws.specs.Below.asking_laws.proofs.Places.{RestComes, At}
+use Rattle.terms_laws.specs.Below.asking_laws.proofs.Asking.{ItemMet, atom_met, list_met, item_law, GroupMet, group_met, group_law}
 use Rattle.terms_laws.proofs.Reading.{asked_yes}
-use Rattle.references.specs.References as walk
+use Rattle.steps.specs.Below.references.specs.References as walk
 
 module _ (text : List ℕ) (K : Stream Token → Type 0) (n : ℕ) where
   -- A number that was asked for.

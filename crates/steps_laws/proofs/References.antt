@@ -4,26 +4,26 @@ use mathlib.Core.Path.{◌≡◌, refl}
 use mathlib.Core.List.{List, [], ◌∷◌, ◌++◌, append-nil, append_assoc}
 use native.Mathlib.Omega.{arith}
 use lib.ListN.{length, set, length-set, length-append}
-use Rattle.horn.specs.Refusals as refusals
-use Rattle.horn.specs.Refusals.{number, text_ends}
-use Rattle.horn.specs.Tokens.{Stream, Token}
-use Rattle.horn.specs.NestedLists.{Items, closed, ended, bad_line, ◌then◌, absent}
-use Rattle.horn.specs.Certificate as certificates
-use Rattle.lex.specs.declared.Reader.{Reader}
-use Rattle.outcomes.specs.Outcomes.{Outcome}
-use Rattle.outcomes.specs.Leaving as leaving
-use Rattle.outcomes.specs.Leaving.{Did, ◌leaving◌}
-use Rattle.words.specs.Sums.{sum32}
-use Rattle.words.proofs.Sums.{sum_small}
-use Rattle.numerals.specs.Numbers.{saturated}
-use Rattle.outcomes.specs.Simulation.{Answers, both_refuse, Simulates, refuse, leave, pure, after}
-use Rattle.asking.specs.Asking.{Ahead}
-use Rattle.asking_laws.proofs.Places.{RestComes, At, at_less, at_within}
-use Rattle.asking_laws.proofs.Asking.{Looked, look_closed, look_bad, look_ended, look_item, look_law}
+use Rattle.matching_laws.specs.Below.horn.specs.Refusals as refusals
+use Rattle.matching_laws.specs.Below.horn.specs.Refusals.{number, text_ends}
+use Rattle.matching_laws.specs.Below.horn.specs.Tokens.{Stream, Token}
+use Rattle.matching_laws.specs.Below.horn.specs.NestedLists.{Items, closed, ended, bad_line, ◌then◌, absent}
+use Rattle.matching_laws.specs.Below.horn.specs.Certificate as certificates
+use Rattle.steps.specs.Below.lex.specs.declared.Reader.{Reader}
+use Rattle.steps.specs.Below.outcomes.specs.Outcomes.{Outcome}
+use Rattle.steps.specs.Below.outcomes.specs.Leaving as leaving
+use Rattle.steps.specs.Below.outcomes.specs.Leaving.{Did, ◌leaving◌}
+use Rattle.matching_laws.specs.Below.words.specs.Sums.{sum32}
+use Rattle.matching_laws.specs.Below.words.proofs.Sums.{sum_small}
+use Rattle.matching_laws.specs.Below.numerals.specs.Numbers.{saturated}
+use Rattle.steps.specs.Below.outcomes.specs.Simulation.{Answers, both_refuse, Simulates, refuse, leave, pure, after}
+use Rattle.matching_laws.specs.Below.asking.specs.Asking.{Ahead}
+use Rattle.terms_laws.specs.Below.asking_laws.proofs.Places.{RestComes, At, at_less, at_within}
+use Rattle.terms_laws.specs.Below.asking_laws.proofs.Asking.{Looked, look_closed, look_bad, look_ended, look_item, look_law}
 use Rattle.terms_laws.proofs.Reading.{asked_yes}
 use Rattle.matching_laws.proofs.Relations.{ReferencesAt}
 use Rattle.matching_laws.proofs.References.{saturates, references_more}
-use Rattle.references.specs.References as walk
+use Rattle.steps.specs.Below.references.specs.References as walk
 use Rattle.steps_laws.proofs.Numbers.{NumberMet, number_ended, number_member}
 
 -- References were read behind those that stood on the stack: how many there are, and the reader after the closing.

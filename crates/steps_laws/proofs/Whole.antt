@@ -7,46 +7,46 @@ use mathlib.Core.Option.{none}
 use native.Mathlib.Omega.{arith}
 use lib.Dec.{eqb}
 use lib.ListN.{length}
-use Rattle.horn.specs.Refusals as refusals
-use Rattle.horn.specs.Refusals.{Refusal, Result, number, step_order, reference_count}
-use Rattle.horn.specs.Setting.{document01}
-use Rattle.horn.specs.Names.{Name}
-use Rattle.horn.specs.Tokens.{Stream, Token}
-use Rattle.horn.specs.NestedLists.{Items}
-use Rattle.horn.specs.Rulebook.{Rule, Theory, variables_of, premises_of, rule_named}
-use Rattle.horn.specs.StoredTerms.{Term, Store}
-use Rattle.horn.specs.Checker as definition
-use Rattle.horn.specs.Checker.{Goal}
-use Rattle.horn.specs.Matching.{Step, step, judgment_of}
-use Rattle.horn.specs.Certificate as certificates
-use Rattle.horn.specs.Certificate.{Progress, Given, given}
-use Rattle.horn.proofs.Equality.{eqb_decides}
-use Rattle.horn.proofs.SoundnessWords.{WellFormed}
-use Rattle.words.specs.Parts.{part}
-use Rattle.lex.specs.Answers.{after}
-use Rattle.lex.specs.declared.Ahead.TheVariants.{Nothing}
-use Rattle.lex.specs.declared.Reader.{Reader}
-use Rattle.lex.proofs.Positions.{never_past}
-use Rattle.outcomes.specs.Outcomes as outcomes
-use Rattle.outcomes.specs.Outcomes.{Outcome}
-use Rattle.outcomes.specs.Leaving as leaving
-use Rattle.outcomes.specs.Leaving.{Did, ◌leaving◌, beside}
-use Rattle.outcomes.specs.Simulation.{Answers, both_refuse, both_ok, Simulates, refuse, leave, bind, test, giving, knowing}
-use Rattle.items.specs.Places as places
-use Rattle.theory_laws.specs.Representation.{Entries, RuleAt, Holds}
-use Rattle.theory_laws.proofs.Frames.{Keeps, keeps_all, rule_kept, grown_none}
-use Rattle.theory_reading.specs.Reading.{rule_found, premise_count}
-use Rattle.theory_reading.specs.Storing.{before}
-use Rattle.theory_reading.proofs.Held.{rule_due_lem, premise_count_is, variable_count_is, holds_now}
-use Rattle.theory_reading.proofs.Stored.{Longer, longer_none, longer_then, Stored, Means, means_longer}
-use Rattle.tables.specs.declared.Tally.{Tally}
-use Rattle.tables.specs.Representation.{Tables}
-use Rattle.tables.proofs.Laws.{means_more}
-use Rattle.asking.specs.Asking.{in_form}
-use Rattle.asking_laws.proofs.Places.{RestComes, rest_more, Any, At, at_less}
-use Rattle.asking_laws.proofs.Asking.{WordMet, word_met, word_law, GroupMet, group_met, group_law}
-use Rattle.nodes.specs.Limits.{node_limit, word_limit, index_places, def_buckets}
-use Rattle.concluding.specs.Concluding.{unbound, step_concluded}
+use Rattle.matching_laws.specs.Below.horn.specs.Refusals as refusals
+use Rattle.matching_laws.specs.Below.horn.specs.Refusals.{Refusal, Result, number, step_order, reference_count}
+use Rattle.matching_laws.specs.Below.horn.specs.Setting.{document01}
+use Rattle.matching_laws.specs.Below.horn.specs.Names.{Name}
+use Rattle.matching_laws.specs.Below.horn.specs.Tokens.{Stream, Token}
+use Rattle.matching_laws.specs.Below.horn.specs.NestedLists.{Items}
+use Rattle.matching_laws.specs.Below.horn.specs.Rulebook.{Rule, Theory, variables_of, premises_of, rule_named}
+use Rattle.matching_laws.specs.Below.horn.specs.StoredTerms.{Term, Store}
+use Rattle.matching_laws.specs.Below.horn.specs.Checker as definition
+use Rattle.matching_laws.specs.Below.horn.specs.Checker.{Goal}
+use Rattle.matching_laws.specs.Below.horn.specs.Matching.{Step, step, judgment_of}
+use Rattle.matching_laws.specs.Below.horn.specs.Certificate as certificates
+use Rattle.matching_laws.specs.Below.horn.specs.Certificate.{Progress, Given, given}
+use Rattle.matching_laws.specs.Below.horn.proofs.Equality.{eqb_decides}
+use Rattle.matching_laws.specs.Below.horn.proofs.SoundnessWords.{WellFormed}
+use Rattle.matching_laws.specs.Below.words.specs.Parts.{part}
+use Rattle.steps.specs.Below.lex.specs.Answers.{after}
+use Rattle.steps.specs.Below.lex.specs.declared.Ahead.TheVariants.{Nothing}
+use Rattle.steps.specs.Below.lex.specs.declared.Reader.{Reader}
+use Rattle.steps.specs.Below.lex.proofs.Positions.{never_past}
+use Rattle.steps.specs.Below.outcomes.specs.Outcomes as outcomes
+use Rattle.steps.specs.Below.outcomes.specs.Outcomes.{Outcome}
+use Rattle.steps.specs.Below.outcomes.specs.Leaving as leaving
+use Rattle.steps.specs.Below.outcomes.specs.Leaving.{Did, ◌leaving◌, beside}
+use Rattle.steps.specs.Below.outcomes.specs.Simulation.{Answers, both_refuse, both_ok, Simulates, refuse, leave, bind, test, giving, knowing}
+use Rattle.matching_laws.specs.Below.items.specs.Places as places
+use Rattle.terms_laws.specs.Below.theory_laws.specs.Representation.{Entries, RuleAt, Holds}
+use Rattle.terms_laws.specs.Below.theory_laws.proofs.Frames.{Keeps, keeps_all, rule_kept, grown_none}
+use Rattle.steps.specs.Below.theory_reading.specs.Reading.{rule_found, premise_count}
+use Rattle.steps.specs.Below.theory_reading.specs.Storing.{before}
+use Rattle.steps.specs.Below.theory_reading.proofs.Held.{rule_due_lem, premise_count_is, variable_count_is, holds_now}
+use Rattle.steps.specs.Below.theory_reading.proofs.Stored.{Longer, longer_none, longer_then, Stored, Means, means_longer}
+use Rattle.matching_laws.specs.Below.tables.specs.declared.Tally.{Tally}
+use Rattle.matching_laws.specs.Below.tables.specs.Representation.{Tables}
+use Rattle.matching_laws.specs.Below.tables.proofs.Laws.{means_more}
+use Rattle.matching_laws.specs.Below.asking.specs.Asking.{in_form}
+use Rattle.terms_laws.specs.Below.asking_laws.proofs.Places.{RestComes, rest_more, Any, At, at_less}
+use Rattle.terms_laws.specs.Below.asking_laws.proofs.Asking.{WordMet, word_met, word_law, GroupMet, group_met, group_law}
+use Rattle.matching_laws.specs.Below.nodes.specs.Limits.{node_limit, word_limit, index_places, def_buckets}
+use Rattle.matching_laws.specs.Below.concluding.specs.Concluding.{unbound, step_concluded}
 use Rattle.matching_laws.proofs.Relations.{ReferencesAt, no_references, not_bound}
 use Rattle.matching_laws.proofs.References.{references_kept}
 use Rattle.matching_laws.proofs.Bindings.{binds_none, keeps_unbound}
@@ -54,10 +54,10 @@ use Rattle.matching_laws.proofs.Formed.{RuleReady}
 use Rattle.matching_laws.proofs.Starting.{named_ready}
 use Rattle.matching_laws.proofs.Whole.{step_judged}
 use Rattle.terms_laws.proofs.Following.{tested, first_of_lem}
-use Rattle.references.specs.References as referring
-use Rattle.step_items.specs.StepItems as stating
+use Rattle.steps.specs.Below.references.specs.References as referring
+use Rattle.steps.specs.Below.step_items.specs.StepItems as stating
 use Rattle.steps.specs.Steps as walk
-use Rattle.step_bindings.specs.StepBindings.{Worked}
+use Rattle.steps.specs.Below.step_bindings.specs.StepBindings.{Worked}
 use Rattle.steps_laws.proofs.Numbers.{number_law}
 use Rattle.steps_laws.proofs.References.{ReferencesRead, references_from_lem}
 use Rattle.steps_laws.proofs.Items.{ItemRead, item_read, items_from_lem}

@@ -6,15 +6,15 @@ use Prim.Native.Nat.{ℕ, ◌+◌, ◌*◌, ◌≤◌, ◌<◌}
 use native.Mathlib.Omega.{arith}
 use lib.ListN.{length}
 use Rattle.words.specs.Parts.{part}
-use Rattle.horn.specs.Names.{Name, first, some_of}
-use Rattle.horn.specs.StoredTerms.{Term}
-use Rattle.horn.specs.Checker.{Def, def, is_def, meaning}
+use Rattle.capacity.specs.Below.horn.specs.Names.{Name, first, some_of}
+use Rattle.capacity.specs.Below.horn.specs.StoredTerms.{Term}
+use Rattle.capacity.specs.Below.horn.specs.Checker.{Def, def, is_def, meaning}
 use Rattle.names.specs.Tables.{Entry, entry, top, Table, no_entry, Stands, nothing_yet, other_kind, declared, Agree, both_none, both_some, present}
 use Rattle.names.proofs.Kept.{kept_within, kept_put, add_law}
 use Rattle.names.proofs.Declared.{stands_kept, find_agrees, find_present}
 use Rattle.tables.specs.Words.{goal_buckets, entry_words, value_offset, entered, def_found, def_meaning}
 use Rattle.tables.specs.Representation.{DefAt, Defs}
-use Rattle.facts.proofs.Lists.{one_more}
+use Rattle.names.specs.Below.facts.proofs.Lists.{one_more}
 use Rattle.tables.proofs.Areas.{Same, entered-value, entered_same}
 use Rattle.tables.proofs.Goals.{agreed}
 

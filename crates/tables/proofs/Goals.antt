@@ -10,19 +10,19 @@ use lib.Dec.{leb}
 use lib.ListN.{length, get_or, set, length-set}
 use lib.Seq.{get_or-set_same, get_or-set_other}
 use Rattle.words.specs.Parts.{part}
-use Rattle.horn.specs.Names.{Name, named, first, some_of}
-use Rattle.horn.specs.StoredTerms.{Term}
-use Rattle.horn.specs.Checker.{Goal, goal, is_goal}
-use Rattle.horn.specs.Certificate.{Witness, witness, without}
-use Rattle.horn.specs.Page.{is_result_of}
-use Rattle.horn.proofs.Equality.{case, named_decides, decides_false, differ, first-some}
+use Rattle.capacity.specs.Below.horn.specs.Names.{Name, named, first, some_of}
+use Rattle.capacity.specs.Below.horn.specs.StoredTerms.{Term}
+use Rattle.capacity.specs.Below.horn.specs.Checker.{Goal, goal, is_goal}
+use Rattle.capacity.specs.Below.horn.specs.Certificate.{Witness, witness, without}
+use Rattle.capacity.specs.Below.horn.specs.Page.{is_result_of}
+use Rattle.capacity.specs.Below.horn.proofs.Equality.{case, named_decides, decides_false, differ, first-some}
 use Rattle.names.specs.Tables.{Entry, entry, top, Stands, other_kind, declared, Owns, bucket_word, entry_word, Agree, both_none, both_some, present, nothing_yet}
 use Rattle.names.proofs.Kept.{kept_within, kept_put, kept_set, add_law}
 use Rattle.names.proofs.Declared.{stands_kept, find_agrees, find_present, first_last, first_before}
 use Rattle.tables.specs.Words.{goal_buckets, entry_words, value_offset, closed_from, entered, goal_found, open_at, goal_open}
 use Rattle.tables.specs.Representation.{Sits, here, there, GoalsAt, no_goal, still_open, is_closed, Goals, OpenAt, OpenAgree}
 use Rattle.tables.specs.Representation.{none_open, one_open}
-use Rattle.facts.proofs.Lists.{one_more}
+use Rattle.names.specs.Below.facts.proofs.Lists.{one_more}
 use Rattle.tables.proofs.Areas.{Same, length-entered, entered-value, entered_same}
 
 -- Addresses: bounds, and a list with one thing more.

@@ -8,12 +8,12 @@ use borrow.Author.Tests.{ne_eqb}
 use lib.Dec.{eqb}
 use lib.ListN.{length, set, get_elem?, length-set}
 use Rattle.words.specs.Parts.{part, cleared}
-use Rattle.horn.specs.Names.{Name, first, is_zero, some_of}
-use Rattle.horn.specs.StoredTerms.{Term}
-use Rattle.horn.specs.Checker.{Def, def, is_def, Goal, goal, is_goal}
-use Rattle.horn.specs.Matching.{Step}
-use Rattle.horn.specs.Certificate.{Witness, witness, without}
-use Rattle.horn.proofs.Inversion.{none-some}
+use Rattle.capacity.specs.Below.horn.specs.Names.{Name, first, is_zero, some_of}
+use Rattle.capacity.specs.Below.horn.specs.StoredTerms.{Term}
+use Rattle.capacity.specs.Below.horn.specs.Checker.{Def, def, is_def, Goal, goal, is_goal}
+use Rattle.capacity.specs.Below.horn.specs.Matching.{Step}
+use Rattle.capacity.specs.Below.horn.specs.Certificate.{Witness, witness, without}
+use Rattle.capacity.specs.Below.horn.proofs.Inversion.{none-some}
 use Rattle.names.specs.Tables.{top, nothing_yet, present}
 use Rattle.names.proofs.Kept.{empty_table}
 use Rattle.words.proofs.Writing.{length-cleared, get_d_cleared}
@@ -23,7 +23,7 @@ use Rattle.tables.specs.Words.{goal_counted, goal_closed, goal_done, def_found, 
 use Rattle.tables.specs.declared.Tally.{Tally}
 use Rattle.tables.specs.Representation.{GoalsAt, no_goal, still_open, is_closed, StepAt, Tables, OpenAt, OpenAgree, StepAgree}
 use Rattle.words.proofs.Sums.{sum_small}
-use Rattle.facts.proofs.Lists.{one_more}
+use Rattle.names.specs.Below.facts.proofs.Lists.{one_more}
 use Rattle.tables.proofs.Areas.{length-entered, entered_same, entered_above, entered_below, set_same}
 use Rattle.tables.proofs.Goals.{sits_bounds, goals_kept, goals_add, goal_known, open_agrees, goals_close}
 use Rattle.tables.proofs.Defs.{defs_kept, defs_add, defs_raised, def_known, defs_mean}

@@ -6,16 +6,16 @@ use Prim.Native.Nat.{ℕ, ◌+◌, ◌≤◌, ◌<◌}
 use native.Mathlib.Omega.{arith}
 use lib.ListN.{length, length-set}
 use Rattle.words.specs.Parts.{part, cleared}
-use Rattle.horn.specs.Refusals.{ok}
-use Rattle.horn.specs.Setting.{Setting}
-use Rattle.horn.specs.Names.{Name, some_of}
-use Rattle.horn.specs.Tokens.{tokens}
-use Rattle.horn.specs.NestedLists.{Item, Items, ◌then◌, items}
-use Rattle.horn.specs.Rulebook.{Theory}
-use Rattle.horn.specs.StoredTerms.{Term, Store}
-use Rattle.horn.specs.Checker.{def, is_def, Goal, goal, is_goal, goal_form}
-use Rattle.horn.specs.Matching.{Step}
-use Rattle.horn.specs.Certificate.{Progress, begun, with_def, with_step, with_result, certificate_form}
+use Rattle.capacity.specs.Below.horn.specs.Refusals.{ok}
+use Rattle.capacity.specs.Below.horn.specs.Setting.{Setting}
+use Rattle.capacity.specs.Below.horn.specs.Names.{Name, some_of}
+use Rattle.capacity.specs.Below.horn.specs.Tokens.{tokens}
+use Rattle.capacity.specs.Below.horn.specs.NestedLists.{Item, Items, ◌then◌, items}
+use Rattle.capacity.specs.Below.horn.specs.Rulebook.{Theory}
+use Rattle.capacity.specs.Below.horn.specs.StoredTerms.{Term, Store}
+use Rattle.capacity.specs.Below.horn.specs.Checker.{def, is_def, Goal, goal, is_goal, goal_form}
+use Rattle.capacity.specs.Below.horn.specs.Matching.{Step}
+use Rattle.capacity.specs.Below.horn.specs.Certificate.{Progress, begun, with_def, with_step, with_result, certificate_form}
 use Rattle.capacity.specs.Budgets.{Roomy}
 use Rattle.capacity.proofs.Forms.{goal_keeps, certificate_keeps}
 use Rattle.capacity.proofs.Rooms.{goals_start, certificate_start}
@@ -25,7 +25,7 @@ use Rattle.tables.specs.Words.{goal_buckets, value_offset, closed_from, none_yet
 use Rattle.tables.specs.Words.{step_added, step_counted}
 use Rattle.tables.specs.Representation.{OpenAt}
 use Rattle.tables.specs.Phases.{Gathering, Between}
-use Rattle.facts.proofs.Lists.{one_more}
+use Rattle.names.specs.Below.facts.proofs.Lists.{one_more}
 use Rattle.tables.proofs.Areas.{length-entered}
 use Rattle.tables.proofs.Steps.{step_added_length}
 use Rattle.words.proofs.Writing.{length-cleared}

@@ -4,11 +4,11 @@ use mathlib.Core.List.{List, []}
 use Prim.Native.Nat.{ℕ, ◌+◌, ◌*◌, ◌≤◌}
 use native.Mathlib.Omega.{arith}
 use lib.ListN.{length}
-use Rattle.horn.specs.NestedLists.{Items}
-use Rattle.horn.specs.StoredTerms.{Term}
-use Rattle.horn.specs.Checker.{Def, Goal}
-use Rattle.horn.specs.Matching.{Step}
-use Rattle.horn.specs.Certificate.{Witness, Progress}
+use Rattle.capacity.specs.Below.horn.specs.NestedLists.{Items}
+use Rattle.capacity.specs.Below.horn.specs.StoredTerms.{Term}
+use Rattle.capacity.specs.Below.horn.specs.Checker.{Def, Goal}
+use Rattle.capacity.specs.Below.horn.specs.Matching.{Step}
+use Rattle.capacity.specs.Below.horn.specs.Certificate.{Witness, Progress}
 use Rattle.capacity.specs.Budgets.{GoalBudget, Budget, Roomy}
 use Rattle.capacity.proofs.Rooms.{goals_fit, tables_fit}
 use Rattle.tables.specs.declared.Tally.{Tally}

@@ -9,15 +9,15 @@ use borrow.Author.Tests.{le-leb, leb-true, leb-false}
 use lib.Dec.{leb}
 use lib.ListN.{length, get_or, set, get_elem?, length-set}
 use lib.Seq.{get_or-set_same, get_or-set_other}
-use Rattle.horn.specs.Matching.{Step}
-use Rattle.horn.proofs.Equality.{case, at_below, at_there}
-use Rattle.horn.proofs.Inversion.{some_equal}
+use Rattle.capacity.specs.Below.horn.specs.Matching.{Step}
+use Rattle.capacity.specs.Below.horn.proofs.Equality.{case, at_below, at_there}
+use Rattle.capacity.specs.Below.horn.proofs.Inversion.{some_equal}
 use Rattle.names.proofs.Holds.{by_number}
 use Rattle.words.specs.Sums.{low32}
 use Rattle.tables.specs.Words.{step_words, step_at, step_added, step_word}
 use Rattle.tables.specs.declared.Tally.{Tally}
 use Rattle.tables.specs.Representation.{StepAt, Steps, StepAgree, no_step, one_step}
-use Rattle.facts.proofs.Lists.{one_more, last_is, before_last, beyond}
+use Rattle.names.specs.Below.facts.proofs.Lists.{one_more, last_is, before_last, beyond}
 use Rattle.tables.proofs.Areas.{Same}
 
 -- Four words in a row.

@@ -1,3 +1,4 @@
+pub mod Below
 pub mod Words
 pub mod Representation
 pub mod Phases

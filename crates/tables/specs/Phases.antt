@@ -1,10 +1,10 @@
 -- What holds of the area between two forms: it holds what the definition has so far, and what is still to be read finds room.
 use Rattle.std.specs.Prelude.{ℕ, ◌+◌, ◌*◌, ◌≤◌, List, [], length}
-use Rattle.horn.specs.NestedLists.{Items}
-use Rattle.horn.specs.StoredTerms.{Term}
-use Rattle.horn.specs.Checker.{Goal}
-use Rattle.horn.specs.Matching.{Step}
-use Rattle.horn.specs.Certificate.{Progress}
+use Rattle.capacity.specs.Below.horn.specs.NestedLists.{Items}
+use Rattle.capacity.specs.Below.horn.specs.StoredTerms.{Term}
+use Rattle.capacity.specs.Below.horn.specs.Checker.{Goal}
+use Rattle.capacity.specs.Below.horn.specs.Matching.{Step}
+use Rattle.capacity.specs.Below.horn.specs.Certificate.{Progress}
 use Rattle.capacity.specs.Budgets.{GoalBudget, Budget, Roomy}
 use Rattle.tables.specs.declared.Tally.{Tally}
 use Rattle.tables.specs.Representation.{Tables}

@@ -3,12 +3,12 @@
 use Rattle.std.specs.Prelude.{ℕ, ◌+◌, ◌*◌, ◌≤◌, ◌<◌, ◌≡◌, false, List, [], ◌∷◌, length, get_or}
 use Rattle.std.proofs.Math.Option.{Option, none, some}
 use Rattle.std.proofs.Math.ListN.{get_elem?}
-use Rattle.horn.specs.Names.{Name, first, some_of}
-use Rattle.horn.specs.StoredTerms.{Term}
-use Rattle.horn.specs.Checker.{Def, meaning, is_def, Goal, goal, is_goal}
-use Rattle.horn.specs.Matching.{Step}
-use Rattle.horn.specs.Certificate.{Witness, witness}
-use Rattle.horn.specs.Page.{is_result_of}
+use Rattle.capacity.specs.Below.horn.specs.Names.{Name, first, some_of}
+use Rattle.capacity.specs.Below.horn.specs.StoredTerms.{Term}
+use Rattle.capacity.specs.Below.horn.specs.Checker.{Def, meaning, is_def, Goal, goal, is_goal}
+use Rattle.capacity.specs.Below.horn.specs.Matching.{Step}
+use Rattle.capacity.specs.Below.horn.specs.Certificate.{Witness, witness}
+use Rattle.capacity.specs.Below.horn.specs.Page.{is_result_of}
 use Rattle.names.specs.Tables.{Entry, top, Table, Stands}
 use Rattle.tables.specs.Words.{goal_buckets, entry_words, value_offset, closed_from, step_words, step_at}
 use Rattle.tables.specs.declared.Tally.{Tally}

@@ -10,8 +10,8 @@ use Rattle.lex.specs.declared.Reader.{Reader}
 use Rattle.outcomes.specs.Outcomes.{Outcome, ok, refused, need}
 use Rattle.outcomes.specs.Leaving.{Did, ◌leaving◌, ◌>>=◌}
 use Rattle.words.specs.Sums.{sum32}
-use Rattle.theory_reading.specs.Storing.{Areas}
-use Rattle.asking.specs.Asking.{Met, atom, list, Ahead, closing, member, item_due, closing_next}
+use Rattle.nodes.specs.Below.theory_reading.specs.Storing.{Areas}
+use Rattle.nodes.specs.Below.asking.specs.Asking.{Met, atom, list, Ahead, closing, member, item_due, closing_next}
 use Rattle.nodes.specs.Nodes.{given, make, atom_term, head_due}
 use Rattle.nodes.specs.declared.Number.{Number}
 use Rattle.nodes.specs.declared.Number.TheVariants.{Is, Refused}

@@ -3,9 +3,9 @@ use Rattle.std.specs.Prelude.{ℕ, List}
 use Rattle.lex.specs.declared.Reader.{Reader}
 use Rattle.outcomes.specs.Outcomes.{Outcome, ok, refused}
 use Rattle.outcomes.specs.Leaving.{Did, ◌leaving◌, ◌>>=◌}
-use Rattle.theory_reading.specs.Storing.{Areas}
-use Rattle.asking.specs.Asking as asking
-use Rattle.asking.specs.Asking.{closing_next}
+use Rattle.nodes.specs.Below.theory_reading.specs.Storing.{Areas}
+use Rattle.nodes.specs.Below.asking.specs.Asking as asking
+use Rattle.nodes.specs.Below.asking.specs.Asking.{closing_next}
 use Rattle.terms.specs.Terms.{term}
 use Rattle.terms.specs.declared.Argument.{Argument}
 use Rattle.terms.specs.declared.Argument.TheVariants as arguing

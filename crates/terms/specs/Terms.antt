@@ -4,8 +4,8 @@ use Rattle.words.specs.Sums.{sum32}
 use Rattle.lex.specs.declared.Reader.{Reader}
 use Rattle.outcomes.specs.Outcomes.{ok, refused, need}
 use Rattle.outcomes.specs.Leaving.{Did, ◌leaving◌, ◌>>=◌}
-use Rattle.theory_reading.specs.Storing.{Areas}
-use Rattle.asking.specs.Asking.{Met, atom, list, Ahead, closing, member, item_due, closing_next}
+use Rattle.nodes.specs.Below.theory_reading.specs.Storing.{Areas}
+use Rattle.nodes.specs.Below.asking.specs.Asking.{Met, atom, list, Ahead, closing, member, item_due, closing_next}
 use Rattle.nodes.specs.Nodes.{make, atom_term, head_due}
 
 -- What reads a term on top of the stack.

@@ -4,11 +4,11 @@ use mathlib.Core.Path.{◌≡◌}
 use native.Mathlib.Omega.{arith}
 use borrow.Author.Tests.{le-leb, lt-leb}
 use lib.Dec.{leb}
-use Rattle.horn.specs.Refusals as refusals
-use Rattle.horn.specs.Refusals.{Result, nesting}
-use Rattle.horn.specs.NestedLists.{asked_at}
-use Rattle.horn.specs.StoredTerms.{Store}
-use Rattle.horn.proofs.Equality.{case}
+use Rattle.asking_laws.specs.Below.horn.specs.Refusals as refusals
+use Rattle.asking_laws.specs.Below.horn.specs.Refusals.{Result, nesting}
+use Rattle.asking_laws.specs.Below.horn.specs.NestedLists.{asked_at}
+use Rattle.asking_laws.specs.Below.horn.specs.StoredTerms.{Store}
+use Rattle.asking_laws.specs.Below.horn.proofs.Equality.{case}
 
 -- What is asked for, then read.
 pub asked_then : {A B : Type 0} (depth : ℕ) (ts : Store) (m : Result A) (f : A → Result B) (g : Unit {0} × Store → Result B)

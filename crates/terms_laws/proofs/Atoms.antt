@@ -6,35 +6,35 @@ use mathlib.Core.List.{List, []}
 use mathlib.Core.Option.{Option}
 use native.Mathlib.Omega.{arith}
 use lib.ListN.{length}
-use Rattle.horn.specs.Refusals as refusals
-use Rattle.horn.specs.Refusals.{Result, number, unknown}
-use Rattle.horn.specs.Setting.{document01}
-use Rattle.horn.specs.Names.{Name, questioned}
-use Rattle.horn.specs.Rulebook.{Symbol, Theory, constructor, predicate}
-use Rattle.horn.specs.StoredTerms.{Term, []ₜ, Store}
-use Rattle.horn.specs.Checker as definition
-use Rattle.horn.specs.Checker.{Def, meaning}
-use Rattle.horn.proofs.Equality.{case}
-use Rattle.words.specs.Parts.{part}
-use Rattle.names.specs.Tables.{Agree, both_none, both_some}
-use Rattle.lex.specs.declared.Reader.{Reader}
-use Rattle.arena.proofs.Trees.{lookups}
-use Rattle.arena.proofs.Trees as trees
-use Rattle.outcomes.specs.Outcomes as outcomes
-use Rattle.outcomes.specs.Outcomes.{Outcome}
-use Rattle.outcomes.specs.Leaving as leaving
-use Rattle.outcomes.specs.Leaving.{◌leaving◌}
-use Rattle.items.specs.Items.{question}
-use Rattle.outcomes.specs.Simulation.{Answers, both_refuse, both_ok, Simulates, refuse, leave}
-use Rattle.theory_laws.specs.Representation.{Entries, SymbolAt, Holds}
-use Rattle.theory_laws.proofs.Lookups.{part-question}
-use Rattle.theory_laws.proofs.Frames.{keeps_all}
-use Rattle.theory_reading.proofs.Held.{constructor_due_lem, predicate_due_lem}
-use Rattle.theory_reading.proofs.Stored.{Longer, longer_none, Stored, Means, means_longer}
-use Rattle.tables.specs.Representation.{Defs}
-use Rattle.tables.proofs.Defs.{meaning_agrees}
-use Rattle.nodes.specs.Nodes.{make, constructor_due, predicate_due, atom_term}
-use Rattle.nodes.specs.Limits.{index_places, def_buckets}
+use Rattle.asking_laws.specs.Below.horn.specs.Refusals as refusals
+use Rattle.asking_laws.specs.Below.horn.specs.Refusals.{Result, number, unknown}
+use Rattle.asking_laws.specs.Below.horn.specs.Setting.{document01}
+use Rattle.asking_laws.specs.Below.horn.specs.Names.{Name, questioned}
+use Rattle.asking_laws.specs.Below.horn.specs.Rulebook.{Symbol, Theory, constructor, predicate}
+use Rattle.asking_laws.specs.Below.horn.specs.StoredTerms.{Term, []ₜ, Store}
+use Rattle.asking_laws.specs.Below.horn.specs.Checker as definition
+use Rattle.asking_laws.specs.Below.horn.specs.Checker.{Def, meaning}
+use Rattle.asking_laws.specs.Below.horn.proofs.Equality.{case}
+use Rattle.judgments.specs.Below.words.specs.Parts.{part}
+use Rattle.judgments.specs.Below.names.specs.Tables.{Agree, both_none, both_some}
+use Rattle.judgments.specs.Below.lex.specs.declared.Reader.{Reader}
+use Rattle.judgments.specs.Below.arena.proofs.Trees.{lookups}
+use Rattle.judgments.specs.Below.arena.proofs.Trees as trees
+use Rattle.judgments.specs.Below.outcomes.specs.Outcomes as outcomes
+use Rattle.judgments.specs.Below.outcomes.specs.Outcomes.{Outcome}
+use Rattle.judgments.specs.Below.outcomes.specs.Leaving as leaving
+use Rattle.judgments.specs.Below.outcomes.specs.Leaving.{◌leaving◌}
+use Rattle.judgments.specs.Below.items.specs.Items.{question}
+use Rattle.judgments.specs.Below.outcomes.specs.Simulation.{Answers, both_refuse, both_ok, Simulates, refuse, leave}
+use Rattle.asking_laws.specs.Below.theory_laws.specs.Representation.{Entries, SymbolAt, Holds}
+use Rattle.asking_laws.specs.Below.theory_laws.proofs.Lookups.{part-question}
+use Rattle.asking_laws.specs.Below.theory_laws.proofs.Frames.{keeps_all}
+use Rattle.judgments.specs.Below.theory_reading.proofs.Held.{constructor_due_lem, predicate_due_lem}
+use Rattle.judgments.specs.Below.theory_reading.proofs.Stored.{Longer, longer_none, Stored, Means, means_longer}
+use Rattle.judgments.specs.Below.tables.specs.Representation.{Defs}
+use Rattle.judgments.specs.Below.tables.proofs.Defs.{meaning_agrees}
+use Rattle.judgments.specs.Below.nodes.specs.Nodes.{make, constructor_due, predicate_due, atom_term}
+use Rattle.judgments.specs.Below.nodes.specs.Limits.{index_places, def_buckets}
 use Rattle.terms_laws.proofs.Rows.{no_words}
 use Rattle.terms_laws.proofs.Making.{TermRead, make_law}
 

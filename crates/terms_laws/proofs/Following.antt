@@ -2,15 +2,15 @@
 use Prim.Native.Nat.{ℕ}
 use mathlib.Core.Path.{◌≡◌, refl, sym}
 use mathlib.Core.Bool.{Bool, true, false, true≢false}
-use Rattle.horn.specs.Refusals as refusals
-use Rattle.horn.specs.Refusals.{Refusal, Result, number}
-use Rattle.horn.specs.StoredTerms.{Store}
-use Rattle.outcomes.specs.Outcomes as outcomes
-use Rattle.outcomes.specs.Outcomes.{Outcome}
-use Rattle.outcomes.specs.Leaving as leaving
-use Rattle.outcomes.specs.Leaving.{Did, ◌leaving◌}
-use Rattle.outcomes.specs.Simulation.{Answers, both_refuse, both_ok, Simulates, refuse, leave}
-use Rattle.theory_reading.specs.Storing.{before}
+use Rattle.asking_laws.specs.Below.horn.specs.Refusals as refusals
+use Rattle.asking_laws.specs.Below.horn.specs.Refusals.{Refusal, Result, number}
+use Rattle.asking_laws.specs.Below.horn.specs.StoredTerms.{Store}
+use Rattle.judgments.specs.Below.outcomes.specs.Outcomes as outcomes
+use Rattle.judgments.specs.Below.outcomes.specs.Outcomes.{Outcome}
+use Rattle.judgments.specs.Below.outcomes.specs.Leaving as leaving
+use Rattle.judgments.specs.Below.outcomes.specs.Leaving.{Did, ◌leaving◌}
+use Rattle.judgments.specs.Below.outcomes.specs.Simulation.{Answers, both_refuse, both_ok, Simulates, refuse, leave}
+use Rattle.judgments.specs.Below.theory_reading.specs.Storing.{before}
 
 -- A test.
 pub tested : (b : Bool) {b' : Bool} (n : ℕ) (r : Refusal) → b ≡ b' → n ≡ number r

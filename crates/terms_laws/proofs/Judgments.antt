@@ -5,37 +5,37 @@ use mathlib.Core.List.{List}
 use native.Mathlib.Omega.{arith}
 use lib.Dec.{leb}
 use lib.ListN.{length}
-use Rattle.horn.proofs.Equality.{case}
-use Rattle.horn.specs.Refusals as refusals
-use Rattle.horn.specs.Refusals.{Refusal, Result, number, not_utf8, text_ends, stray_closing, nesting}
-use Rattle.horn.specs.Setting.{document01}
-use Rattle.horn.specs.Names.{Name}
-use Rattle.horn.specs.Tokens.{Stream, Token}
-use Rattle.horn.specs.NestedLists.{Item, Items, closed, ended, bad_line, ◌then◌, asked_at, absent}
-use Rattle.horn.specs.Rulebook.{Symbol, Theory}
-use Rattle.horn.specs.StoredTerms.{Term, Terms, Store}
-use Rattle.horn.specs.Checker as definition
-use Rattle.horn.specs.Checker.{Def}
-use Rattle.words.specs.Parts.{part}
-use Rattle.lex.specs.declared.Reader.{Reader}
-use Rattle.outcomes.specs.Outcomes.{Outcome}
-use Rattle.outcomes.specs.Leaving as leaving
-use Rattle.outcomes.specs.Leaving.{Did, ◌leaving◌}
-use Rattle.words.specs.Sums.{sum32}
-use Rattle.outcomes.specs.Simulation.{Answers, both_refuse, both_ok, Simulates, refuse, bind, after}
-use Rattle.theory_laws.specs.Representation.{Entries, Holds}
-use Rattle.words.proofs.Sums.{sum_small}
-use Rattle.theory_reading.proofs.Stored.{Means}
-use Rattle.tables.specs.Representation.{Defs}
-use Rattle.asking.specs.Asking.{Met, atom_due}
+use Rattle.asking_laws.specs.Below.horn.proofs.Equality.{case}
+use Rattle.asking_laws.specs.Below.horn.specs.Refusals as refusals
+use Rattle.asking_laws.specs.Below.horn.specs.Refusals.{Refusal, Result, number, not_utf8, text_ends, stray_closing, nesting}
+use Rattle.asking_laws.specs.Below.horn.specs.Setting.{document01}
+use Rattle.asking_laws.specs.Below.horn.specs.Names.{Name}
+use Rattle.asking_laws.specs.Below.horn.specs.Tokens.{Stream, Token}
+use Rattle.asking_laws.specs.Below.horn.specs.NestedLists.{Item, Items, closed, ended, bad_line, ◌then◌, asked_at, absent}
+use Rattle.asking_laws.specs.Below.horn.specs.Rulebook.{Symbol, Theory}
+use Rattle.asking_laws.specs.Below.horn.specs.StoredTerms.{Term, Terms, Store}
+use Rattle.asking_laws.specs.Below.horn.specs.Checker as definition
+use Rattle.asking_laws.specs.Below.horn.specs.Checker.{Def}
+use Rattle.judgments.specs.Below.words.specs.Parts.{part}
+use Rattle.judgments.specs.Below.lex.specs.declared.Reader.{Reader}
+use Rattle.judgments.specs.Below.outcomes.specs.Outcomes.{Outcome}
+use Rattle.judgments.specs.Below.outcomes.specs.Leaving as leaving
+use Rattle.judgments.specs.Below.outcomes.specs.Leaving.{Did, ◌leaving◌}
+use Rattle.judgments.specs.Below.words.specs.Sums.{sum32}
+use Rattle.judgments.specs.Below.outcomes.specs.Simulation.{Answers, both_refuse, both_ok, Simulates, refuse, bind, after}
+use Rattle.asking_laws.specs.Below.theory_laws.specs.Representation.{Entries, Holds}
+use Rattle.judgments.specs.Below.words.proofs.Sums.{sum_small}
+use Rattle.judgments.specs.Below.theory_reading.proofs.Stored.{Means}
+use Rattle.judgments.specs.Below.tables.specs.Representation.{Defs}
+use Rattle.asking_laws.specs.Below.asking.specs.Asking.{Met, atom_due}
 use Rattle.asking_laws.proofs.Places.{RestComes, At, at_within}
 use Rattle.asking_laws.proofs.Asking.{ItemMet, item_law, WordMet, word_met, word_law, GroupMet, group_met, group_law}
-use Rattle.terms.specs.Terms as walk
+use Rattle.judgments.specs.Below.terms.specs.Terms as walk
 use Rattle.judgments.specs.Judgments as judgments
-use Rattle.theory_reading.specs.Storing.{Areas}
-use Rattle.nodes.specs.Nodes.{make}
-use Rattle.terms.specs.Terms.{term_of}
-use Rattle.nodes.specs.Limits.{def_buckets}
+use Rattle.judgments.specs.Below.theory_reading.specs.Storing.{Areas}
+use Rattle.judgments.specs.Below.nodes.specs.Nodes.{make}
+use Rattle.judgments.specs.Below.terms.specs.Terms.{term_of}
+use Rattle.judgments.specs.Below.nodes.specs.Limits.{def_buckets}
 use Rattle.terms_laws.proofs.Making.{TermRead}
 use Rattle.terms_laws.proofs.Atoms.{SymbolMet, symbol_met, predicate_law}
 use Rattle.terms_laws.proofs.Reading.{asked_no, asked_yes, Ready, made_of, term_law, arguments_law}

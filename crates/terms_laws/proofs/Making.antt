@@ -4,33 +4,33 @@ use mathlib.Core.Path.{◌≡◌, refl, ap, sym, subst}
 use mathlib.Core.List.{List, ◌∷◌}
 use native.Mathlib.Omega.{arith}
 use lib.ListN.{length, get_or, set, length-set}
-use Rattle.horn.specs.Refusals as refusals
-use Rattle.horn.specs.Refusals.{Result, number}
-use Rattle.horn.specs.Setting.{document01}
-use Rattle.horn.specs.Rulebook.{Symbol, inputs, Theory}
-use Rattle.horn.specs.StoredTerms.{Term, node, Store}
-use Rattle.horn.specs.Checker as definition
-use Rattle.horn.proofs.Equality.{case}
-use Rattle.words.specs.Parts.{part}
-use Rattle.words.specs.Sums.{sum32}
-use Rattle.words.proofs.Sums.{sum_small}
-use Rattle.lex.specs.declared.Reader.{Reader}
-use Rattle.arena.proofs.Nodes.{Node}
-use Rattle.arena.proofs.Trees.{Below, Formed, formed, lookups, build}
-use Rattle.arena.proofs.Settings.{limits_01}
-use Rattle.outcomes.specs.Outcomes.{Outcome}
-use Rattle.outcomes.specs.Leaving.{◌leaving◌}
-use Rattle.outcomes.specs.Simulation.{Simulates, refuse, leave}
-use Rattle.theory_laws.specs.Representation.{Entries, SymbolAt, Holds}
-use Rattle.theory_laws.proofs.Frames.{Keeps, keeps_set}
-use Rattle.theory_reading.specs.Reading.{accepted}
-use Rattle.theory_reading.specs.Addresses.{symbol_at, Used}
-use Rattle.theory_reading.proofs.Bridge.{symbol_is, used_at}
-use Rattle.theory_reading.proofs.Terms.{accepts_numbers}
-use Rattle.theory_reading.proofs.Stored.{Sized, accepted_sized, Longer, Stored, Means, Numbers, stored_law}
-use Rattle.theory_reading.specs.Storing.{Areas}
-use Rattle.nodes.specs.Nodes.{head_on, interned, make}
-use Rattle.nodes.specs.Limits.{node_limit, word_limit, index_places}
+use Rattle.asking_laws.specs.Below.horn.specs.Refusals as refusals
+use Rattle.asking_laws.specs.Below.horn.specs.Refusals.{Result, number}
+use Rattle.asking_laws.specs.Below.horn.specs.Setting.{document01}
+use Rattle.asking_laws.specs.Below.horn.specs.Rulebook.{Symbol, inputs, Theory}
+use Rattle.asking_laws.specs.Below.horn.specs.StoredTerms.{Term, node, Store}
+use Rattle.asking_laws.specs.Below.horn.specs.Checker as definition
+use Rattle.asking_laws.specs.Below.horn.proofs.Equality.{case}
+use Rattle.judgments.specs.Below.words.specs.Parts.{part}
+use Rattle.judgments.specs.Below.words.specs.Sums.{sum32}
+use Rattle.judgments.specs.Below.words.proofs.Sums.{sum_small}
+use Rattle.judgments.specs.Below.lex.specs.declared.Reader.{Reader}
+use Rattle.judgments.specs.Below.arena.proofs.Nodes.{Node}
+use Rattle.judgments.specs.Below.arena.proofs.Trees.{Below, Formed, formed, lookups, build}
+use Rattle.judgments.specs.Below.arena.proofs.Settings.{limits_01}
+use Rattle.judgments.specs.Below.outcomes.specs.Outcomes.{Outcome}
+use Rattle.judgments.specs.Below.outcomes.specs.Leaving.{◌leaving◌}
+use Rattle.judgments.specs.Below.outcomes.specs.Simulation.{Simulates, refuse, leave}
+use Rattle.asking_laws.specs.Below.theory_laws.specs.Representation.{Entries, SymbolAt, Holds}
+use Rattle.asking_laws.specs.Below.theory_laws.proofs.Frames.{Keeps, keeps_set}
+use Rattle.judgments.specs.Below.theory_reading.specs.Reading.{accepted}
+use Rattle.judgments.specs.Below.theory_reading.specs.Addresses.{symbol_at, Used}
+use Rattle.judgments.specs.Below.theory_reading.proofs.Bridge.{symbol_is, used_at}
+use Rattle.judgments.specs.Below.theory_reading.proofs.Terms.{accepts_numbers}
+use Rattle.judgments.specs.Below.theory_reading.proofs.Stored.{Sized, accepted_sized, Longer, Stored, Means, Numbers, stored_law}
+use Rattle.judgments.specs.Below.theory_reading.specs.Storing.{Areas}
+use Rattle.judgments.specs.Below.nodes.specs.Nodes.{head_on, interned, make}
+use Rattle.judgments.specs.Below.nodes.specs.Limits.{node_limit, word_limit, index_places}
 use Rattle.terms_laws.proofs.Rows.{Row, row_part, row_first, row_at}
 
 -- A term was read on top of the stack: its number stands for the definition's tree in the store afterwards, and what the stack held below

@@ -5,7 +5,7 @@ use mathlib.Core.List.{List, [], ◌∷◌}
 use native.Mathlib.Omega.{arith}
 use lib.ListN.{length, get_or, set}
 use lib.Seq.{drop-cons, get_or-set_same, get_or-set_other}
-use Rattle.words.specs.Parts.{part}
+use Rattle.judgments.specs.Below.words.specs.Parts.{part}
 
 pub data Row (stack : List ℕ) : ℕ → List ℕ → Type 0 where
   no_words : {o : ℕ} → Row stack o []

@@ -3,26 +3,26 @@ use Prim.Native.Nat.{ℕ, ◌+◌, ◌*◌, ◌≤◌}
 use mathlib.Core.Path.{◌≡◌}
 use mathlib.Core.List.{List, []}
 use lib.ListN.{length}
-use Rattle.horn.specs.Setting.{document01}
-use Rattle.horn.specs.Tokens.{Stream, Token}
-use Rattle.horn.specs.NestedLists.{Items}
-use Rattle.horn.specs.Rulebook.{Theory}
-use Rattle.horn.specs.StoredTerms.{Store}
-use Rattle.horn.specs.Checker as definition
-use Rattle.horn.specs.Checker.{Def, Goal}
-use Rattle.horn.specs.Matching.{Step}
-use Rattle.horn.specs.Certificate.{Witness}
-use Rattle.lex.specs.declared.Reader.{Reader}
-use Rattle.outcomes.specs.Simulation.{Simulates}
-use Rattle.theory_laws.specs.Representation.{Entries, Holds}
-use Rattle.theory_reading.proofs.Stored.{Stored, Means, longer_none}
-use Rattle.tables.specs.declared.Tally.{Tally}
-use Rattle.tables.specs.Representation.{Tables}
-use Rattle.tables.proofs.Defs.{defs_elsewhere}
+use Rattle.asking_laws.specs.Below.horn.specs.Setting.{document01}
+use Rattle.asking_laws.specs.Below.horn.specs.Tokens.{Stream, Token}
+use Rattle.asking_laws.specs.Below.horn.specs.NestedLists.{Items}
+use Rattle.asking_laws.specs.Below.horn.specs.Rulebook.{Theory}
+use Rattle.asking_laws.specs.Below.horn.specs.StoredTerms.{Store}
+use Rattle.asking_laws.specs.Below.horn.specs.Checker as definition
+use Rattle.asking_laws.specs.Below.horn.specs.Checker.{Def, Goal}
+use Rattle.asking_laws.specs.Below.horn.specs.Matching.{Step}
+use Rattle.asking_laws.specs.Below.horn.specs.Certificate.{Witness}
+use Rattle.judgments.specs.Below.lex.specs.declared.Reader.{Reader}
+use Rattle.judgments.specs.Below.outcomes.specs.Simulation.{Simulates}
+use Rattle.asking_laws.specs.Below.theory_laws.specs.Representation.{Entries, Holds}
+use Rattle.judgments.specs.Below.theory_reading.proofs.Stored.{Stored, Means, longer_none}
+use Rattle.judgments.specs.Below.tables.specs.declared.Tally.{Tally}
+use Rattle.judgments.specs.Below.tables.specs.Representation.{Tables}
+use Rattle.judgments.specs.Below.tables.proofs.Defs.{defs_elsewhere}
 use Rattle.asking_laws.proofs.Places.{RestComes, At}
-use Rattle.terms.specs.Terms as walk
+use Rattle.judgments.specs.Below.terms.specs.Terms as walk
 use Rattle.judgments.specs.Judgments as judgments
-use Rattle.nodes.specs.Limits.{index_places, def_buckets}
+use Rattle.judgments.specs.Below.nodes.specs.Limits.{index_places, def_buckets}
 use Rattle.terms_laws.proofs.Reading.{Ready}
 use Rattle.terms_laws.proofs.Judgments.{AskedRead, ask_term_law, judgment_law}
 

@@ -9,7 +9,7 @@ use Rattle.sexp.specs.declared.Walk as sexp
 use Rattle.sexp.specs.declared.Walk.TheVariants.{Whole}
 use Rattle.outcomes.specs.Outcomes.{ok, refused}
 use Rattle.outcomes.specs.Leaving.{Did, ◌leaving◌}
-use Rattle.variables.specs.Variables.{Areas}
+use Rattle.rules.specs.Below.variables.specs.Variables.{Areas}
 use Rattle.items.specs.Places as places
 use Rattle.items.specs.declared.Walk.{Walk}
 use Rattle.theory.specs.Declarations.{another, nothing, declaration, counted, more_due, declarations_from, declarations}

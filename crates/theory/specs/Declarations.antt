@@ -10,7 +10,7 @@ use Rattle.outcomes.specs.Outcomes as outcomes
 use Rattle.outcomes.specs.Leaving.{Did, ◌leaving◌, ◌>>=◌, beside}
 use Rattle.words.specs.Sums.{sum32}
 use Rattle.items.specs.Items.{read_on, list_due, head_due}
-use Rattle.variables.specs.Variables.{Areas}
+use Rattle.rules.specs.Below.variables.specs.Variables.{Areas}
 use Rattle.items.specs.declared.Walk.{Walk}
 use Rattle.symbols.specs.Symbols.{sort_declared, constructor_declared, predicate_declared}
 use Rattle.rules.specs.Rules.{rule_declared}

@@ -1,2 +1,3 @@
+pub mod Below
 pub mod Declarations
 pub mod Walks

@@ -6,15 +6,15 @@ use mathlib.Core.List.{List, [], ◌∷◌, ◌++◌}
 use Prim.Native.Nat.{ℕ, ◌+◌, ◌≤◌, ◌<◌}
 use native.Mathlib.Omega.{arith}
 use lib.ListN.{length, get_or}
-use Rattle.horn.specs.Names.{Name, named, some_of}
-use Rattle.words.specs.Parts.{part}
-use Rattle.names.specs.Chains.{added}
-use Rattle.names.specs.Tables as tables
-use Rattle.names.specs.Tables.{Entry, entry, declared, other_kind}
-use Rattle.names.proofs.Holds.{base_below}
-use Rattle.names.proofs.Kept.{kept_within, kept_added_above, add_law, added_other, length-added}
-use Rattle.names.proofs.Declared.{stands_kept}
-use Rattle.items.specs.Places as places
+use Rattle.capacity.specs.Below.horn.specs.Names.{Name, named, some_of}
+use Rattle.theory.specs.Below.words.specs.Parts.{part}
+use Rattle.theory.specs.Below.names.specs.Chains.{added}
+use Rattle.theory.specs.Below.names.specs.Tables as tables
+use Rattle.theory.specs.Below.names.specs.Tables.{Entry, entry, declared, other_kind}
+use Rattle.theory.specs.Below.names.proofs.Holds.{base_below}
+use Rattle.theory.specs.Below.names.proofs.Kept.{kept_within, kept_added_above, add_law, added_other, length-added}
+use Rattle.theory.specs.Below.names.proofs.Declared.{stands_kept}
+use Rattle.theory.specs.Below.items.specs.Places as places
 use Rattle.theory_laws.specs.Representation.{Declares}
 use Rattle.theory_laws.proofs.Frames.{Keeps, Kept, declares_kept}
 

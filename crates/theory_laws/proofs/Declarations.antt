@@ -4,26 +4,26 @@ use mathlib.Core.List.{List, []}
 use Prim.Native.Nat.{ℕ, zero, suc, ◌+◌, ◌*◌, ◌≤◌, ◌<◌}
 use native.Mathlib.Omega.{arith}
 use lib.ListN.{length}
-use Rattle.horn.specs.Refusals.{number, ok, ◌>>=◌}
-use Rattle.horn.specs.Names.{Name}
-use Rattle.horn.specs.Tokens.{Stream, end, ◌▹◌, Token, opening, closing, atom}
-use Rattle.horn.specs.NestedLists.{Sexp, leaf, list, Sexps, []ₛ, ◌∷ₛ◌}
-use Rattle.horn.specs.Rulebook as definition
-use Rattle.horn.specs.Rulebook.{Theory, DeclarationWord, declaration_word, one_member, two_members, three_members, count}
-use Rattle.horn.proofs.Counts.{stream_length}
-use Rattle.horn.proofs.Inversion.{not_ok}
-use Rattle.lex.specs.declared.Reader.{Reader}
-use Rattle.sexp.specs.Flattening.{flat_one, flat, counts_one, counts_all}
-use Rattle.outcomes.specs.Outcomes as outcomes
-use Rattle.items.specs.Places as places
-use Rattle.items.specs.Items.{read_on, opened_one, list_due, head_due}
-use Rattle.variables.specs.Variables.{Areas}
-use Rattle.items.specs.declared.Walk.{Walk}
+use Rattle.capacity.specs.Below.horn.specs.Refusals.{number, ok, ◌>>=◌}
+use Rattle.capacity.specs.Below.horn.specs.Names.{Name}
+use Rattle.capacity.specs.Below.horn.specs.Tokens.{Stream, end, ◌▹◌, Token, opening, closing, atom}
+use Rattle.capacity.specs.Below.horn.specs.NestedLists.{Sexp, leaf, list, Sexps, []ₛ, ◌∷ₛ◌}
+use Rattle.capacity.specs.Below.horn.specs.Rulebook as definition
+use Rattle.capacity.specs.Below.horn.specs.Rulebook.{Theory, DeclarationWord, declaration_word, one_member, two_members, three_members, count}
+use Rattle.capacity.specs.Below.horn.proofs.Counts.{stream_length}
+use Rattle.capacity.specs.Below.horn.proofs.Inversion.{not_ok}
+use Rattle.theory.specs.Below.lex.specs.declared.Reader.{Reader}
+use Rattle.theory.specs.Below.sexp.specs.Flattening.{flat_one, flat, counts_one, counts_all}
+use Rattle.theory.specs.Below.outcomes.specs.Outcomes as outcomes
+use Rattle.theory.specs.Below.items.specs.Places as places
+use Rattle.theory.specs.Below.items.specs.Items.{read_on, opened_one, list_due, head_due}
+use Rattle.theory.specs.Below.variables.specs.Variables.{Areas}
+use Rattle.theory.specs.Below.items.specs.declared.Walk.{Walk}
 use Rattle.theory.specs.Declarations as walk
 use Rattle.theory.specs.Declarations.{another, nothing, form_of, form_named, declared_by, more_due, counted, declarations_from}
 use Rattle.theory.specs.declared.Counts.{Counts}
 use Rattle.theory.specs.declared.Form.{Form}
-use Rattle.outcomes.specs.Simulation.{Simulates, refuse, leave, bind, aside, weaker, knowing, giving}
+use Rattle.theory.specs.Below.outcomes.specs.Simulation.{Simulates, refuse, leave, bind, aside, weaker, knowing, giving}
 use Rattle.theory_laws.specs.Reading.{Reads, Walks, weight, Shallow, shallow_list, Shallows, shallow_more}
 use Rattle.theory_laws.specs.Representation.{Entries, Holds}
 use Rattle.theory_laws.proofs.Items.{AtomMet, atom_met, ListMet, list_met}

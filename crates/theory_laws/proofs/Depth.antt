@@ -5,11 +5,11 @@ use Prim.Native.Nat.{ℕ, suc, ◌+◌, ◌-◌, ◌≤◌}
 use native.Mathlib.Omega.{arith}
 use borrow.Author.Tests.{leb-true}
 use lib.Dec.{leb}
-use Rattle.horn.specs.Refusals.{nesting, Result, ok, refused, ◌>>=◌, need}
-use Rattle.horn.specs.NestedLists.{Item, word, group, Items, closed, ended, bad_line, ◌then◌, asked_at, absent, sexp, members, sexps}
-use Rattle.horn.specs.NestedLists.{Sexps}
-use Rattle.horn.proofs.Inversion.{ok_equal, not_ok}
-use Rattle.horn.proofs.Post.{Post, post_ok, post_refused, post_bind, post_after}
+use Rattle.capacity.specs.Below.horn.specs.Refusals.{nesting, Result, ok, refused, ◌>>=◌, need}
+use Rattle.capacity.specs.Below.horn.specs.NestedLists.{Item, word, group, Items, closed, ended, bad_line, ◌then◌, asked_at, absent, sexp, members, sexps}
+use Rattle.capacity.specs.Below.horn.specs.NestedLists.{Sexps}
+use Rattle.capacity.specs.Below.horn.proofs.Inversion.{ok_equal, not_ok}
+use Rattle.capacity.specs.Below.horn.proofs.Post.{Post, post_ok, post_refused, post_bind, post_after}
 use Rattle.theory_laws.specs.Reading.{Shallow, shallow_leaf, shallow_list, Shallows, shallow_none, shallow_more}
 
 asked_post : {A : Type 0} {Q : A → Type 0} (d : ℕ) (f : Unit {0} → Result A) → (d ≤ 256 → Post Q (f tt)) → Post Q (asked_at d >>= f)

@@ -7,18 +7,18 @@ use native.Mathlib.Omega.{arith}
 use borrow.Author.Tests.{ne_eqb}
 use lib.Dec.{eqb}
 use lib.ListN.{length}
-use Rattle.horn.specs.Refusals.{form, refused}
-use Rattle.horn.specs.Names.{Name, named, codes}
-use Rattle.horn.specs.NestedLists.{Sexp, Sexps, []ₛ, ◌∷ₛ◌}
-use Rattle.horn.specs.Rulebook.{Theory, DeclarationWord, sort_word, ctor_word, pred_word, rule_word, other_declaration, declaration_word, declare, one_member, count}
-use Rattle.horn.specs.Rulebook.{two_members, three_members}
-use Rattle.horn.proofs.Equality.{named_decides}
-use Rattle.outcomes.specs.Outcomes.{pick}
+use Rattle.capacity.specs.Below.horn.specs.Refusals.{form, refused}
+use Rattle.capacity.specs.Below.horn.specs.Names.{Name, named, codes}
+use Rattle.capacity.specs.Below.horn.specs.NestedLists.{Sexp, Sexps, []ₛ, ◌∷ₛ◌}
+use Rattle.capacity.specs.Below.horn.specs.Rulebook.{Theory, DeclarationWord, sort_word, ctor_word, pred_word, rule_word, other_declaration, declaration_word, declare, one_member, count}
+use Rattle.capacity.specs.Below.horn.specs.Rulebook.{two_members, three_members}
+use Rattle.capacity.specs.Below.horn.proofs.Equality.{named_decides}
+use Rattle.theory.specs.Below.outcomes.specs.Outcomes.{pick}
 use Rattle.theory.specs.Declarations as walk
 use Rattle.theory.specs.Declarations.{sized, form_named}
 use Rattle.theory.specs.declared.Form.{Form}
 use Rattle.theory.specs.declared.Form.TheVariants.{Sort, Constructor, Predicate, Rule, Other}
-use Rattle.facts.proofs.Comparing.{same_named}
+use Rattle.theory.specs.Below.facts.proofs.Comparing.{same_named}
 
 -- What a form and a keyword say of what follows the head.
 pub data Formed (name : Name) : Sexps → Form → DeclarationWord → Type 0 where

@@ -7,13 +7,13 @@ use Prim.Native.Nat.{ℕ, ◌+◌, ◌*◌, ◌≤◌, ◌<◌}
 use native.Mathlib.Omega.{arith}
 use lib.ListN.{length, get_or, set, length-set}
 use lib.Seq.{get_or-set_other}
-use Rattle.horn.specs.Names.{Name}
-use Rattle.horn.specs.Rulebook.{Output, sort, judgment, Symbol, Variable, Pattern, Patterns, Rule, Theory}
-use Rattle.names.specs.Tables.{Entry}
-use Rattle.names.proofs.Kept.{kept_within}
-use Rattle.names.proofs.Holds.{base_below}
-use Rattle.names.proofs.Declared.{stands_kept}
-use Rattle.items.specs.Places as places
+use Rattle.capacity.specs.Below.horn.specs.Names.{Name}
+use Rattle.capacity.specs.Below.horn.specs.Rulebook.{Output, sort, judgment, Symbol, Variable, Pattern, Patterns, Rule, Theory}
+use Rattle.theory.specs.Below.names.specs.Tables.{Entry}
+use Rattle.theory.specs.Below.names.proofs.Kept.{kept_within}
+use Rattle.theory.specs.Below.names.proofs.Holds.{base_below}
+use Rattle.theory.specs.Below.names.proofs.Declared.{stands_kept}
+use Rattle.theory.specs.Below.items.specs.Places as places
 use Rattle.theory_laws.specs.Representation.{Entries, table_of, SortAt, sort_at, OutputAt, sort_output, judgment_output}
 use Rattle.theory_laws.specs.Representation.{SortsAt, no_sorts, one_sort, SymbolAt, symbol_at_lem, Nth}
 use Rattle.theory_laws.specs.Representation.{Flat, flat_variable, flat_symbol, Flats, no_flats, one_flat, FlatList, no_premises, one_premise}

@@ -4,18 +4,18 @@ use mathlib.Core.List.{List, ◌∷◌}
 use Prim.Native.Nat.{ℕ, ◌+◌, ◌≤◌, ◌<◌}
 use native.Mathlib.Omega.{arith}
 use lib.ListN.{length, get_or}
-use Rattle.horn.specs.Tokens.{Stream, ◌▹◌, Token, opening, closing, atom}
-use Rattle.words.specs.Parts.{part}
-use Rattle.words.specs.Sums.{sum32}
-use Rattle.words.proofs.Sums.{sum_small}
-use Rattle.lex.specs.Answers as lexed
-use Rattle.lex.specs.declared.Token as read
-use Rattle.lex.specs.declared.Token.TheVariants.{Opening, Closing, Atom}
-use Rattle.lex.specs.declared.Reader.{Reader}
-use Rattle.outcomes.specs.Outcomes as outcomes
-use Rattle.items.specs.Items as items
-use Rattle.items.specs.Items.{read_on, opened_one, item_due, closing_due}
-use Rattle.items.specs.declared.Walk.{Walk}
+use Rattle.capacity.specs.Below.horn.specs.Tokens.{Stream, ◌▹◌, Token, opening, closing, atom}
+use Rattle.theory.specs.Below.words.specs.Parts.{part}
+use Rattle.theory.specs.Below.words.specs.Sums.{sum32}
+use Rattle.theory.specs.Below.words.proofs.Sums.{sum_small}
+use Rattle.theory.specs.Below.lex.specs.Answers as lexed
+use Rattle.theory.specs.Below.lex.specs.declared.Token as read
+use Rattle.theory.specs.Below.lex.specs.declared.Token.TheVariants.{Opening, Closing, Atom}
+use Rattle.theory.specs.Below.lex.specs.declared.Reader.{Reader}
+use Rattle.theory.specs.Below.outcomes.specs.Outcomes as outcomes
+use Rattle.theory.specs.Below.items.specs.Items as items
+use Rattle.theory.specs.Below.items.specs.Items.{read_on, opened_one, item_due, closing_due}
+use Rattle.theory.specs.Below.items.specs.declared.Walk.{Walk}
 use Rattle.theory_laws.specs.Reading.{Same, same_opening, same_closing, same_atom, Takes, Reads, Next, one_next, Walks}
 
 module _ (text counts : List ℕ) (Before : Reader → Stream Token → Type 0) (reads : Reads text Before) where

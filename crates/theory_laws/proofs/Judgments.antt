@@ -5,21 +5,21 @@ use mathlib.Core.List.{List, ◌∷◌}
 use Prim.Native.Nat.{ℕ, suc, ◌+◌, ◌≤◌}
 use native.Mathlib.Omega.{arith}
 use lib.ListN.{length}
-use Rattle.horn.specs.Refusals.{number, ok, refused, ◌>>=◌, sort_arity}
-use Rattle.horn.specs.Names.{Name}
-use Rattle.horn.specs.Tokens.{Stream, ◌▹◌, Token, closing, atom}
-use Rattle.horn.specs.NestedLists.{Sexp, leaf, list, Sexps, []ₛ, ◌∷ₛ◌}
-use Rattle.horn.specs.Rulebook as definition
-use Rattle.horn.specs.Rulebook.{judgment, Variable, Pattern, is_predicate, Theory, fits, count}
-use Rattle.lex.specs.declared.Reader.{Reader}
-use Rattle.sexp.specs.Flattening.{flat_one, flat, counts_one, counts_all}
-use Rattle.outcomes.specs.Outcomes as outcomes
-use Rattle.items.specs.Places as places
-use Rattle.items.specs.Items.{read_on, opened_one, list_due, head_due}
-use Rattle.patterns.specs.Patterns as walk
-use Rattle.variables.specs.Variables.{Areas}
-use Rattle.items.specs.declared.Walk.{Walk}
-use Rattle.outcomes.specs.Simulation.{Simulates, refuse, leave, bind, checked_aside, after}
+use Rattle.capacity.specs.Below.horn.specs.Refusals.{number, ok, refused, ◌>>=◌, sort_arity}
+use Rattle.capacity.specs.Below.horn.specs.Names.{Name}
+use Rattle.capacity.specs.Below.horn.specs.Tokens.{Stream, ◌▹◌, Token, closing, atom}
+use Rattle.capacity.specs.Below.horn.specs.NestedLists.{Sexp, leaf, list, Sexps, []ₛ, ◌∷ₛ◌}
+use Rattle.capacity.specs.Below.horn.specs.Rulebook as definition
+use Rattle.capacity.specs.Below.horn.specs.Rulebook.{judgment, Variable, Pattern, is_predicate, Theory, fits, count}
+use Rattle.theory.specs.Below.lex.specs.declared.Reader.{Reader}
+use Rattle.theory.specs.Below.sexp.specs.Flattening.{flat_one, flat, counts_one, counts_all}
+use Rattle.theory.specs.Below.outcomes.specs.Outcomes as outcomes
+use Rattle.theory.specs.Below.items.specs.Places as places
+use Rattle.theory.specs.Below.items.specs.Items.{read_on, opened_one, list_due, head_due}
+use Rattle.theory.specs.Below.patterns.specs.Patterns as walk
+use Rattle.theory.specs.Below.variables.specs.Variables.{Areas}
+use Rattle.theory.specs.Below.items.specs.declared.Walk.{Walk}
+use Rattle.theory.specs.Below.outcomes.specs.Simulation.{Simulates, refuse, leave, bind, checked_aside, after}
 use Rattle.theory_laws.specs.Reading.{Reads, Shallow, shallow_list, Shallows, shallow_more}
 use Rattle.theory_laws.specs.Representation.{Entries, judgment_output, FlatList, no_premises, one_premise}
 use Rattle.theory_laws.proofs.Items.{AtomMet, atom_met, ListMet, list_met, closing_met}

@@ -10,35 +10,35 @@ use borrow.Author.Tests.{eqb-false, eq-eqb, ne_eqb, not-true}
 use lib.Dec.{eqb}
 use lib.ListN.{length, get_or, set, length-set, length-append}
 use lib.Seq.{get_or-set_same, get_or-set_other}
-use Rattle.horn.specs.Refusals.{number, ok, need, ◌>>=◌, unknown, sort_arity, variable_name, two_sorts}
-use Rattle.horn.specs.Refusals as refusals
-use Rattle.horn.specs.Names.{Name, named, questioned, first}
-use Rattle.horn.specs.Tokens.{Stream, Token}
-use Rattle.horn.specs.NestedLists.{leaf}
-use Rattle.horn.specs.Rulebook as definition
-use Rattle.horn.specs.Rulebook.{Output, sort, same_output, Symbol, Variable, variable, Pattern, var, app, []ₚ, is_variable, is_constructor, Theory, fits}
-use Rattle.horn.proofs.Equality.{case, chose_true, chose_false}
-use Rattle.words.specs.Parts.{part}
-use Rattle.names.specs.Chains.{found}
-use Rattle.names.specs.Tables.{Entry, Agree, both_none, both_some}
-use Rattle.names.proofs.Declared.{find_agrees}
-use Rattle.names.proofs.Holds.{by_number}
-use Rattle.lex.specs.declared.Reader.{Reader}
-use Rattle.outcomes.specs.Leaving.{beside}
-use Rattle.words.specs.Sums.{sum32}
-use Rattle.items.specs.Places as places
-use Rattle.items.specs.Items.{with_top, pushed, question}
-use Rattle.variables.specs.Variables as walk_variables
-use Rattle.leaves.specs.Leaves as walk
-use Rattle.patterns.specs.Patterns as walk_terms
-use Rattle.variables.specs.Variables.{Areas, variable_word, with_variable, one_variable, introduced, met_again, variable_at, variable_from}
-use Rattle.leaves.specs.Leaves.{applied}
-use Rattle.items.specs.declared.Walk.{Walk}
-use Rattle.outcomes.specs.Simulation.{Simulates, leave, test, tests, look, checked, aside}
+use Rattle.capacity.specs.Below.horn.specs.Refusals.{number, ok, need, ◌>>=◌, unknown, sort_arity, variable_name, two_sorts}
+use Rattle.capacity.specs.Below.horn.specs.Refusals as refusals
+use Rattle.capacity.specs.Below.horn.specs.Names.{Name, named, questioned, first}
+use Rattle.capacity.specs.Below.horn.specs.Tokens.{Stream, Token}
+use Rattle.capacity.specs.Below.horn.specs.NestedLists.{leaf}
+use Rattle.capacity.specs.Below.horn.specs.Rulebook as definition
+use Rattle.capacity.specs.Below.horn.specs.Rulebook.{Output, sort, same_output, Symbol, Variable, variable, Pattern, var, app, []ₚ, is_variable, is_constructor, Theory, fits}
+use Rattle.capacity.specs.Below.horn.proofs.Equality.{case, chose_true, chose_false}
+use Rattle.theory.specs.Below.words.specs.Parts.{part}
+use Rattle.theory.specs.Below.names.specs.Chains.{found}
+use Rattle.theory.specs.Below.names.specs.Tables.{Entry, Agree, both_none, both_some}
+use Rattle.theory.specs.Below.names.proofs.Declared.{find_agrees}
+use Rattle.theory.specs.Below.names.proofs.Holds.{by_number}
+use Rattle.theory.specs.Below.lex.specs.declared.Reader.{Reader}
+use Rattle.theory.specs.Below.outcomes.specs.Leaving.{beside}
+use Rattle.theory.specs.Below.words.specs.Sums.{sum32}
+use Rattle.theory.specs.Below.items.specs.Places as places
+use Rattle.theory.specs.Below.items.specs.Items.{with_top, pushed, question}
+use Rattle.theory.specs.Below.variables.specs.Variables as walk_variables
+use Rattle.theory.specs.Below.leaves.specs.Leaves as walk
+use Rattle.theory.specs.Below.patterns.specs.Patterns as walk_terms
+use Rattle.theory.specs.Below.variables.specs.Variables.{Areas, variable_word, with_variable, one_variable, introduced, met_again, variable_at, variable_from}
+use Rattle.theory.specs.Below.leaves.specs.Leaves.{applied}
+use Rattle.theory.specs.Below.items.specs.declared.Walk.{Walk}
+use Rattle.theory.specs.Below.outcomes.specs.Simulation.{Simulates, leave, test, tests, look, checked, aside}
 use Rattle.theory_laws.specs.Representation.{Entries, SortAt, OutputAt, sort_output, SymbolAt, symbol_at_lem, Nth, flat_variable, flat_symbol, no_flats}
 use Rattle.theory_laws.specs.Representation.{Declares, Holds}
-use Rattle.words.proofs.Laws.{part-length}
-use Rattle.words.proofs.Sums.{sum_small}
+use Rattle.theory.specs.Below.words.proofs.Laws.{part-length}
+use Rattle.theory.specs.Below.words.proofs.Sums.{sum_small}
 use Rattle.theory_laws.proofs.Frames.{keeps_set, grown_none, symbol_kept, variables_kept}
 use Rattle.theory_laws.proofs.Ready.{Ready, PatternRead, push_ready, nth_more, nth_last, nth_below, variables_more, ready_on}
 use Rattle.theory_laws.proofs.Lookups.{named_turned, part-question, bare_width, Placed, placed, variables_from, same_sort}

@@ -9,20 +9,20 @@ use borrow.Author.Tests.{eq-eqb, ne_eqb}
 use lib.Dec.{eqb}
 use lib.ListN.{length, get_or, take, drop}
 use lib.Seq.{drop-cons}
-use Rattle.horn.specs.Names.{Name, named, same_list, questioned, bare, codes, first}
-use Rattle.horn.specs.Rulebook.{Output, same_output, Variable, variable, is_variable, Theory}
-use Rattle.horn.proofs.Equality.{case, named_decides, decides_false}
-use Rattle.horn.proofs.Inversion.{some_equal}
-use Rattle.words.specs.Parts.{part, same_bytes}
-use Rattle.facts.proofs.Comparing.{same_named}
-use Rattle.names.specs.Chains.{name_at}
-use Rattle.names.specs.Tables.{lookup, Agree, both_none, both_some}
-use Rattle.names.proofs.Holds.{by_name}
-use Rattle.names.proofs.Kept.{member_named, member_bounds}
-use Rattle.names.proofs.Declared.{lookup_member, stands_distinct}
-use Rattle.items.specs.Places as places
-use Rattle.items.specs.Items.{question}
-use Rattle.variables.specs.Variables.{name_of_variable, variable_from}
+use Rattle.capacity.specs.Below.horn.specs.Names.{Name, named, same_list, questioned, bare, codes, first}
+use Rattle.capacity.specs.Below.horn.specs.Rulebook.{Output, same_output, Variable, variable, is_variable, Theory}
+use Rattle.capacity.specs.Below.horn.proofs.Equality.{case, named_decides, decides_false}
+use Rattle.capacity.specs.Below.horn.proofs.Inversion.{some_equal}
+use Rattle.theory.specs.Below.words.specs.Parts.{part, same_bytes}
+use Rattle.theory.specs.Below.facts.proofs.Comparing.{same_named}
+use Rattle.theory.specs.Below.names.specs.Chains.{name_at}
+use Rattle.theory.specs.Below.names.specs.Tables.{lookup, Agree, both_none, both_some}
+use Rattle.theory.specs.Below.names.proofs.Holds.{by_name}
+use Rattle.theory.specs.Below.names.proofs.Kept.{member_named, member_bounds}
+use Rattle.theory.specs.Below.names.proofs.Declared.{lookup_member, stands_distinct}
+use Rattle.theory.specs.Below.items.specs.Places as places
+use Rattle.theory.specs.Below.items.specs.Items.{question}
+use Rattle.theory.specs.Below.variables.specs.Variables.{name_of_variable, variable_from}
 use Rattle.theory_laws.specs.Representation.{Entries, SortAt, sort_at, OutputAt, sort_output, judgment_output, Nth, here, there, VariablesAt}
 use Rattle.theory_laws.specs.Representation.{no_variables, one_variable, Holds}
 

@@ -7,31 +7,31 @@ use Prim.Native.Nat.{ℕ, suc, ◌+◌, ◌*◌, ◌-◌, ◌≤◌, ◌<◌}
 use native.Mathlib.Omega.{arith}
 use lib.ListN.{length, set}
 use lib.Seq.{get_or-set_same}
-use Rattle.horn.specs.Refusals.{number, ok, need, ◌>>=◌, unknown}
-use Rattle.horn.specs.Names.{Name, named, questioned, some_of}
-use Rattle.horn.specs.Tokens.{Stream, ◌▹◌, Token, closing}
-use Rattle.horn.specs.NestedLists.{Sexp, leaf, list, Sexps, []ₛ, ◌∷ₛ◌}
-use Rattle.horn.specs.Rulebook as definition
-use Rattle.horn.specs.Rulebook.{Theory, count}
-use Rattle.horn.proofs.Equality.{case}
-use Rattle.words.specs.Parts.{part}
-use Rattle.names.specs.Tables.{present}
-use Rattle.names.proofs.Declared.{find_present, found_some}
-use Rattle.lex.specs.declared.Reader.{Reader}
-use Rattle.sexp.specs.Flattening.{flat_one, flat, counts_one, counts_all}
-use Rattle.outcomes.specs.Outcomes as outcomes
-use Rattle.outcomes.specs.Leaving as leaving
-use Rattle.outcomes.specs.Leaving.{◌leaving◌}
-use Rattle.words.specs.Sums.{sum32}
-use Rattle.items.specs.Places as places
-use Rattle.items.specs.Items.{read_on, with_top, pushed, atom_due, declared_name}
-use Rattle.items.specs.declared.Walk.{Walk}
-use Rattle.symbols.specs.Symbols.{sort_from, sort_named, inputs}
-use Rattle.outcomes.specs.Simulation.{Answers, both_refuse, both_ok, then, Simulates, leave, pure, after}
+use Rattle.capacity.specs.Below.horn.specs.Refusals.{number, ok, need, ◌>>=◌, unknown}
+use Rattle.capacity.specs.Below.horn.specs.Names.{Name, named, questioned, some_of}
+use Rattle.capacity.specs.Below.horn.specs.Tokens.{Stream, ◌▹◌, Token, closing}
+use Rattle.capacity.specs.Below.horn.specs.NestedLists.{Sexp, leaf, list, Sexps, []ₛ, ◌∷ₛ◌}
+use Rattle.capacity.specs.Below.horn.specs.Rulebook as definition
+use Rattle.capacity.specs.Below.horn.specs.Rulebook.{Theory, count}
+use Rattle.capacity.specs.Below.horn.proofs.Equality.{case}
+use Rattle.theory.specs.Below.words.specs.Parts.{part}
+use Rattle.theory.specs.Below.names.specs.Tables.{present}
+use Rattle.theory.specs.Below.names.proofs.Declared.{find_present, found_some}
+use Rattle.theory.specs.Below.lex.specs.declared.Reader.{Reader}
+use Rattle.theory.specs.Below.sexp.specs.Flattening.{flat_one, flat, counts_one, counts_all}
+use Rattle.theory.specs.Below.outcomes.specs.Outcomes as outcomes
+use Rattle.theory.specs.Below.outcomes.specs.Leaving as leaving
+use Rattle.theory.specs.Below.outcomes.specs.Leaving.{◌leaving◌}
+use Rattle.theory.specs.Below.words.specs.Sums.{sum32}
+use Rattle.theory.specs.Below.items.specs.Places as places
+use Rattle.theory.specs.Below.items.specs.Items.{read_on, with_top, pushed, atom_due, declared_name}
+use Rattle.theory.specs.Below.items.specs.declared.Walk.{Walk}
+use Rattle.theory.specs.Below.symbols.specs.Symbols.{sort_from, sort_named, inputs}
+use Rattle.theory.specs.Below.outcomes.specs.Simulation.{Answers, both_refuse, both_ok, then, Simulates, leave, pure, after}
 use Rattle.theory_laws.specs.Reading.{Reads, Walks, weight}
 use Rattle.theory_laws.specs.Representation.{Entries, SortAt, sort_at, SortsAt, no_sorts, one_sort, Holds}
-use Rattle.words.proofs.Laws.{part-length}
-use Rattle.words.proofs.Sums.{sum_small}
+use Rattle.theory.specs.Below.words.proofs.Laws.{part-length}
+use Rattle.theory.specs.Below.words.proofs.Sums.{sum_small}
 use Rattle.theory_laws.proofs.Items.{atom_met, list_met, closing_met}
 use Rattle.theory_laws.proofs.Frames.{Keeps, keeps_all, keeps_then, keeps_set, holds_kept}
 use Rattle.theory_laws.proofs.Lookups.{part-question}

@@ -8,28 +8,28 @@ use native.Mathlib.Omega.{arith}
 use borrow.Author.Tests.{eqb-true, ne_eqb}
 use lib.Dec.{eqb}
 use lib.ListN.{length, get_or, set}
-use Rattle.horn.specs.Refusals.{number, ok, refused, need, ◌>>=◌, sort_arity, bracketed_constant}
-use Rattle.horn.specs.Names.{Name, is_zero}
-use Rattle.horn.specs.Tokens.{Stream, ◌▹◌, Token, opening, closing, atom}
-use Rattle.horn.specs.NestedLists.{Sexp, leaf, list, Sexps, []ₛ, ◌∷ₛ◌}
-use Rattle.horn.specs.Rulebook as definition
-use Rattle.horn.specs.Rulebook.{Output, sort, same_output, Symbol, symbol, Variable, Pattern, app, Patterns, []ₚ, ◌∷ₚ◌, is_constructor, Theory, fits, count}
-use Rattle.horn.specs.Rulebook.{inputs}
-use Rattle.horn.proofs.Equality.{both}
-use Rattle.lex.specs.declared.Reader.{Reader}
-use Rattle.sexp.specs.Flattening.{flat_one, flat, counts_one, counts_all}
-use Rattle.outcomes.specs.Outcomes as outcomes
-use Rattle.outcomes.specs.Leaving.{Did, ◌leaving◌}
-use Rattle.items.specs.Places as places
-use Rattle.items.specs.Items as items
-use Rattle.words.specs.Sums.{sum32}
-use Rattle.items.specs.Items.{read_on, opened_one, with_top, atom_due, head_due, closing_due}
-use Rattle.patterns.specs.Patterns as walk
-use Rattle.variables.specs.Variables.{Areas}
-use Rattle.leaves.specs.Leaves.{compound_head}
-use Rattle.patterns.specs.Patterns.{arguments_from}
-use Rattle.items.specs.declared.Walk.{Walk}
-use Rattle.outcomes.specs.Simulation.{Simulates, refuse, leave, bind, test, tested_aside, after}
+use Rattle.capacity.specs.Below.horn.specs.Refusals.{number, ok, refused, need, ◌>>=◌, sort_arity, bracketed_constant}
+use Rattle.capacity.specs.Below.horn.specs.Names.{Name, is_zero}
+use Rattle.capacity.specs.Below.horn.specs.Tokens.{Stream, ◌▹◌, Token, opening, closing, atom}
+use Rattle.capacity.specs.Below.horn.specs.NestedLists.{Sexp, leaf, list, Sexps, []ₛ, ◌∷ₛ◌}
+use Rattle.capacity.specs.Below.horn.specs.Rulebook as definition
+use Rattle.capacity.specs.Below.horn.specs.Rulebook.{Output, sort, same_output, Symbol, symbol, Variable, Pattern, app, Patterns, []ₚ, ◌∷ₚ◌, is_constructor, Theory, fits, count}
+use Rattle.capacity.specs.Below.horn.specs.Rulebook.{inputs}
+use Rattle.capacity.specs.Below.horn.proofs.Equality.{both}
+use Rattle.theory.specs.Below.lex.specs.declared.Reader.{Reader}
+use Rattle.theory.specs.Below.sexp.specs.Flattening.{flat_one, flat, counts_one, counts_all}
+use Rattle.theory.specs.Below.outcomes.specs.Outcomes as outcomes
+use Rattle.theory.specs.Below.outcomes.specs.Leaving.{Did, ◌leaving◌}
+use Rattle.theory.specs.Below.items.specs.Places as places
+use Rattle.theory.specs.Below.items.specs.Items as items
+use Rattle.theory.specs.Below.words.specs.Sums.{sum32}
+use Rattle.theory.specs.Below.items.specs.Items.{read_on, opened_one, with_top, atom_due, head_due, closing_due}
+use Rattle.theory.specs.Below.patterns.specs.Patterns as walk
+use Rattle.theory.specs.Below.variables.specs.Variables.{Areas}
+use Rattle.theory.specs.Below.leaves.specs.Leaves.{compound_head}
+use Rattle.theory.specs.Below.patterns.specs.Patterns.{arguments_from}
+use Rattle.theory.specs.Below.items.specs.declared.Walk.{Walk}
+use Rattle.theory.specs.Below.outcomes.specs.Simulation.{Simulates, refuse, leave, bind, test, tested_aside, after}
 use Rattle.theory_laws.specs.Reading.{Reads, weight, Shallow, shallow_leaf, shallow_list, Shallows, shallow_more}
 use Rattle.theory_laws.specs.Representation.{Entries, SortAt, SortsAt, one_sort, sort_output, symbol_at_lem, flat_symbol, Flats, no_flats, one_flat}
 use Rattle.theory_laws.proofs.Items.{AtomMet, atom_met, ListMet, list_met, ClosingMet, closing_met}

@@ -6,16 +6,16 @@ use native.Mathlib.Omega.{arith}
 use borrow.Author.Tests.{eq-eqb, ne_eqb}
 use lib.Dec.{eqb}
 use lib.ListN.{length, get_or}
-use Rattle.horn.specs.Names.{Name}
-use Rattle.horn.specs.Rulebook.{Output, sort, judgment, Symbol, same_symbol, inputs, output, Variable, variable, Theory}
-use Rattle.horn.specs.Rulebook.{is_constructor, is_predicate}
-use Rattle.horn.proofs.Equality.{named_decides, same_output_decides, same_symbol_decides, decides_false}
-use Rattle.horn.proofs.Inversion.{some_equal}
-use Rattle.names.specs.Tables.{entry}
-use Rattle.names.proofs.Holds.{by_number}
-use Rattle.names.proofs.Kept.{member_named}
-use Rattle.names.proofs.Declared.{lookup_member, stands_distinct}
-use Rattle.items.specs.Places as places
+use Rattle.capacity.specs.Below.horn.specs.Names.{Name}
+use Rattle.capacity.specs.Below.horn.specs.Rulebook.{Output, sort, judgment, Symbol, same_symbol, inputs, output, Variable, variable, Theory}
+use Rattle.capacity.specs.Below.horn.specs.Rulebook.{is_constructor, is_predicate}
+use Rattle.capacity.specs.Below.horn.proofs.Equality.{named_decides, same_output_decides, same_symbol_decides, decides_false}
+use Rattle.capacity.specs.Below.horn.proofs.Inversion.{some_equal}
+use Rattle.theory.specs.Below.names.specs.Tables.{entry}
+use Rattle.theory.specs.Below.names.proofs.Holds.{by_number}
+use Rattle.theory.specs.Below.names.proofs.Kept.{member_named}
+use Rattle.theory.specs.Below.names.proofs.Declared.{lookup_member, stands_distinct}
+use Rattle.theory.specs.Below.items.specs.Places as places
 use Rattle.theory_laws.specs.Representation.{Entries, table_of, OutputAt, SortsAt, no_sorts, one_sort, SymbolAt, symbol_at_lem}
 use Rattle.theory_laws.specs.Representation.{Holds}
 use Rattle.theory_laws.proofs.Lookups.{same_sort, same_output_lem}

@@ -2,13 +2,13 @@
 use Prim.Native.Nat.{ℕ}
 use mathlib.Core.Path.{◌≡◌, refl}
 use mathlib.Core.List.{List}
-use Rattle.horn.specs.Tokens.{Stream, end, ◌▹◌, Token}
-use Rattle.lex.specs.Answers as lexed
-use Rattle.lex.specs.declared.Token.TheVariants.{Opening, Closing, Atom}
-use Rattle.lex.specs.declared.Reader.{Reader}
-use Rattle.lex.proofs.Standing.{Stands, start_stands}
-use Rattle.lex.proofs.Readers as readers
-use Rattle.lex.proofs.Readers.{take_opening, take_closing, take_atom, takes, see_end, see_opening, see_closing, see_atom, sees}
+use Rattle.capacity.specs.Below.horn.specs.Tokens.{Stream, end, ◌▹◌, Token}
+use Rattle.theory.specs.Below.lex.specs.Answers as lexed
+use Rattle.theory.specs.Below.lex.specs.declared.Token.TheVariants.{Opening, Closing, Atom}
+use Rattle.theory.specs.Below.lex.specs.declared.Reader.{Reader}
+use Rattle.theory.specs.Below.lex.proofs.Standing.{Stands, start_stands}
+use Rattle.theory.specs.Below.lex.proofs.Readers as readers
+use Rattle.theory.specs.Below.lex.proofs.Readers.{take_opening, take_closing, take_atom, takes, see_end, see_opening, see_closing, see_atom, sees}
 use Rattle.theory_laws.specs.Reading.{same_opening, same_closing, same_atom, Takes, Peeks, Reads}
 
 module _ (text : List ℕ) (r : Reader) where

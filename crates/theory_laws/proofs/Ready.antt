@@ -5,19 +5,19 @@ use mathlib.Core.List.{List, [], ◌∷◌, ◌++◌}
 use Prim.Native.Nat.{ℕ, zero, suc, ◌+◌, ◌*◌, ◌≤◌, ◌<◌}
 use native.Mathlib.Omega.{arith}
 use lib.ListN.{length, get_or, set}
-use Rattle.horn.specs.Names.{Name}
-use Rattle.horn.specs.Tokens.{Stream, Token}
-use Rattle.horn.specs.Rulebook.{Variable, variable, Pattern, Theory}
-use Rattle.words.specs.Parts.{part}
-use Rattle.lex.specs.declared.Reader.{Reader}
-use Rattle.words.specs.Sums.{sum32}
-use Rattle.items.specs.Places as places
-use Rattle.items.specs.Items.{with_top}
-use Rattle.variables.specs.Variables.{Areas}
-use Rattle.items.specs.declared.Walk.{Walk}
+use Rattle.capacity.specs.Below.horn.specs.Names.{Name}
+use Rattle.capacity.specs.Below.horn.specs.Tokens.{Stream, Token}
+use Rattle.capacity.specs.Below.horn.specs.Rulebook.{Variable, variable, Pattern, Theory}
+use Rattle.theory.specs.Below.words.specs.Parts.{part}
+use Rattle.theory.specs.Below.lex.specs.declared.Reader.{Reader}
+use Rattle.theory.specs.Below.words.specs.Sums.{sum32}
+use Rattle.theory.specs.Below.items.specs.Places as places
+use Rattle.theory.specs.Below.items.specs.Items.{with_top}
+use Rattle.theory.specs.Below.variables.specs.Variables.{Areas}
+use Rattle.theory.specs.Below.items.specs.declared.Walk.{Walk}
 use Rattle.theory_laws.specs.Reading.{Walks, weight}
 use Rattle.theory_laws.specs.Representation.{Entries, SortAt, Nth, here, there, Flat, VariablesAt, no_variables, one_variable, Holds}
-use Rattle.words.proofs.Sums.{sum_small}
+use Rattle.theory.specs.Below.words.proofs.Sums.{sum_small}
 use Rattle.theory_laws.proofs.Frames.{Keeps, keeps_set, keeps_then, grown_none, flat_kept, holds_kept}
 
 -- One variable more behind others.

@@ -8,35 +8,35 @@ use native.Mathlib.Nat.{mod-eq_of_lt}
 use native.Mathlib.Omega.{arith}
 use borrow.Author.Tests.{not-true}
 use lib.ListN.{length}
-use Rattle.horn.specs.Refusals.{number, ok, need, ◌>>=◌, duplicate}
-use Rattle.horn.specs.Names.{Name, questioned, some_of}
-use Rattle.horn.specs.Tokens.{Stream, ◌▹◌, Token, closing}
-use Rattle.horn.specs.NestedLists.{Sexp, leaf, list, Sexps, []ₛ, ◌∷ₛ◌}
-use Rattle.horn.specs.Rulebook as definition
-use Rattle.horn.specs.Rulebook.{Variable, Pattern, rule, Theory, is_rule, count}
-use Rattle.horn.proofs.Counts.{stream_length}
-use Rattle.horn.proofs.Equality.{case}
-use Rattle.words.specs.Parts.{part, copied}
-use Rattle.names.specs.Chains.{found, added}
-use Rattle.names.specs.Tables.{entry, present}
-use Rattle.lex.specs.declared.Reader.{Reader}
-use Rattle.sexp.specs.Flattening.{flat_one, flat, counts_one}
-use Rattle.outcomes.specs.Outcomes as outcomes
-use Rattle.outcomes.specs.Leaving.{beside}
-use Rattle.words.specs.Sums.{sum32}
-use Rattle.items.specs.Places as places
-use Rattle.items.specs.Items.{read_on, opened_one, with_top, list_due}
-use Rattle.variables.specs.Variables.{Areas}
-use Rattle.items.specs.declared.Walk.{Walk}
-use Rattle.symbols.specs.Symbols.{entered}
-use Rattle.rule_names.specs.RuleNames.{name_kept}
-use Rattle.rules.specs.Rules.{name_judged, begun, body_read, rule_described, variables_stored, rule_entered, rule_declared}
-use Rattle.rule_names.specs.declared.RuleName.{RuleName}
-use Rattle.rule_names.specs.declared.RuleName.TheVariants as rule_names
-use Rattle.outcomes.specs.Simulation.{Answers, both_refuse, both_ok, Simulates, refuse, leave, bind, pure, aside, test_then, paired, three_on}
+use Rattle.capacity.specs.Below.horn.specs.Refusals.{number, ok, need, ◌>>=◌, duplicate}
+use Rattle.capacity.specs.Below.horn.specs.Names.{Name, questioned, some_of}
+use Rattle.capacity.specs.Below.horn.specs.Tokens.{Stream, ◌▹◌, Token, closing}
+use Rattle.capacity.specs.Below.horn.specs.NestedLists.{Sexp, leaf, list, Sexps, []ₛ, ◌∷ₛ◌}
+use Rattle.capacity.specs.Below.horn.specs.Rulebook as definition
+use Rattle.capacity.specs.Below.horn.specs.Rulebook.{Variable, Pattern, rule, Theory, is_rule, count}
+use Rattle.capacity.specs.Below.horn.proofs.Counts.{stream_length}
+use Rattle.capacity.specs.Below.horn.proofs.Equality.{case}
+use Rattle.theory.specs.Below.words.specs.Parts.{part, copied}
+use Rattle.theory.specs.Below.names.specs.Chains.{found, added}
+use Rattle.theory.specs.Below.names.specs.Tables.{entry, present}
+use Rattle.theory.specs.Below.lex.specs.declared.Reader.{Reader}
+use Rattle.theory.specs.Below.sexp.specs.Flattening.{flat_one, flat, counts_one}
+use Rattle.theory.specs.Below.outcomes.specs.Outcomes as outcomes
+use Rattle.theory.specs.Below.outcomes.specs.Leaving.{beside}
+use Rattle.theory.specs.Below.words.specs.Sums.{sum32}
+use Rattle.theory.specs.Below.items.specs.Places as places
+use Rattle.theory.specs.Below.items.specs.Items.{read_on, opened_one, with_top, list_due}
+use Rattle.theory.specs.Below.variables.specs.Variables.{Areas}
+use Rattle.theory.specs.Below.items.specs.declared.Walk.{Walk}
+use Rattle.theory.specs.Below.symbols.specs.Symbols.{entered}
+use Rattle.theory.specs.Below.rule_names.specs.RuleNames.{name_kept}
+use Rattle.theory.specs.Below.rules.specs.Rules.{name_judged, begun, body_read, rule_described, variables_stored, rule_entered, rule_declared}
+use Rattle.theory.specs.Below.rule_names.specs.declared.RuleName.{RuleName}
+use Rattle.theory.specs.Below.rule_names.specs.declared.RuleName.TheVariants as rule_names
+use Rattle.theory.specs.Below.outcomes.specs.Simulation.{Answers, both_refuse, both_ok, Simulates, refuse, leave, bind, pure, aside, test_then, paired, three_on}
 use Rattle.theory_laws.specs.Reading.{Reads, Walks, weight, Shallow, shallow_list}
 use Rattle.theory_laws.specs.Representation.{Entries, Flat, FlatList, no_variables, Holds}
-use Rattle.words.proofs.Sums.{sum_small}
+use Rattle.theory.specs.Below.words.proofs.Sums.{sum_small}
 use Rattle.theory_laws.proofs.Items.{atom_met, list_met, ClosingMet, closing_met}
 use Rattle.theory_laws.proofs.Frames.{Keeps, keeps_less, keeps_then, grown_none, premises_kept}
 use Rattle.theory_laws.proofs.Lookups.{part-question}

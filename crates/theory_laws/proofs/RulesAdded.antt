@@ -7,15 +7,15 @@ use Prim.Native.Nat.{ℕ, ◌+◌, ◌*◌, ◌≤◌, ◌<◌}
 use native.Mathlib.Omega.{arith}
 use lib.ListN.{length, get_or, set, length-set}
 use lib.Seq.{get_or-set_same, get_or-set_other}
-use Rattle.horn.specs.Names.{Name, some_of}
-use Rattle.horn.specs.Rulebook.{Variable, Pattern, rule, Theory, is_rule}
-use Rattle.words.specs.Parts.{part, copied}
-use Rattle.words.proofs.Writing.{length-copied, copied_before, copied_there}
-use Rattle.names.specs.Chains.{added}
-use Rattle.names.specs.Tables.{Entry, entry}
-use Rattle.names.proofs.Kept.{length-added, added_other}
-use Rattle.items.specs.Places as places
-use Rattle.rules.specs.Rules.{rule_described}
+use Rattle.capacity.specs.Below.horn.specs.Names.{Name, some_of}
+use Rattle.capacity.specs.Below.horn.specs.Rulebook.{Variable, Pattern, rule, Theory, is_rule}
+use Rattle.theory.specs.Below.words.specs.Parts.{part, copied}
+use Rattle.theory.specs.Below.words.proofs.Writing.{length-copied, copied_before, copied_there}
+use Rattle.theory.specs.Below.names.specs.Chains.{added}
+use Rattle.theory.specs.Below.names.specs.Tables.{Entry, entry}
+use Rattle.theory.specs.Below.names.proofs.Kept.{length-added, added_other}
+use Rattle.theory.specs.Below.items.specs.Places as places
+use Rattle.theory.specs.Below.rules.specs.Rules.{rule_described}
 use Rattle.theory_laws.specs.Representation.{Entries, Flat, FlatList, VariablesAt, no_variables, one_variable, RuleAt, rule_at, Holds}
 use Rattle.theory_laws.proofs.Frames.{Grown, Keeps, sort_kept, symbol_kept, rule_kept, flat_kept, premises_kept}
 use Rattle.theory_laws.proofs.Adding.{Adds, adds_kept, others, newer}

@@ -4,22 +4,22 @@ use mathlib.Core.List.{List, ◌∷◌}
 use Prim.Native.Nat.{ℕ, zero, suc, ◌+◌, ◌-◌, ◌≤◌, ◌<◌}
 use native.Mathlib.Omega.{arith}
 use borrow.Author.Tests.{lt-ltb}
-use Rattle.horn.specs.Tokens.{Stream, ◌▹◌, Token, opening, closing, atom}
-use Rattle.horn.specs.NestedLists.{Sexp, leaf, list, Sexps, []ₛ, ◌∷ₛ◌}
-use Rattle.horn.proofs.Counts.{stream_length}
-use Rattle.lex.specs.Answers as lexed
-use Rattle.lex.specs.declared.Token as read
-use Rattle.lex.specs.declared.Token.TheVariants.{Opening, Closing, Atom}
-use Rattle.lex.specs.declared.Reader.{Reader}
-use Rattle.sexp.specs.Flattening.{flat_one, flat, counts_one, counts_all}
-use Rattle.outcomes.specs.Outcomes as outcomes
-use Rattle.outcomes.specs.Outcomes.{Outcome}
-use Rattle.words.specs.Sums.{sum32}
-use Rattle.items.specs.Items.{read_on, opened_one}
-use Rattle.items.specs.declared.Walk.{Walk}
-use Rattle.rule_names.specs.RuleNames.{passed, skipped}
+use Rattle.capacity.specs.Below.horn.specs.Tokens.{Stream, ◌▹◌, Token, opening, closing, atom}
+use Rattle.capacity.specs.Below.horn.specs.NestedLists.{Sexp, leaf, list, Sexps, []ₛ, ◌∷ₛ◌}
+use Rattle.capacity.specs.Below.horn.proofs.Counts.{stream_length}
+use Rattle.theory.specs.Below.lex.specs.Answers as lexed
+use Rattle.theory.specs.Below.lex.specs.declared.Token as read
+use Rattle.theory.specs.Below.lex.specs.declared.Token.TheVariants.{Opening, Closing, Atom}
+use Rattle.theory.specs.Below.lex.specs.declared.Reader.{Reader}
+use Rattle.theory.specs.Below.sexp.specs.Flattening.{flat_one, flat, counts_one, counts_all}
+use Rattle.theory.specs.Below.outcomes.specs.Outcomes as outcomes
+use Rattle.theory.specs.Below.outcomes.specs.Outcomes.{Outcome}
+use Rattle.theory.specs.Below.words.specs.Sums.{sum32}
+use Rattle.theory.specs.Below.items.specs.Items.{read_on, opened_one}
+use Rattle.theory.specs.Below.items.specs.declared.Walk.{Walk}
+use Rattle.theory.specs.Below.rule_names.specs.RuleNames.{passed, skipped}
 use Rattle.theory_laws.specs.Reading.{Same, same_opening, same_closing, same_atom, Takes, Reads, Next, one_next, Walks}
-use Rattle.words.proofs.Sums.{sum_small}
+use Rattle.theory.specs.Below.words.proofs.Sums.{sum_small}
 
 module _ (text counted : List ℕ) (Before : Reader → Stream Token → Type 0) (reads : Reads text Before) where
   -- One token passed: k says how far it goes down.

@@ -8,32 +8,32 @@ use Prim.Native.Nat.{ℕ, ◌+◌, ◌≤◌, ◌<◌}
 use native.Mathlib.Omega.{arith}
 use borrow.Author.Tests.{not-true}
 use lib.ListN.{length}
-use Rattle.horn.specs.Refusals.{number, ok, need, ◌>>=◌, duplicate}
-use Rattle.horn.specs.Names.{Name, named, some_of}
-use Rattle.horn.specs.Tokens.{Stream, ◌▹◌, Token, closing}
-use Rattle.horn.specs.NestedLists.{Sexp, leaf, list}
-use Rattle.horn.specs.Rulebook as definition
-use Rattle.horn.specs.Rulebook.{sort, judgment, symbol, Theory, is_constructor, is_predicate, with_symbol}
-use Rattle.words.specs.Parts.{part}
-use Rattle.names.specs.Chains.{found, added}
-use Rattle.names.specs.Tables.{Entry, entry, present}
-use Rattle.names.proofs.Kept.{length-added}
-use Rattle.names.proofs.Declared.{find_present}
-use Rattle.lex.specs.declared.Reader.{Reader}
-use Rattle.sexp.specs.Flattening.{flat_one, counts_one}
-use Rattle.outcomes.specs.Outcomes as outcomes
-use Rattle.outcomes.specs.Leaving as leaving
-use Rattle.outcomes.specs.Leaving.{◌leaving◌}
-use Rattle.words.specs.Sums.{sum32}
-use Rattle.items.specs.Places as places
-use Rattle.items.specs.Items.{read_on, opened_one, with_top, declared_name, list_due, closing_due}
-use Rattle.items.specs.declared.Walk.{Walk}
-use Rattle.symbols.specs.Symbols.{reserved, sort_named, entered, described, sort_declared, inputs, signature, symbol_entered, constructor_declared}
-use Rattle.symbols.specs.Symbols.{predicate_declared}
-use Rattle.outcomes.specs.Simulation.{Simulates, refuse, leave, bind, pure, test_then, paired, three}
+use Rattle.capacity.specs.Below.horn.specs.Refusals.{number, ok, need, ◌>>=◌, duplicate}
+use Rattle.capacity.specs.Below.horn.specs.Names.{Name, named, some_of}
+use Rattle.capacity.specs.Below.horn.specs.Tokens.{Stream, ◌▹◌, Token, closing}
+use Rattle.capacity.specs.Below.horn.specs.NestedLists.{Sexp, leaf, list}
+use Rattle.capacity.specs.Below.horn.specs.Rulebook as definition
+use Rattle.capacity.specs.Below.horn.specs.Rulebook.{sort, judgment, symbol, Theory, is_constructor, is_predicate, with_symbol}
+use Rattle.theory.specs.Below.words.specs.Parts.{part}
+use Rattle.theory.specs.Below.names.specs.Chains.{found, added}
+use Rattle.theory.specs.Below.names.specs.Tables.{Entry, entry, present}
+use Rattle.theory.specs.Below.names.proofs.Kept.{length-added}
+use Rattle.theory.specs.Below.names.proofs.Declared.{find_present}
+use Rattle.theory.specs.Below.lex.specs.declared.Reader.{Reader}
+use Rattle.theory.specs.Below.sexp.specs.Flattening.{flat_one, counts_one}
+use Rattle.theory.specs.Below.outcomes.specs.Outcomes as outcomes
+use Rattle.theory.specs.Below.outcomes.specs.Leaving as leaving
+use Rattle.theory.specs.Below.outcomes.specs.Leaving.{◌leaving◌}
+use Rattle.theory.specs.Below.words.specs.Sums.{sum32}
+use Rattle.theory.specs.Below.items.specs.Places as places
+use Rattle.theory.specs.Below.items.specs.Items.{read_on, opened_one, with_top, declared_name, list_due, closing_due}
+use Rattle.theory.specs.Below.items.specs.declared.Walk.{Walk}
+use Rattle.theory.specs.Below.symbols.specs.Symbols.{reserved, sort_named, entered, described, sort_declared, inputs, signature, symbol_entered, constructor_declared}
+use Rattle.theory.specs.Below.symbols.specs.Symbols.{predicate_declared}
+use Rattle.theory.specs.Below.outcomes.specs.Simulation.{Simulates, refuse, leave, bind, pure, test_then, paired, three}
 use Rattle.theory_laws.specs.Reading.{Reads, weight}
 use Rattle.theory_laws.specs.Representation.{Entries, sort_at, Declares, Holds}
-use Rattle.words.proofs.Sums.{sum_small}
+use Rattle.theory.specs.Below.words.proofs.Sums.{sum_small}
 use Rattle.theory_laws.proofs.Items.{atom_met, list_met, ClosingMet, closing_met}
 use Rattle.theory_laws.proofs.Frames.{Grown, keeps_all, keeps_less, sort_kept, symbol_kept, rule_kept}
 use Rattle.theory_laws.proofs.Names.{NameRead, name_read, declared_name_lem, SortRead, sort_read, sort_named_lem, Midway, InputsRead, inputs_law}

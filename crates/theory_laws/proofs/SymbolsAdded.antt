@@ -6,14 +6,14 @@ use Prim.Native.Nat.{ℕ, ◌+◌, ◌≤◌, ◌<◌}
 use native.Mathlib.Omega.{arith}
 use lib.ListN.{length, get_or, set, length-set}
 use lib.Seq.{get_or-set_same, get_or-set_other}
-use Rattle.horn.specs.Names.{Name, some_of}
-use Rattle.horn.specs.Rulebook.{Output, sort, judgment, symbol, Theory, is_constructor, is_predicate, with_symbol}
-use Rattle.words.specs.Parts.{part}
-use Rattle.names.specs.Chains.{added}
-use Rattle.names.specs.Tables.{Entry, entry}
-use Rattle.names.proofs.Kept.{length-added, added_other}
-use Rattle.items.specs.Places as places
-use Rattle.symbols.specs.Symbols.{described}
+use Rattle.capacity.specs.Below.horn.specs.Names.{Name, some_of}
+use Rattle.capacity.specs.Below.horn.specs.Rulebook.{Output, sort, judgment, symbol, Theory, is_constructor, is_predicate, with_symbol}
+use Rattle.theory.specs.Below.words.specs.Parts.{part}
+use Rattle.theory.specs.Below.names.specs.Chains.{added}
+use Rattle.theory.specs.Below.names.specs.Tables.{Entry, entry}
+use Rattle.theory.specs.Below.names.proofs.Kept.{length-added, added_other}
+use Rattle.theory.specs.Below.items.specs.Places as places
+use Rattle.theory.specs.Below.symbols.specs.Symbols.{described}
 use Rattle.theory_laws.specs.Representation.{Entries, table_of, SortAt, OutputAt, sort_output, judgment_output, SortsAt, SymbolAt, symbol_at_lem, Holds}
 use Rattle.theory_laws.proofs.Frames.{Grown, Keeps, sort_kept, output_kept, sorts_kept, symbol_kept, rule_kept}
 use Rattle.theory_laws.proofs.Adding.{Adds, adds_kept, others, others_more, newer}

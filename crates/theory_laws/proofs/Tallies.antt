@@ -4,18 +4,18 @@ use mathlib.Core.List.{List, [], ◌∷◌, ◌++◌}
 use Prim.Native.Nat.{ℕ, suc, ◌+◌, ◌≤◌, ◌<◌}
 use native.Mathlib.Omega.{arith}
 use lib.ListN.{length, length-append}
-use Rattle.horn.specs.Refusals.{ok}
-use Rattle.horn.specs.Names.{Name}
-use Rattle.horn.specs.NestedLists.{Sexp}
-use Rattle.horn.specs.Rulebook as definition
-use Rattle.horn.specs.Rulebook.{sort, judgment, Symbol, symbol, Rule, Theory, with_symbol, empty_theory}
-use Rattle.horn.specs.Calls.{constructor_count, predicate_count}
-use Rattle.horn.proofs.Inversion.{afterᵣ, after_needᵣ, ok_equal}
+use Rattle.capacity.specs.Below.horn.specs.Refusals.{ok}
+use Rattle.capacity.specs.Below.horn.specs.Names.{Name}
+use Rattle.capacity.specs.Below.horn.specs.NestedLists.{Sexp}
+use Rattle.capacity.specs.Below.horn.specs.Rulebook as definition
+use Rattle.capacity.specs.Below.horn.specs.Rulebook.{sort, judgment, Symbol, symbol, Rule, Theory, with_symbol, empty_theory}
+use Rattle.capacity.specs.Below.horn.specs.Calls.{constructor_count, predicate_count}
+use Rattle.capacity.specs.Below.horn.proofs.Inversion.{afterᵣ, after_needᵣ, ok_equal}
 use Rattle.theory.specs.Declarations.{counted, no_counts}
 use Rattle.theory.specs.declared.Counts.{Counts}
 use Rattle.theory.specs.declared.Form.{Form}
 use Rattle.theory.specs.declared.Form.TheVariants as forms
-use Rattle.words.proofs.Sums.{sum_small}
+use Rattle.theory.specs.Below.words.proofs.Sums.{sum_small}
 
 abbrev pub tally : Theory → Counts
 tally th = record {

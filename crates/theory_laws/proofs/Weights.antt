@@ -5,10 +5,10 @@ use mathlib.Core.Path.{◌≡◌, refl}
 use mathlib.Core.List.{List, [], ◌∷◌}
 use native.Mathlib.Omega.{arith}
 use lib.ListN.{length, length-append}
-use Rattle.horn.specs.Utf8.{Char, char}
-use Rattle.horn.specs.Tokens.{Stream, end, bad, ◌▹◌, before, lines, characters, Kind, blank, opens, closes, comments, ordinary, kind}
-use Rattle.horn.specs.Tokens.{Token, opening, closing, atom, Place, between, in_comment, in_atom, begins, continues, move, unended, tokens_from, tokens}
-use Rattle.horn.proofs.Counts.{in_comment_lem}
+use Rattle.capacity.specs.Below.horn.specs.Utf8.{Char, char}
+use Rattle.capacity.specs.Below.horn.specs.Tokens.{Stream, end, bad, ◌▹◌, before, lines, characters, Kind, blank, opens, closes, comments, ordinary, kind}
+use Rattle.capacity.specs.Below.horn.specs.Tokens.{Token, opening, closing, atom, Place, between, in_comment, in_atom, begins, continues, move, unended, tokens_from, tokens}
+use Rattle.capacity.specs.Below.horn.proofs.Counts.{in_comment_lem}
 use Rattle.capacity.specs.Costs.{wide}
 use Rattle.capacity.proofs.Characters.{wide_some, wide_all, stream_bytes, characters_few}
 use Rattle.theory_laws.specs.Reading.{weight}

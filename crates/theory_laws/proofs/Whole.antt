@@ -6,37 +6,37 @@ use mathlib.Core.List.{List, [], ◌∷◌}
 use Prim.Native.Nat.{ℕ, ◌+◌, ◌/◌, ◌≤◌}
 use native.Mathlib.Omega.{arith}
 use lib.ListN.{length, take}
-use Rattle.horn.specs.Refusals.{number, Result, ok, refused, ◌>>=◌}
-use Rattle.horn.specs.Tokens.{end, tokens}
-use Rattle.horn.specs.NestedLists.{items, sexps, Sexps}
-use Rattle.horn.specs.Rulebook as definition
-use Rattle.horn.specs.Rulebook.{Theory, empty_theory}
-use Rattle.horn.specs.Calls.{RulebookReport, rulebook_report, rulebook_answer}
-use Rattle.horn.proofs.Counts.{stream_length, few_tokens}
-use Rattle.horn.proofs.Inversion.{not_ok}
-use Rattle.horn.specs.Names.{Name}
-use Rattle.words.specs.Parts.{cleared}
-use Rattle.words.proofs.Writing.{length-cleared, get_d_cleared}
-use Rattle.names.specs.Tables as tables
-use Rattle.names.specs.Tables.{nothing_yet}
-use Rattle.names.proofs.Kept.{empty_table}
-use Rattle.lex.specs.Answers as lexed
-use Rattle.lex.proofs.Standing.{Stands}
-use Rattle.sexp.specs.Flattening.{flattened, counts_all, counts}
-use Rattle.sexp.specs.Walk.{walked}
-use Rattle.sexp.proofs.Lengths.{walked-length}
-use Rattle.sexp.proofs.Whole.{few_lists}
-use Rattle.sexp.proofs.Ahead.{Ahead, ahead_start}
-use Rattle.sexp.proofs.Law.{walk_cases}
-use Rattle.outcomes.specs.Outcomes as outcomes
-use Rattle.outcomes.specs.Leaving.{Did, ◌leaving◌}
-use Rattle.items.specs.Places as places
-use Rattle.variables.specs.Variables.{Areas}
+use Rattle.capacity.specs.Below.horn.specs.Refusals.{number, Result, ok, refused, ◌>>=◌}
+use Rattle.capacity.specs.Below.horn.specs.Tokens.{end, tokens}
+use Rattle.capacity.specs.Below.horn.specs.NestedLists.{items, sexps, Sexps}
+use Rattle.capacity.specs.Below.horn.specs.Rulebook as definition
+use Rattle.capacity.specs.Below.horn.specs.Rulebook.{Theory, empty_theory}
+use Rattle.capacity.specs.Below.horn.specs.Calls.{RulebookReport, rulebook_report, rulebook_answer}
+use Rattle.capacity.specs.Below.horn.proofs.Counts.{stream_length, few_tokens}
+use Rattle.capacity.specs.Below.horn.proofs.Inversion.{not_ok}
+use Rattle.capacity.specs.Below.horn.specs.Names.{Name}
+use Rattle.theory.specs.Below.words.specs.Parts.{cleared}
+use Rattle.theory.specs.Below.words.proofs.Writing.{length-cleared, get_d_cleared}
+use Rattle.theory.specs.Below.names.specs.Tables as tables
+use Rattle.theory.specs.Below.names.specs.Tables.{nothing_yet}
+use Rattle.theory.specs.Below.names.proofs.Kept.{empty_table}
+use Rattle.theory.specs.Below.lex.specs.Answers as lexed
+use Rattle.theory.specs.Below.lex.proofs.Standing.{Stands}
+use Rattle.theory.specs.Below.sexp.specs.Flattening.{flattened, counts_all, counts}
+use Rattle.theory.specs.Below.sexp.specs.Walk.{walked}
+use Rattle.theory.specs.Below.sexp.proofs.Lengths.{walked-length}
+use Rattle.theory.specs.Below.sexp.proofs.Whole.{few_lists}
+use Rattle.theory.specs.Below.sexp.proofs.Ahead.{Ahead, ahead_start}
+use Rattle.theory.specs.Below.sexp.proofs.Law.{walk_cases}
+use Rattle.theory.specs.Below.outcomes.specs.Outcomes as outcomes
+use Rattle.theory.specs.Below.outcomes.specs.Leaving.{Did, ◌leaving◌}
+use Rattle.theory.specs.Below.items.specs.Places as places
+use Rattle.theory.specs.Below.variables.specs.Variables.{Areas}
 use Rattle.theory.specs.Declarations.{declarations, start_walk}
 use Rattle.theory.specs.Walks as walk
 use Rattle.theory.specs.Walks.{AllAreas, with_counts}
 use Rattle.theory.specs.declared.Counts.{Counts}
-use Rattle.outcomes.specs.Simulation.{Simulates, refuse, leave}
+use Rattle.theory.specs.Below.outcomes.specs.Simulation.{Simulates, refuse, leave}
 use Rattle.theory_laws.specs.Reading.{Next, no_more, one_next, weight}
 use Rattle.theory_laws.specs.Representation.{Entries, Declares, Holds}
 use Rattle.theory_laws.proofs.Weights.{light_tokens}
@@ -44,7 +44,7 @@ use Rattle.theory_laws.proofs.Depth.{whole_shallow}
 use Rattle.theory_laws.proofs.Tallies.{tally, none_counted, none_total}
 use Rattle.theory_laws.proofs.Declarations.{Accepted, declarations_law, count_longer}
 use Rattle.theory_laws.proofs.Readers.{reads}
-use Rattle.horn.proofs.Refusing.{Judges, refuses, judging_number, judges_declarations}
+use Rattle.capacity.specs.Below.horn.proofs.Refusing.{Judges, refuses, judging_number, judges_declarations}
 
 next_ahead : (area : List ℕ) (k : ℕ) (cs : List ℕ) → Ahead area k cs → Next area k cs
 unfolding Ahead

@@ -1,13 +1,13 @@
 -- A reader before tokens, and a walk before tokens with the member counts that come.
 use Rattle.std.specs.Prelude.{ℕ, suc, ◌+◌, ◌≤◌, ◌<◌, ◌≡◌, List, [], ◌∷◌, length, get_or}
-use Rattle.horn.specs.Tokens.{Stream, end, bad, ◌▹◌, Token, opening, closing, atom, tokens}
-use Rattle.horn.specs.NestedLists.{Sexp, leaf, list, Sexps, []ₛ, ◌∷ₛ◌}
-use Rattle.words.specs.Parts.{part}
-use Rattle.lex.specs.Answers as lexed
-use Rattle.lex.specs.declared.Token as read
-use Rattle.lex.specs.declared.Token.TheVariants.{Opening, Closing, Atom}
-use Rattle.lex.specs.declared.Reader.{Reader}
-use Rattle.items.specs.declared.Walk.{Walk}
+use Rattle.capacity.specs.Below.horn.specs.Tokens.{Stream, end, bad, ◌▹◌, Token, opening, closing, atom, tokens}
+use Rattle.capacity.specs.Below.horn.specs.NestedLists.{Sexp, leaf, list, Sexps, []ₛ, ◌∷ₛ◌}
+use Rattle.theory.specs.Below.words.specs.Parts.{part}
+use Rattle.theory.specs.Below.lex.specs.Answers as lexed
+use Rattle.theory.specs.Below.lex.specs.declared.Token as read
+use Rattle.theory.specs.Below.lex.specs.declared.Token.TheVariants.{Opening, Closing, Atom}
+use Rattle.theory.specs.Below.lex.specs.declared.Reader.{Reader}
+use Rattle.theory.specs.Below.items.specs.declared.Walk.{Walk}
 
 -- A token of the reader and one of the definition.
 pub data Same (text : List ℕ) : read.Token → Token → Type 0 where

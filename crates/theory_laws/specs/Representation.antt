@@ -1,13 +1,13 @@
 -- What it means that the words of an area hold a theory.
 use Rattle.std.specs.Prelude.{ℕ, suc, ◌+◌, ◌*◌, ◌≤◌, ◌<◌, ◌≡◌, Bool, length, get_or}
 use mathlib.Core.List.{List, [], ◌∷◌, Memᴰ}
-use Rattle.horn.specs.Names.{Name, named}
-use Rattle.horn.specs.Rulebook.{Output, sort, judgment, Symbol, symbol, Variable, variable, Pattern, var, app, Patterns, []ₚ, ◌∷ₚ◌}
-use Rattle.horn.specs.Rulebook.{Rule, rule, Theory, is_constructor, is_predicate, is_rule}
-use Rattle.words.specs.Parts.{part}
-use Rattle.names.specs.Tables as tables
-use Rattle.items.specs.Places as places
-use Rattle.names.specs.Tables.{Entry, entry, Table, Stands}
+use Rattle.capacity.specs.Below.horn.specs.Names.{Name, named}
+use Rattle.capacity.specs.Below.horn.specs.Rulebook.{Output, sort, judgment, Symbol, symbol, Variable, variable, Pattern, var, app, Patterns, []ₚ, ◌∷ₚ◌}
+use Rattle.capacity.specs.Below.horn.specs.Rulebook.{Rule, rule, Theory, is_constructor, is_predicate, is_rule}
+use Rattle.theory.specs.Below.words.specs.Parts.{part}
+use Rattle.theory.specs.Below.names.specs.Tables as tables
+use Rattle.theory.specs.Below.items.specs.Places as places
+use Rattle.theory.specs.Below.names.specs.Tables.{Entry, entry, Table, Stands}
 
 -- The four tables of names.
 pub record Entries : Type 0 where

@@ -4,9 +4,9 @@ use mathlib.Core.Bool.{Bool}
 use mathlib.Core.List.{List, [], ◌∷◌, Memᴰ}
 use mathlib.Core.Option.{Option, none, some}
 use Prim.Native.Nat.{ℕ}
-use Rattle.horn.specs.Names.{Name, first}
-use Rattle.horn.specs.Rulebook.{Output, sort, judgment, Symbol, Theory}
-use Rattle.horn.proofs.Inversion.{none-some, some_equal, case_option}
+use Rattle.names.specs.Below.horn.specs.Names.{Name, first}
+use Rattle.names.specs.Below.horn.specs.Rulebook.{Output, sort, judgment, Symbol, Theory}
+use Rattle.names.specs.Below.horn.proofs.Inversion.{none-some, some_equal, case_option}
 use Rattle.names.specs.Tables.{Entry, entry, Agree, both_none, both_some}
 use Rattle.names.proofs.Holds.{by_number}
 use Rattle.names.proofs.Declared.{found_member, stands_distinct, find_agrees}

@@ -8,16 +8,16 @@ use native.Mathlib.Omega.{arith}
 use borrow.Author.Tests.{eq-eqb, ne_eqb}
 use lib.Dec.{eqb}
 use lib.ListN.{length, get_or}
-use Rattle.horn.specs.Names.{Name, first}
-use Rattle.horn.specs.Rulebook.{Symbol, inputs, output, Variable, variable, Pattern, Patterns, Rule, Theory}
-use Rattle.horn.specs.Rulebook.{is_variable, is_constructor, is_predicate, is_rule, variables_of, premises_of, constructor, predicate, rule_named}
-use Rattle.horn.specs.StoredTerms.{node, Terms, []ₜ, ◌∷ₜ◌, width}
-use Rattle.horn.specs.Checker.{has_sort, accepts}
+use Rattle.names.specs.Below.horn.specs.Names.{Name, first}
+use Rattle.names.specs.Below.horn.specs.Rulebook.{Symbol, inputs, output, Variable, variable, Pattern, Patterns, Rule, Theory}
+use Rattle.names.specs.Below.horn.specs.Rulebook.{is_variable, is_constructor, is_predicate, is_rule, variables_of, premises_of, constructor, predicate, rule_named}
+use Rattle.names.specs.Below.horn.specs.StoredTerms.{node, Terms, []ₜ, ◌∷ₜ◌, width}
+use Rattle.names.specs.Below.horn.specs.Checker.{has_sort, accepts}
 use Rattle.names.specs.Tables.{Agree, both_none, both_some}
 use Rattle.names.proofs.Holds.{by_number}
 use Rattle.names.proofs.Declared.{find_agrees}
-use Rattle.outcomes.specs.Outcomes as outcomes
-use Rattle.outcomes.specs.Simulation.{Answers, sought}
+use Rattle.items.specs.Below.outcomes.specs.Outcomes as outcomes
+use Rattle.items.specs.Below.outcomes.specs.Simulation.{Answers, sought}
 use Rattle.items.specs.Places as places
 use Rattle.theory_laws.specs.Representation.{Entries, SortAt, OutputAt, sort_output, SortsAt, no_sorts, one_sort, SymbolAt, symbol_at_lem, Nth}
 use Rattle.theory_laws.specs.Representation.{Flat, flat_variable, flat_symbol, Flats, no_flats, one_flat, VariablesAt}

@@ -3,11 +3,11 @@ use mathlib.Core.Path.{◌≡◌, refl, ap, sym, subst, ◌∙◌}
 use mathlib.Core.List.{List, ◌∷◌}
 use mathlib.Core.Option.{none, some}
 use Prim.Native.Nat.{ℕ, suc}
-use Rattle.horn.specs.Names.{Name, first}
-use Rattle.horn.specs.Rulebook.{Variable, variable, is_variable}
-use Rattle.horn.proofs.Equality.{named_decides, decides_false}
-use Rattle.horn.proofs.Inversion.{none-some}
-use Rattle.horn.proofs.SoundnessWords.{Apart, name_apart}
+use Rattle.names.specs.Below.horn.specs.Names.{Name, first}
+use Rattle.names.specs.Below.horn.specs.Rulebook.{Variable, variable, is_variable}
+use Rattle.names.specs.Below.horn.proofs.Equality.{named_decides, decides_false}
+use Rattle.names.specs.Below.horn.proofs.Inversion.{none-some}
+use Rattle.names.specs.Below.horn.proofs.SoundnessWords.{Apart, name_apart}
 use Rattle.names.proofs.Holds.{by_name}
 use Rattle.theory_laws.specs.Representation.{Nth, here, there}
 

@@ -6,26 +6,26 @@ use Prim.Native.Nat.{ℕ, suc, ◌+◌, ◌≤◌, ◌<◌}
 use native.Mathlib.Omega.{arith}
 use lib.Dec.{eqb}
 use lib.ListN.{length, get_or, length-append}
-use Rattle.horn.specs.Refusals.{number}
-use Rattle.horn.specs.Refusals as results
-use Rattle.horn.specs.Setting.{Setting}
-use Rattle.horn.specs.Names.{Name}
-use Rattle.horn.specs.Rulebook.{Symbol, inputs, Theory}
-use Rattle.horn.specs.StoredTerms.{Term, node, Terms, []ₜ, ◌∷ₜ◌, Store, empty_store, width, same_term}
-use Rattle.horn.specs.Checker.{has_sort, accepts}
-use Rattle.horn.specs.Checker as checker
-use Rattle.horn.proofs.Equality.{both}
+use Rattle.names.specs.Below.horn.specs.Refusals.{number}
+use Rattle.names.specs.Below.horn.specs.Refusals as results
+use Rattle.names.specs.Below.horn.specs.Setting.{Setting}
+use Rattle.names.specs.Below.horn.specs.Names.{Name}
+use Rattle.names.specs.Below.horn.specs.Rulebook.{Symbol, inputs, Theory}
+use Rattle.names.specs.Below.horn.specs.StoredTerms.{Term, node, Terms, []ₜ, ◌∷ₜ◌, Store, empty_store, width, same_term}
+use Rattle.names.specs.Below.horn.specs.Checker.{has_sort, accepts}
+use Rattle.names.specs.Below.horn.specs.Checker as checker
+use Rattle.names.specs.Below.horn.proofs.Equality.{both}
 use Rattle.names.proofs.Holds.{by_number}
-use Rattle.arena.specs.Store.{head_of, argument_of, area_words, intern_answer}
-use Rattle.arena.specs.declared.Answer.{Answer}
+use Rattle.requests.specs.Below.arena.specs.Store.{head_of, argument_of, area_words, intern_answer}
+use Rattle.requests.specs.Below.arena.specs.declared.Answer.{Answer}
 use Rattle.requests.specs.Requests.{requested_area, emptied}
 use Rattle.requests.proofs.Counting.{KeepsStore, keeps_empty, Requested, met_found, met_made, not_met, requested_law}
-use Rattle.arena.proofs.Nodes.{Node, node_of}
-use Rattle.arena.proofs.Limits.{Limits}
-use Rattle.arena.proofs.Readings.{head_read, argument_read, one_tree}
-use Rattle.arena.proofs.Trees.{Below, below_more, Formed, formed, tree_of, lookups, build, same_tree, new_tree}
-use Rattle.outcomes.specs.Leaving.{◌leaving◌}
-use Rattle.outcomes.specs.Simulation.{Simulates, refuse, leave}
+use Rattle.requests.specs.Below.arena.proofs.Nodes.{Node, node_of}
+use Rattle.requests.specs.Below.arena.proofs.Limits.{Limits}
+use Rattle.requests.specs.Below.arena.proofs.Readings.{head_read, argument_read, one_tree}
+use Rattle.requests.specs.Below.arena.proofs.Trees.{Below, below_more, Formed, formed, tree_of, lookups, build, same_tree, new_tree}
+use Rattle.items.specs.Below.outcomes.specs.Leaving.{◌leaving◌}
+use Rattle.items.specs.Below.outcomes.specs.Simulation.{Simulates, refuse, leave}
 use Rattle.theory_laws.specs.Representation.{Entries, Holds}
 use Rattle.theory_reading.specs.Addresses.{symbol_at, Used}
 use Rattle.theory_reading.specs.Storing.{numbered}

@@ -7,19 +7,19 @@ use native.Mathlib.Omega.{arith}
 use borrow.Author.Tests.{eq-eqb, ne_eqb}
 use lib.Dec.{eqb}
 use lib.ListN.{length, get_or}
-use Rattle.horn.specs.Setting.{Setting}
-use Rattle.horn.specs.Names.{Name}
-use Rattle.horn.specs.Rulebook.{Symbol, inputs, Theory}
-use Rattle.horn.specs.StoredTerms.{Term, node, Terms, width, same_term}
-use Rattle.horn.specs.Checker.{has_sort, accepts}
-use Rattle.horn.proofs.Equality.{same_term_decides, decides_false}
+use Rattle.names.specs.Below.horn.specs.Setting.{Setting}
+use Rattle.names.specs.Below.horn.specs.Names.{Name}
+use Rattle.names.specs.Below.horn.specs.Rulebook.{Symbol, inputs, Theory}
+use Rattle.names.specs.Below.horn.specs.StoredTerms.{Term, node, Terms, width, same_term}
+use Rattle.names.specs.Below.horn.specs.Checker.{has_sort, accepts}
+use Rattle.names.specs.Below.horn.proofs.Equality.{same_term_decides, decides_false}
 use Rattle.names.proofs.Holds.{by_number}
-use Rattle.arena.specs.Store.{head_of, intern_answer, intern_area}
-use Rattle.arena.proofs.Nodes.{Node}
-use Rattle.arena.proofs.Limits.{Limits}
-use Rattle.arena.proofs.Readings.{head_read, one_tree}
-use Rattle.arena.proofs.Trees as trees
-use Rattle.arena.proofs.Trees.{Below, both, Formed, formed, tree_of, lookups, build, Trees, InternedTree, interned_tree}
+use Rattle.requests.specs.Below.arena.specs.Store.{head_of, intern_answer, intern_area}
+use Rattle.requests.specs.Below.arena.proofs.Nodes.{Node}
+use Rattle.requests.specs.Below.arena.proofs.Limits.{Limits}
+use Rattle.requests.specs.Below.arena.proofs.Readings.{head_read, one_tree}
+use Rattle.requests.specs.Below.arena.proofs.Trees as trees
+use Rattle.requests.specs.Below.arena.proofs.Trees.{Below, both, Formed, formed, tree_of, lookups, build, Trees, InternedTree, interned_tree}
 use Rattle.theory_laws.specs.Representation.{Entries, SortAt, SymbolAt, Holds}
 use Rattle.theory_reading.specs.Reading.{output_of, accepted}
 use Rattle.theory_reading.specs.Addresses.{symbol_at, Used}

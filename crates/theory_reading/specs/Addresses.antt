@@ -2,8 +2,8 @@
 use Rattle.std.specs.Prelude.{ℕ, true, false, eqb}
 use mathlib.Core.List.{List, [], ◌∷◌, Memᴰ}
 use Rattle.std.proofs.Math.Option.{Option, none, some}
-use Rattle.horn.specs.Names.{Name, first}
-use Rattle.horn.specs.Rulebook.{judgment, Symbol, symbol, Theory, is_constructor, is_predicate}
+use Rattle.names.specs.Below.horn.specs.Names.{Name, first}
+use Rattle.names.specs.Below.horn.specs.Rulebook.{judgment, Symbol, symbol, Theory, is_constructor, is_predicate}
 use Rattle.names.specs.Tables.{Entry, entry}
 use Rattle.theory_laws.specs.Representation.{Entries}
 

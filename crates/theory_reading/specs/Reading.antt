@@ -3,7 +3,7 @@ use Rattle.std.specs.Prelude.{ℕ, zero, suc, ◌+◌, ◌*◌, Bool, true, fals
 use Rattle.std.proofs.Math.Option.{Option}
 use Rattle.names.specs.Chains.{found}
 use Rattle.items.specs.Places as places
-use Rattle.outcomes.specs.Outcomes.{pick}
+use Rattle.items.specs.Below.outcomes.specs.Outcomes.{pick}
 use Rattle.words.specs.Sums.{sum32}
 use Rattle.variables.specs.Variables.{variable_from}
 

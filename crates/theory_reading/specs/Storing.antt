@@ -1,9 +1,9 @@
 -- What a node's number is to its caller, and the areas in which nodes are made.
 use Rattle.std.specs.Prelude.{ℕ, List}
-use Rattle.arena.specs.declared.Answer.{Answer}
-use Rattle.arena.specs.declared.Answer.TheVariants.{Found, Made, Full}
-use Rattle.outcomes.specs.Outcomes.{Outcome, ok, refused}
-use Rattle.outcomes.specs.Leaving.{Did, ◌leaving◌}
+use Rattle.requests.specs.Below.arena.specs.declared.Answer.{Answer}
+use Rattle.requests.specs.Below.arena.specs.declared.Answer.TheVariants.{Found, Made, Full}
+use Rattle.items.specs.Below.outcomes.specs.Outcomes.{Outcome, ok, refused}
+use Rattle.items.specs.Below.outcomes.specs.Leaving.{Did, ◌leaving◌}
 
 -- The number of a node that was stored, beside something else; or 28.
 abbrev pub numbered : {A : Type 0} → A → Answer → Outcome (ℕ × A)

@@ -9,23 +9,23 @@ use native.Mathlib.Omega.{arith}
 use borrow.Author.Tests.{eqb-true, eq-eqb, ne_eqb}
 use lib.Dec.{eqb}
 use lib.ListN.{length, get_or, get_elem?}
-use Rattle.horn.specs.Refusals.{Result, ok}
-use Rattle.horn.specs.Names.{some_of}
-use Rattle.horn.specs.Tokens.{Stream, Token}
-use Rattle.horn.specs.Matching.{Step, references_of}
-use Rattle.horn.specs.Used.{references_at, used_below}
-use Rattle.horn.proofs.Equality.{case, some_of_true, some_of_member, at_there}
-use Rattle.horn.proofs.Inversion.{ok_equal, not_ok}
-use Rattle.names.proofs.Holds.{by_number}
-use Rattle.words.specs.Sums.{sum32}
-use Rattle.words.proofs.Sums.{sum_small}
-use Rattle.lex.specs.declared.Reader.{Reader}
-use Rattle.outcomes.specs.Leaving.{Did}
-use Rattle.outcomes.specs.Simulation.{Simulates, refuse, leave}
-use Rattle.tables.specs.Words.{step_kept}
-use Rattle.asking_laws.proofs.Places.{Any, at_within}
-use Rattle.matching_laws.proofs.Relations.{as_it_is, at_most, ReferencesAt, no_references, one_reference}
-use Rattle.references.specs.References.{references}
+use Rattle.used_steps.specs.Below.horn.specs.Refusals.{Result, ok}
+use Rattle.used_steps.specs.Below.horn.specs.Names.{some_of}
+use Rattle.used_steps.specs.Below.horn.specs.Tokens.{Stream, Token}
+use Rattle.used_steps.specs.Below.horn.specs.Matching.{Step, references_of}
+use Rattle.used_steps.specs.Below.horn.specs.Used.{references_at, used_below}
+use Rattle.used_steps.specs.Below.horn.proofs.Equality.{case, some_of_true, some_of_member, at_there}
+use Rattle.used_steps.specs.Below.horn.proofs.Inversion.{ok_equal, not_ok}
+use Rattle.used_steps.specs.Below.names.proofs.Holds.{by_number}
+use Rattle.used_steps.specs.Below.words.specs.Sums.{sum32}
+use Rattle.used_steps.specs.Below.words.proofs.Sums.{sum_small}
+use Rattle.used_steps.specs.Below.lex.specs.declared.Reader.{Reader}
+use Rattle.used_steps.specs.Below.outcomes.specs.Leaving.{Did}
+use Rattle.used_steps.specs.Below.outcomes.specs.Simulation.{Simulates, refuse, leave}
+use Rattle.used_steps.specs.Below.tables.specs.Words.{step_kept}
+use Rattle.steps_laws.specs.Below.asking_laws.proofs.Places.{Any, at_within}
+use Rattle.steps_laws.specs.Below.matching_laws.proofs.Relations.{as_it_is, at_most, ReferencesAt, no_references, one_reference}
+use Rattle.used_steps.specs.Below.references.specs.References.{references}
 use Rattle.steps_laws.proofs.References.{ReferencesRead, references_from_lem}
 use Rattle.steps_laws.proofs.Whole.{ReferencesListed}
 use Rattle.used_steps.specs.Marks.{marked, marking, leaned, counted}

@@ -7,7 +7,7 @@ use mathlib.Core.List.{List, ◌++◌, Memᴰ}
 use native.Mathlib.Omega.{arith}
 use lib.ListN.{length, get_or, set, length-set}
 use lib.Seq.{get_or-set_same, get_or-set_other}
-use Rattle.names.proofs.Holds.{by_number}
+use Rattle.used_steps.specs.Below.names.proofs.Holds.{by_number}
 use Rattle.used_steps.specs.Marks.{marked_by}
 
 -- The word at a place is no 0.

@@ -5,8 +5,8 @@ use Rattle.words.specs.Sums.{sum32}
 use Rattle.lex.specs.Answers.{after}
 use Rattle.lex.specs.declared.Ahead.TheVariants.{Nothing}
 use Rattle.lex.specs.declared.Reader.{Reader}
-use Rattle.outcomes.specs.Outcomes.{ok, refused}
-use Rattle.outcomes.specs.Leaving.{Did, ◌leaving◌}
+use Rattle.nodes.specs.Below.outcomes.specs.Outcomes.{ok, refused}
+use Rattle.nodes.specs.Below.outcomes.specs.Leaving.{Did, ◌leaving◌}
 use Rattle.tables.specs.Words.{goal_at, goal_result, step_kept}
 use Rattle.nodes.specs.Limits.{def_buckets}
 use Rattle.references.specs.References.{references}

@@ -1,3 +1,4 @@
+pub mod Below
 pub mod Classes
 pub mod White
 pub mod Characters

@@ -1,6 +1,6 @@
 use Rattle.asking.specs.Asking.{form_due}
 use Rattle.lex.specs.Answers.{answer}
-use Rattle.horn.specs.Refusals.{number}
+use Rattle.lex.specs.Below.horn.specs.Refusals.{number}
 use Rattle.asking.proofs.form_due.Goals as goal
 
 pub returns-in-End : goal.returns-in-End

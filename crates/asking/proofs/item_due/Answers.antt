@@ -1,6 +1,6 @@
 use Rattle.asking.specs.Asking.{item_due}
 use Rattle.lex.specs.Answers.{answer}
-use Rattle.horn.specs.Refusals.{number}
+use Rattle.lex.specs.Below.horn.specs.Refusals.{number}
 use borrow.Author.Tests.{eq-eqb, ne_eqb}
 use Rattle.asking.proofs.item_due.Goals as goal
 

@@ -1,6 +1,6 @@
 use Rattle.items.specs.Items.{item_due}
 use Rattle.lex.specs.Answers.{answer}
-use Rattle.horn.specs.Refusals.{number}
+use Rattle.lex.specs.Below.horn.specs.Refusals.{number}
 use Rattle.items.proofs.next_item.Goals as goal
 
 pub returns-in-End : goal.returns-in-End

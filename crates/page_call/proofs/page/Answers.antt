@@ -1,7 +1,7 @@
 use mathlib.Core.Path.{sym, ◌∙◌}
 use lib.Seq.{length-take-le}
 use Rattle.clearing.proofs.Areas.{long}
-use Rattle.checker_laws.proofs.Lengths as lengths
+use Rattle.reports.specs.Below.checker_laws.proofs.Lengths as lengths
 use Rattle.page_call.proofs.Call.{area_short_lem, text_long_lem, page_judged_lem}
 use Rattle.page_call.proofs.page.Goals as goal
 

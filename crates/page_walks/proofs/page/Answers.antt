@@ -2,7 +2,7 @@ use Prim.Native.Nat.{ℕ}
 use mathlib.Core.Path.{ap, ◌∙◌}
 use mathlib.Core.List.{List}
 use lib.ListN.{replicate}
-use Rattle.horn.specs.Output.{Output}
+use Rattle.clearing.specs.Below.horn.specs.Output.{Output}
 use Rattle.page_walks.specs.Walks.{page_by}
 use Rattle.page_walks.proofs.page.Goals as goal
 

@@ -1,7 +1,7 @@
 use mathlib.Core.Path.{sym, ◌∙◌}
 use lib.Seq.{length-take-le}
 use Rattle.clearing.proofs.Areas.{long}
-use Rattle.checker_laws.proofs.Lengths as lengths
+use Rattle.reports.specs.Below.checker_laws.proofs.Lengths as lengths
 use Rattle.release_call.proofs.Call.{area_short_lem, text_long_lem, release_judged_lem}
 use Rattle.release_call.proofs.release.Goals as goal
 

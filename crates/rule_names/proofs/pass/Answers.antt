@@ -1,6 +1,6 @@
 use Rattle.rule_names.specs.RuleNames.{passed}
 use Rattle.lex.specs.Answers.{answer}
-use Rattle.horn.specs.Refusals.{number}
+use Rattle.lex.specs.Below.horn.specs.Refusals.{number}
 use Rattle.rule_names.proofs.pass.Goals as goal
 
 pub returns-in-End : goal.returns-in-End

@@ -1,7 +1,7 @@
 use Prim.Native.Nat.{ℕ}
 use mathlib.Core.Path.{ap, ◌∙◌}
 use lib.ListN.{replicate}
-use Rattle.outcomes.specs.Leaving.{Did}
+use Rattle.theory.specs.Below.outcomes.specs.Leaving.{Did}
 use Rattle.theory.specs.Walks.{AllAreas}
 use Rattle.theory.specs.declared.Counts.{Counts}
 use Rattle.rulebook_call.specs.Reports.{reported_by}

@@ -1,6 +1,6 @@
 use Rattle.timing.proofs.Turns.{count_on, count_ended, count_refused, count_out}
 use Rattle.lex.specs.Answers.{answer}
-use Rattle.horn.specs.Refusals.{number, not_utf8}
+use Rattle.lex.specs.Below.horn.specs.Refusals.{number, not_utf8}
 use native.Mathlib.Omega.{arith}
 use mathlib.Core.Path.{◌∙◌, ap, sym}
 use Rattle.timing.proofs.count_tokens.Goals as goal

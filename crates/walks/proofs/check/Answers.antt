@@ -1,8 +1,8 @@
 use Prim.Native.Nat.{ℕ}
 use mathlib.Core.Path.{ap, ◌∙◌}
 use lib.ListN.{replicate}
-use Rattle.outcomes.specs.Leaving.{Did}
-use Rattle.certificates.specs.Certificates.{AllAreas}
+use Rattle.checker.specs.Below.outcomes.specs.Leaving.{Did}
+use Rattle.checker.specs.Below.certificates.specs.Certificates.{AllAreas}
 use Rattle.checker.specs.declared.Counts.{Counts}
 use Rattle.reports.specs.Release.{released_by}
 use Rattle.walks.proofs.check.Goals as goal

@@ -1,0 +1,4 @@
+-- Crates below this one, for the definitions and proofs of crates above it, whose lines of crates.txt then need not list them.
+pub use Rattle.theory_laws.specs.Below.horn
+pub use Rattle.asking
+pub use Rattle.theory_laws

@@ -1,0 +1,5 @@
+-- Crates below this one, for the definitions and proofs of crates above it, whose lines of crates.txt then need not list them.
+pub use Rattle.tables
+pub use Rattle.outcomes
+pub use Rattle.theory_reading.specs.Below.theory_laws
+pub use Rattle.matching

@@ -1,0 +1,4 @@
+-- Crates below this one, for the definitions and proofs of crates above it, whose lines of crates.txt then need not list them.
+pub use Rattle.goals.specs.Below.items
+pub use Rattle.terms_laws.specs.Below.theory_laws
+pub use Rattle.goals

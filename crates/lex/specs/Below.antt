@@ -1,0 +1,4 @@
+-- Crates below this one, for the definitions and proofs of crates above it, whose lines of crates.txt then need not list them.
+pub use Rattle.utf8.specs.Below.horn
+pub use Rattle.utf8
+pub use Rattle.scanning
