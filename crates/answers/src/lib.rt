@@ -1,9 +1,8 @@
 // Answers of the calls, and how programs write and compare them.
+#![tactic(auto)]
 
 // A report of a call, or one that is stated. The call with the rulebook alone has four counts: its fifth is 0, and is not written. The call that
 // writes the page has one, the length.
-#![tactic(auto)]
-
 #[derive(Clone, Copy)]
 pub struct Answer {
     pub number: u32,

@@ -7,6 +7,9 @@ ghost use Rattle.std.specs.Prelude.{◌<◌};
 
 use utf8::classes;
 
+const STDIN_FILENO: i32 = 0;
+const STDOUT_FILENO: i32 = 1;
+
 // A line of the list: the characters from `low` to `high`, and where the next line starts.
 #[derive(Drop)]
 struct Listed {
@@ -139,8 +142,8 @@ fn right(v: u32, white: bool) -> bool {
 
 // Writes a number and what it counts.
 fn told(n: u32, what: &[u8]) {
-    io::print_decimal(1, n as u64);
-    io::write_all(1, what);
+    io::print_decimal(STDOUT_FILENO, n as u64);
+    io::write_all(STDOUT_FILENO, what);
 }
 
 // One more character. Each that the list has is written, and each of which something wrong was said.
@@ -149,13 +152,13 @@ fn counted(t: Tally, v: u32, white: bool) -> Tally {
     n.characters = words::plus(n.characters, 1);
     if white {
         n.white = words::plus(n.white, 1);
-        io::print_hex(1, v as u64, 4);
-        io::write_all(1, b"\n");
+        io::print_hex(STDOUT_FILENO, v as u64, 4);
+        io::write_all(STDOUT_FILENO, b"\n");
     }
     if !right(v, white) {
         n.wrong = words::plus(n.wrong, 1);
-        io::print_hex(1, v as u64, 4);
-        io::write_all(1, b" is wrong\n");
+        io::print_hex(STDOUT_FILENO, v as u64, 4);
+        io::write_all(STDOUT_FILENO, b" is wrong\n");
     }
     n
 }
@@ -190,7 +193,7 @@ fn all(list: &[u8]) -> Tally {
 
 fn main() {
     let mut input = io::buffer();
-    let n = io::read_full(0, &mut input);
+    let n = io::read_full(STDIN_FILENO, &mut input);
     let tally = all(words::bytes_part(&input, 0, n));
     told(tally.characters, b" characters\n");
     told(tally.white, b" white space\n");

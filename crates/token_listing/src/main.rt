@@ -1,9 +1,11 @@
 // Reads texts from standard input, one to a line as hexadecimal digits, and lists the tokens of each: a bracket, or an
 // atom's bounds; then `end`, or 3 for a line that is not UTF-8. A line that starts with `#` is written as it is.
-
-// Where the line that starts at `p` ends.
 #![tactic(auto)]
 
+const STDIN_FILENO: i32 = 0;
+const STDOUT_FILENO: i32 = 1;
+
+// Where the line that starts at `p` ends.
 fn line_end(input: &[u8], p: usize) -> usize {
     let mut q = p;
     while q < input.len() {
@@ -34,16 +36,16 @@ fn text_of(line: &[u8], out: &mut [u8]) -> usize {
 fn show(t: lex::Token) {
     match t {
         lex::Token::Opening => {
-            io::write_all(1, b"(\n");
+            io::write_all(STDOUT_FILENO, b"(\n");
         }
         lex::Token::Closing => {
-            io::write_all(1, b")\n");
+            io::write_all(STDOUT_FILENO, b")\n");
         }
         lex::Token::Atom(a, b) => {
-            io::print_decimal(1, a as u64);
-            io::write_all(1, b" ");
-            io::print_decimal(1, b as u64);
-            io::write_all(1, b"\n");
+            io::print_decimal(STDOUT_FILENO, a as u64);
+            io::write_all(STDOUT_FILENO, b" ");
+            io::print_decimal(STDOUT_FILENO, b as u64);
+            io::write_all(STDOUT_FILENO, b"\n");
         }
     }
 }
@@ -74,10 +76,10 @@ fn close(read: lex::Read) {
     match read {
         lex::Read::Got(t, _) => show(t),
         lex::Read::End => {
-            io::write_all(1, b"end\n");
+            io::write_all(STDOUT_FILENO, b"end\n");
         }
         lex::Read::Bad => {
-            io::write_all(1, b"3\n");
+            io::write_all(STDOUT_FILENO, b"3\n");
         }
     }
 }
@@ -85,8 +87,8 @@ fn close(read: lex::Read) {
 // One line of the input.
 fn answer(line: &[u8]) {
     if words::byte(line, 0) == 35 {
-        io::write_all(1, line);
-        io::write_all(1, b"\n");
+        io::write_all(STDOUT_FILENO, line);
+        io::write_all(STDOUT_FILENO, b"\n");
         return;
     }
     let mut text = io::buffer();
@@ -96,7 +98,7 @@ fn answer(line: &[u8]) {
 
 fn main() {
     let mut input = io::large_buffer();
-    let n = io::read_full(0, &mut input);
+    let n = io::read_full(STDIN_FILENO, &mut input);
     let mut p = 0;
     let mut turns: u32 = 0;
     while turns < 4096 {
