@@ -56,10 +56,10 @@ module _ (text : List ℕ) (table : List ℕ) {rules heap : List ℕ} {es : Entr
       → ArgumentsRead es th text K (top + 1) 0 (spent + 2) stack ts x left y
       → Simulates (TermRead es th (At text K (spent + 2)) top stack ts) (make heap c top x.0 x.1 left.0 left.1)
       (definition.make document01 d y.0 y.1)
-  made_of = walked.made_of text table h defs ts₀ abbreviations (omega (arith, short))
+  made_of = walked.made_of text table h defs ts₀ abbreviations (λ k l. omega (arith, short, l))
 
   pub term_law : (item : Item) → TermLaw text table h defs ts₀ abbreviations item
-  term_law = walked.term_law text table h defs ts₀ abbreviations (omega (arith, short))
+  term_law = walked.term_law text table h defs ts₀ abbreviations (λ k l. omega (arith, short, l))
 
   pub arguments_law : (is : Items) → ArgumentsLaw text table h defs ts₀ abbreviations is
-  arguments_law = walked.arguments_law text table h defs ts₀ abbreviations (omega (arith, short))
+  arguments_law = walked.arguments_law text table h defs ts₀ abbreviations (λ k l. omega (arith, short, l))

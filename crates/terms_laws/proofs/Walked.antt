@@ -90,10 +90,10 @@ module _ (text : List ℕ) (table : List ℕ) {rules heap : List ℕ} {es : Entr
       → Simulates (ArgumentsRead es th text K place n spent stack ts) (walk.arguments_from (walk.term left text rules heap table) fuel text top n r store stack)
       (definition.arguments document01 th defs depth is ts)
 
-  module _ (short : length text ≤ 32768) where
-    -- What is on the stack was read before, and so is what comes on top of it now.
+  -- What is on the stack was read before, and so is what comes on top of it now, each in two bytes at least: the stack has room for what a text can pay for.
+  module _ (holds : (k : ℕ) → 2 * k ≤ suc (length text) → k ≤ 16384) where
     fits : {K : Stream Token → Type 0} (top spent : ℕ) {r : Reader} → At text K (spent + 2) r → 2 * top ≤ spent → top + 1 ≤ 16384
-    fits top spent a l = let b = at_within a in omega arith
+    fits top spent a l = let b = at_within a in holds (top + 1) (omega arith)
 
     -- A term of one item: the item is asked for, then it is an atom or a list.
     term_step : (item : Item) (left depth top spent : ℕ) (K : Stream Token → Type 0) (rest : Items) (ts : Store) (r : Reader) (store stack : List ℕ)
@@ -160,6 +160,7 @@ module _ (text : List ℕ) (table : List ℕ) {rules heap : List ℕ} {es : Entr
     made_of top spent c d K ts stack x left y l long a q =
         let n = q.count in
         let z = at_within q.reader in
+        let w = holds (top + 1 + length q.ms) (omega arith) in
         let u = q.keeps.same_length in
         rw (← q.terms)
         (weaker
@@ -180,7 +181,7 @@ module _ (text : List ℕ) (table : List ℕ) {rules heap : List ℕ} {es : Entr
         → Simulates (TermRead es th (At text K (spent + 2)) top stack ts) (walk_on left top c r store stack) (defined_on depth d rest ts)
     unfolding refusals.◌>>=◌ refusals.need number lookups is_zero width
     compounded left depth top spent c d K rest ts r store stack law e l a ready =
-        let z = at_within ready.reader in
+        let z = fits top spent ready.reader l in
         rw (sum_small top 1 (omega arith))
         (bind _ _ (law left depth (top + 1) 0 (top + 1) (spent + 2) (length text + 1) K ts r store stack e (omega arith) (omega arith) ready)
         (λ x s y q. by x s y q q.ms q.count q.terms)) where
@@ -334,22 +335,24 @@ module _ (text : List ℕ) (table : List ℕ) {rules heap : List ℕ} {es : Entr
         rw (asked_then {A = Term × Store} {B = Terms × Store} depth ts (definition.term document01 th defs depth item ts)
         (λ y. refusals.◌>>=◌ (definition.arguments document01 th defs depth rest y.1) (λ z. refusals.ok (y.0 ∷ₜ z.0, z.1))) _ refl)
         (by (look_law text K spent (item then rest) ready.reader)) where
+          on_stack : place ≤ 16384
+          on_stack = let b = at_within ready.reader in let c = ready.room in holds place (omega arith)
+
           small : place < 4294967296
-          small = let b = at_within ready.reader in let c = ready.room in omega arith
+          small = let b = on_stack in omega arith
 
           here : sum32 top n ≡ place
           here = sum_small top n (omega (arith, small)) ∙ sym p
 
           next : sum32 n 1 ≡ n + 1
-          next = sum_small n 1 (let b = at_within ready.reader in let c = ready.room in omega arith)
+          next = sum_small n 1 (let b = on_stack in omega arith)
 
           on : (x : ℕ × Reader) (s : Areas) (y : Term × Store) → TermRead es th (At text (RestComes rest K) (spent + 2)) place stack ts x s y
               → Simulates (ArgumentsRead es th text K place n spent stack ts)
               (walk.arguments_from (walk.term left text rules heap table) fuel text top (n + 1) x.1 s.0 (set s.1 place x.0))
               (refusals.◌>>=◌ (definition.arguments document01 th defs depth rest y.1) (λ z. refusals.ok (y.0 ∷ₜ z.0, z.1)))
           on x s y t =
-              let b = at_within t.reader in
-              let c = ready.room in
+              let b = fits place spent t.reader ready.room in
               let k = length-set s.1 place x.0 in
               let i = t.keeps.same_length in
               let j = ready.long in
