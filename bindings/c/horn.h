@@ -26,8 +26,8 @@ extern "C" {
 #define HORN_PAGE_LINE_BYTES 65
 #define HORN_PAGE_BYTES (HORN_PAGE_LINE_BYTES * (HORN_GOALS_BYTES / 11 + 1))
 /*
- * The most stack that a call takes on any texts: stack.c measures 79,400 bytes on texts of 256 levels, all that may nest, and
- * 62,648 for a rulebook alone.
+ * The most stack that a call takes on any texts: stack.c measures 67,264 bytes on texts of 256 levels, all that may nest, and
+ * 66,416 for a rulebook alone.
  */
 #define HORN_STACK_BYTES 98304
 

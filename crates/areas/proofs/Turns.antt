@@ -1,5 +1,5 @@
 -- One turn of filling and of testing. Assumes nothing.
-use Rattle.std.proofs.Common.{◌≡◌, ℕ, zero, suc, ◌+◌, ◌-◌, ◌%◌, ◌^◌, ◌<◌, ◌≤◌, true, false, eqb, List, get_or, set, refl, arith, le-ltb, lt-ltb, eq-eqb, ne_eqb}
+use Rattle.std.proofs.Common.{◌≡◌, ℕ, zero, suc, ◌+◌, ◌-◌, ◌%◌, ◌^◌, ◌<◌, ◌≤◌, true, false, List, get_or, set, refl, arith, le-ltb, lt-ltb, eq-eqb, ne_eqb}
 use Rattle.areas.specs.Filling.{filled, due, held, area_held, all_held}
 
 pub due_cleared : (i n w : ℕ) → i < n → 0 ≡ due i n w

@@ -1,6 +1,5 @@
 -- What is left of an item's answer that is neither a refusal nor an atom. Assumes nothing.
 use mathlib.Core.Path.{◌≡◌, refl}
-use mathlib.Core.List.{[], ◌∷◌}
 use Prim.Native.Nat.{ℕ}
 use Rattle.outcomes.specs.Outcomes.{refused, ◌>>=◌}
 use Rattle.asking.specs.Asking.{met, atom_only}

@@ -1,34 +1,19 @@
 -- What is taken of a reader, beside the token that the definition has next. Assumes nothing.
-use Prim.Native.Nat.{ℕ, zero, suc, ◌+◌, ◌≤◌, ◌<◌}
-use mathlib.Core.Path.{◌≡◌, refl, ap, sym}
-use mathlib.Core.Bool.{not}
+use Prim.Native.Nat.{ℕ, suc, ◌+◌, ◌≤◌, ◌<◌}
+use mathlib.Core.Path.{◌≡◌, ap, sym}
 use mathlib.Core.List.{List}
-use lib.Dec.{eqb}
 use lib.ListN.{length}
 use native.Mathlib.Omega.{arith}
-use borrow.Author.Tests.{le-leb, lt-leb, ne_eqb}
-use Rattle.theory_laws.specs.Below.horn.specs.Refusals as refusals
-use Rattle.theory_laws.specs.Below.horn.specs.Refusals.{Result, number, stray_closing, excess}
-use Rattle.theory_laws.specs.Below.horn.specs.Names.{Name}
-use Rattle.theory_laws.specs.Below.horn.specs.Tokens.{Stream, end, bad, ◌▹◌, Token, opening, closing, atom}
-use Rattle.theory_laws.specs.Below.horn.specs.NestedLists.{Item, word, group, Items, closed, ended, bad_line, ◌then◌, asked_at, absent}
-use Rattle.theory_laws.specs.Below.horn.specs.Checker as definition
+use Rattle.theory_laws.specs.Below.horn.specs.Tokens.{Stream, ◌▹◌, Token, opening, closing, atom}
 use Rattle.theory_laws.specs.Below.words.specs.Parts.{part}
 use Rattle.asking.specs.Below.lex.specs.Answers as lexed
 use Rattle.asking.specs.Below.lex.specs.declared.Token.TheVariants.{Opening, Closing, Atom}
 use Rattle.asking.specs.Below.lex.specs.declared.Ahead.TheVariants.{Nothing}
 use Rattle.asking.specs.Below.lex.specs.declared.Reader.{Reader}
-use Rattle.asking.specs.Below.lex.proofs.Standing.{Stands}
-use Rattle.asking.specs.Below.lex.proofs.Readers.{Takes, take_opening, take_closing, take_atom, takes, taken_end, taken_bad, Sees, see_end, see_bad}
-use Rattle.asking.specs.Below.lex.proofs.Readers.{see_opening, see_closing, see_atom, sees}
-use Rattle.asking.specs.Below.outcomes.specs.Outcomes as outcomes
-use Rattle.asking.specs.Below.outcomes.specs.Outcomes.{Outcome}
+use Rattle.asking.specs.Below.lex.proofs.Readers.{Takes, take_opening, take_closing, take_atom}
 use Rattle.theory_laws.specs.Reading.{weight}
-use Rattle.asking.specs.Below.outcomes.specs.Simulation.{Answers, both_refuse, both_ok}
 use Rattle.theory_laws.specs.Below.words.proofs.Laws.{part-length}
-use Rattle.asking.specs.Asking as asked
-use Rattle.asking.specs.Asking.{Met, Ahead, Top, item_due, atom_due, list_due, closing_due, closing_next, form_due}
-use Rattle.asking_laws.proofs.Places.{Begins, Comes, RestComes, At}
+use Rattle.asking_laws.proofs.Places.{At}
 
 module _ (text : List ℕ) where
   -- A token that comes was taken: the reader stands behind it. An atom spends two bytes at least.

@@ -8,7 +8,6 @@ use native.Mathlib.Omega.{arith}
 use borrow.Author.Tests.{eqb-true}
 use lib.ListN.{length, length-append}
 use Rattle.horn.specs.Refusals.{ok}
-use Rattle.horn.specs.Refusals
 use Rattle.horn.specs.Setting.{Setting}
 use Rattle.horn.specs.Names.{Name, named, same_list, codes, questioned, bare}
 use Rattle.horn.specs.NestedLists.{Item, word, group, Items, closed, ended, bad_line, ◌then◌}

@@ -5,7 +5,7 @@ use mathlib.Core.List.{List}
 use native.Mathlib.Omega.{arith}
 use Rattle.lex.specs.declared.Reader.{Reader}
 use Rattle.outcomes.specs.Outcomes.{Outcome, ok, refused}
-use Rattle.outcomes.specs.Leaving.{Did, ◌leaving◌}
+use Rattle.outcomes.specs.Leaving.{◌leaving◌}
 use Rattle.tables.specs.declared.Tally.{Tally}
 use Rattle.asking.specs.Asking.{over, form, form_due}
 use Rattle.certificates.specs.Certificates.{AllAreas, form_read, forms_from}

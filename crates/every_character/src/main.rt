@@ -8,6 +8,7 @@ ghost use Rattle.std.specs.Prelude.{◌<◌};
 use utf8::classes;
 
 const STDIN_FILENO: i32 = 0;
+
 const STDOUT_FILENO: i32 = 1;
 
 // A line of the list: the characters from `low` to `high`, and where the next line starts.

@@ -1,47 +1,36 @@
 -- The whole goals text. Assumes nothing.
-use Prim.Native.Nat.{ℕ, zero, suc, ◌+◌, ◌≤◌}
+use Prim.Native.Nat.{ℕ, ◌+◌, ◌≤◌}
 use mathlib.Core.Path.{◌≡◌, refl, ap, sym, ◌∙◌}
 use mathlib.Core.Bool.{not}
 use mathlib.Core.List.{List, []}
 use native.Mathlib.Omega.{arith}
 use lib.Dec.{eqb}
 use lib.ListN.{length}
-use Rattle.goals.specs.Below.horn.specs.Refusals as refusals
-use Rattle.goals.specs.Below.horn.specs.Refusals.{number, atom_or_list, no_goal}
+use Rattle.goals.specs.Below.horn.specs.Refusals.{number, no_goal}
 use Rattle.goals.specs.Below.horn.specs.Setting.{document01}
-use Rattle.goals.specs.Below.horn.specs.Names.{Name}
 use Rattle.goals.specs.Below.horn.specs.Tokens.{tokens}
-use Rattle.goals.specs.Below.horn.specs.NestedLists.{Items, word, items}
+use Rattle.goals.specs.Below.horn.specs.NestedLists.{items}
 use Rattle.goals.specs.Below.horn.specs.Rulebook.{Theory}
 use Rattle.goals.specs.Below.horn.specs.StoredTerms.{Store, empty_store}
 use Rattle.goals.specs.Below.horn.specs.Checker as definition
 use Rattle.goals.specs.Below.horn.specs.Checker.{Goal}
 use Rattle.goals.specs.Below.horn.specs.Matching.{Step}
-use Rattle.goals.specs.Below.horn.proofs.Counts.{item_count, few_items}
+use Rattle.goals.specs.Below.horn.proofs.Counts.{few_items}
 use Rattle.goals.specs.Below.words.specs.Parts.{cleared}
 use Rattle.goals.specs.Below.lex.specs.Answers.{start}
-use Rattle.goals.specs.Below.lex.specs.declared.Reader.{Reader}
-use Rattle.goals.specs.Below.outcomes.specs.Outcomes.{Outcome}
-use Rattle.goals.specs.Below.outcomes.specs.Leaving as leaving
-use Rattle.goals.specs.Below.outcomes.specs.Leaving.{◌leaving◌}
-use Rattle.goals.specs.Below.outcomes.specs.Simulation.{Simulates, refuse, leave, bind}
+use Rattle.goals.specs.Below.outcomes.specs.Simulation.{Simulates, leave, bind}
 use Rattle.terms_laws.specs.Below.theory_laws.specs.Representation.{Entries, Holds}
 use Rattle.goals.specs.Below.theory_reading.proofs.Stored.{Longer, Stored, Means}
 use Rattle.goals.specs.Below.capacity.proofs.Rooms.{roomy_01}
-use Rattle.goals.specs.Below.tables.specs.declared.Tally.{Tally}
 use Rattle.goals.specs.Below.tables.specs.Words.{goal_buckets, none_yet}
-use Rattle.goals.specs.Below.tables.specs.Phases.{Gathering}
 use Rattle.goals.specs.Below.tables.proofs.Laws.{none_left}
 use Rattle.goals.specs.Below.tables.proofs.Phases.{first_goal}
-use Rattle.goals.specs.Below.asking.specs.Asking.{Top}
-use Rattle.terms_laws.specs.Below.asking_laws.proofs.Places.{RestComes, Any, At, at_start}
-use Rattle.terms_laws.specs.Below.asking_laws.proofs.Asking.{FormMet, form_over, form_bad, form_closing, form_atom, form_list, form_law}
+use Rattle.terms_laws.specs.Below.asking_laws.proofs.Places.{at_start}
 use Rattle.goals.specs.Below.nodes.specs.Limits.{index_places, def_buckets}
 use Rattle.terms_laws.proofs.Judgments.{lifted}
 use Rattle.goals.specs.Goals as walk
 use Rattle.goals.specs.Goals.{Gathered}
 use Rattle.terms_laws.proofs.Following.{tested}
-use Rattle.goals_laws.proofs.Goal.{goal_law}
 use Rattle.goals_laws.proofs.Goals.{GoalsRead, goals_law}
 
 module _ {rules heap : List ℕ} {es : Entries} {bound : ℕ} {th : Theory} (h : Holds rules heap es bound th) (goals_text certificate : List ℕ)

@@ -1,5 +1,5 @@
 -- The next item of a list that was read whole before, and what is due there.
-use Rattle.std.specs.Prelude.{ℕ, Bool, true, false, not, List, eqb, get_or, set}
+use Rattle.std.specs.Prelude.{ℕ, Bool, not, List, eqb, get_or, set}
 use Rattle.words.specs.Sums.{sum32}
 use Rattle.lex.specs.Answers as lex
 use Rattle.lex.specs.Answers.{Answer, taken}

@@ -1,10 +1,9 @@
 -- What a reader answers.
-use Rattle.std.specs.Prelude.{ℕ, zero, suc, ◌+◌, Bool, true, false, List, eqb, ltb, leb, length, drop}
+use Rattle.std.specs.Prelude.{ℕ, zero, suc, ◌+◌, true, false, List, eqb, leb, length, drop}
 use Rattle.utf8.specs.Below.horn.specs.Refusals.{number, not_utf8}
 use Rattle.utf8.specs.Classes.{is_ordinary, is_opening, is_closing}
 use Rattle.utf8.specs.Characters.{first, width, kind_at}
 use Rattle.scanning.specs.Scan.{blanks, atom_end, line_end}
-use Rattle.scanning.specs.declared.Line.{Line}
 use Rattle.scanning.specs.declared.Line.TheVariants as lines
 use Rattle.lex.specs.declared.Token.{Token}
 use Rattle.lex.specs.declared.Token.TheVariants.{Opening, Closing, Atom}

@@ -1,5 +1,5 @@
 -- A reader lent as words.
-use Rattle.std.specs.Prelude.{ℕ, Bool, true, false, List, eqb, get_or}
+use Rattle.std.specs.Prelude.{ℕ, true, false, List, eqb, get_or}
 use Rattle.lex.specs.Answers.{after}
 use Rattle.lex.specs.declared.Token.TheVariants.{Opening, Closing, Atom}
 use Rattle.lex.specs.declared.Ahead.TheVariants.{Nothing, Held}

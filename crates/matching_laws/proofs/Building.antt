@@ -22,7 +22,6 @@ use Rattle.nodes.specs.Below.arena.proofs.Copies.{words_at-part}
 use Rattle.nodes.specs.Below.arena.proofs.Limits.{Limits}
 use Rattle.nodes.specs.Below.arena.proofs.Trees as trees
 use Rattle.nodes.specs.Below.arena.proofs.Trees.{tree_of, lookups, Below, formed}
-use Rattle.concluding.specs.Below.outcomes.specs.Leaving as leaving
 use Rattle.concluding.specs.Below.outcomes.specs.Leaving.{Did, ◌leaving◌}
 use Rattle.numerals.specs.Below.words.specs.Sums.{sum32}
 use Rattle.nodes.specs.Below.items.specs.Places as layout

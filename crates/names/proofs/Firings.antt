@@ -2,12 +2,12 @@
 use Prim.Native.Nat.{ℕ}
 use mathlib.Core.Path.{◌≡◌, refl}
 use mathlib.Core.List.{List, [], ◌∷◌}
-use mathlib.Core.Option.{Option, none, some}
+use mathlib.Core.Option.{none, some}
 use native.Mathlib.Omega.{arith}
 use lib.ListN.{length, replicate, get_or-replicate}
 use Rattle.words.specs.Parts.{part, same_bytes}
 use Rattle.names.specs.Chains.{hashed_all, hash_of, bucket_of, name_at, before, searched, chased, found, linked, added}
-use Rattle.names.specs.Tables.{Entry, entry, top, Table}
+use Rattle.names.specs.Tables.{entry, top, Table}
 use Rattle.names.proofs.Kept.{empty_table, add_law, kept_added_above, length-added}
 
 -- The text `ab`, and a bucket for each of two tables in front of the entries.

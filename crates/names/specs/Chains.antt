@@ -1,6 +1,6 @@
 -- What each function answers and leaves, for any words. An entry at address e: the words at e and e + 1 are the bounds of its
 -- name in a text, the word at e + 2 is the address of the last entry before it in its bucket.
-use Rattle.std.specs.Prelude.{ℕ, zero, suc, ◌+◌, ◌*◌, ◌%◌, Bool, true, false, List, [], ◌∷◌, eqb, ltb, get_or, set}
+use Rattle.std.specs.Prelude.{ℕ, zero, suc, ◌+◌, ◌*◌, ◌%◌, true, false, List, [], ◌∷◌, eqb, ltb, get_or, set}
 use Rattle.std.proofs.Math.Option.{Option, none, some}
 use Rattle.words.specs.Parts.{part, same_bytes}
 use Rattle.words.specs.Sums.{low32}

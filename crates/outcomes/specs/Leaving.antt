@@ -1,5 +1,4 @@
 -- What a function answers and what it leaves in the areas that it was lent, refused or not.
-use Rattle.std.specs.Prelude.{ℕ}
 use Rattle.outcomes.specs.Outcomes.{Outcome, ok, refused}
 
 pub data Did (S A : Type 0) : Type 0 where

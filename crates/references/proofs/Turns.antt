@@ -7,7 +7,7 @@ use lib.ListN.{set}
 use Rattle.lex.specs.declared.Reader.{Reader}
 use Rattle.names.specs.Below.words.specs.Sums.{sum32}
 use Rattle.numerals.specs.Numbers.{saturated}
-use Rattle.outcomes.specs.Outcomes.{Outcome, ok, refused}
+use Rattle.outcomes.specs.Outcomes.{ok, refused}
 use Rattle.outcomes.specs.Leaving.{◌leaving◌}
 use Rattle.asking.specs.Asking.{in_list, closing, member, closing_next}
 use Rattle.references.specs.References.{number_due, references_from}

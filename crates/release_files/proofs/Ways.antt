@@ -1,11 +1,11 @@
 -- The ways through the answer on three files. Assumes nothing.
 use Prim.Native.Nat.{ℕ}
-use mathlib.Core.Path.{◌≡◌, refl, sym, ap, ◌∙◌}
+use mathlib.Core.Path.{◌≡◌, refl, ap, ◌∙◌}
 use mathlib.Core.List.{List}
 use lib.ListN.{length}
 use Rattle.horn.specs.Refusals.{number}
 use Rattle.horn.specs.Setting.{document01}
-use Rattle.horn.specs.Calls.{Report, Called, report, called, leaving, release_call, release_left}
+use Rattle.horn.specs.Calls.{Report, report, called, leaving, release_call, release_left}
 use Rattle.words.specs.Parts.{part}
 use Rattle.release_files.specs.declared.File.{File}
 use Rattle.release_files.specs.declared.File.TheVariants.{Read, NotOpened}

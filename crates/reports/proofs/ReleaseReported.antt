@@ -4,7 +4,7 @@ use mathlib.Core.Path.{◌≡◌, sym, ap}
 use mathlib.Core.List.{List}
 use native.Mathlib.Omega.{arith}
 use lib.ListN.{length}
-use Rattle.checker_laws.specs.Below.horn.specs.Refusals.{number, Result, ok, ◌>>=◌}
+use Rattle.checker_laws.specs.Below.horn.specs.Refusals.{Result, ok, ◌>>=◌}
 use Rattle.checker_laws.specs.Below.horn.specs.Setting.{document01}
 use Rattle.checker_laws.specs.Below.horn.specs.StoredTerms.{empty_store}
 use Rattle.checker_laws.specs.Below.horn.specs.Calls as calls

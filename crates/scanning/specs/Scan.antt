@@ -1,6 +1,6 @@
 -- Where the parts of a text end: white space and comments, an atom, a line. A step goes over one character; `fuel` is a
 -- bound on the steps, and any that is not less than what is left of the text gives the same.
-use Rattle.std.specs.Prelude.{ℕ, zero, suc, ◌+◌, Bool, true, false, List, eqb, ltb, length, get_or, drop}
+use Rattle.std.specs.Prelude.{ℕ, zero, suc, ◌+◌, true, false, List, eqb, ltb, length, get_or, drop}
 use Rattle.utf8.specs.Classes.{is_ordinary, is_white, is_comment}
 use Rattle.utf8.specs.Characters.{first, width, kind_at}
 use Rattle.scanning.specs.declared.Line.{Line}

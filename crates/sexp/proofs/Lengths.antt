@@ -1,5 +1,5 @@
 -- The first walk leaves as many words as it was lent. Assumes nothing.
-use Rattle.std.proofs.Common.{◌≡◌, ℕ, zero, suc, ◌+◌, true, false, eqb, ltb, List, length, set, refl, ◌∙◌, length-set}
+use Rattle.std.proofs.Common.{◌≡◌, ℕ, zero, suc, ◌+◌, eqb, ltb, List, length, set, refl, ◌∙◌, length-set}
 use Rattle.lex.specs.Below.horn.proofs.Post.{either}
 use Rattle.lex.specs.Answers as lexed
 use Rattle.lex.specs.declared.Token.{Token}

@@ -1,5 +1,5 @@
 -- The walk over a reader that stands before some tokens answers as the counting over these tokens.
-use Rattle.std.proofs.Common.{◌≡◌, ℕ, zero, suc, ◌+◌, ◌-◌, ◌<◌, ◌≤◌, leb, List, [], ◌∷◌, ◌++◌, length, take, sym, refl, ap, ◌∙◌, subst, ap₂, arith, le-leb, leb-false, leb-true}
+use Rattle.std.proofs.Common.{◌≡◌, ℕ, zero, suc, ◌<◌, ◌≤◌, leb, List, [], ◌∷◌, ◌++◌, length, take, sym, refl, ap, ◌∙◌, subst, ap₂, arith, le-leb, leb-false, leb-true}
 use borrow.Author.Tests.{lt-leb}
 use Rattle.lex.specs.Below.horn.specs.Refusals.{Refusal, number, not_utf8, nesting, text_ends, stray_closing, Result, ok, ◌>>=◌, need}
 use Rattle.lex.specs.Below.horn.specs.Refusals as refusals

@@ -1,5 +1,5 @@
 -- A rulebook that is read whole: its tokens are its nested lists written out, and it has no more lists than bytes.
-use Rattle.std.proofs.Common.{◌≡◌, ℕ, zero, ◌+◌, ◌≤◌, List, [], ◌∷◌, length, ap, ◌∙◌, arith}
+use Rattle.std.proofs.Common.{◌≡◌, ℕ, zero, ◌+◌, ◌≤◌, List, [], length, ap, ◌∙◌, arith}
 use Rattle.lex.specs.Below.horn.specs.Refusals.{ok}
 use Rattle.lex.specs.Below.horn.specs.Tokens.{Stream, end, ◌▹◌, Token, closing, tokens}
 use Rattle.lex.specs.Below.horn.specs.NestedLists.{items, sexps, Sexp, leaf, list, Sexps, []ₛ, ◌∷ₛ◌}

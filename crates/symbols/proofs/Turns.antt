@@ -1,10 +1,10 @@
 -- One turn of the loop over inputs, on the side of the models.
-use Prim.Native.Nat.{ℕ, zero, suc, ◌+◌, ◌-◌, ◌<◌, ◌≤◌}
+use Prim.Native.Nat.{ℕ, zero, suc, ◌-◌, ◌<◌, ◌≤◌}
 use mathlib.Core.Path.{◌≡◌, refl}
 use mathlib.Core.List.{List}
 use native.Mathlib.Omega.{arith}
-use Rattle.outcomes.specs.Outcomes.{Outcome, ok, refused}
-use Rattle.outcomes.specs.Leaving.{Did, ◌leaving◌}
+use Rattle.outcomes.specs.Outcomes.{ok, refused}
+use Rattle.outcomes.specs.Leaving.{◌leaving◌}
 use Rattle.items.specs.Items.{pushed, closing_due}
 use Rattle.items.specs.declared.Walk.{Walk}
 use Rattle.symbols.specs.Symbols.{sort_named, inputs}

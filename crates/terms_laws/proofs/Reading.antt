@@ -1,50 +1,27 @@
 -- Terms and their arguments, at a text that the stack has room for. Assumes nothing.
-use Prim.Native.Nat.{ℕ, zero, suc, ◌+◌, ◌*◌, ◌-◌, ◌≤◌, ◌<◌}
-use mathlib.Core.Path.{◌≡◌, refl, ap₂, sym, ◌∙◌}
-use mathlib.Core.Bool.{false, not}
-use mathlib.Core.List.{List, [], ◌∷◌}
+use Prim.Native.Nat.{ℕ, ◌+◌, ◌*◌, ◌≤◌}
+use mathlib.Core.Path.{◌≡◌}
+use mathlib.Core.List.{List}
 use native.Mathlib.Omega.{arith}
-use borrow.Author.Tests.{eq-eqb, ne_eqb}
-use lib.Dec.{eqb}
-use lib.ListN.{length, set, length-set}
-use lib.Seq.{get_or-set_same}
-use Rattle.asking_laws.specs.Below.horn.specs.Refusals as refusals
-use Rattle.asking_laws.specs.Below.horn.specs.Refusals.{Refusal, Result, number, not_utf8, nesting, text_ends, stray_closing, atom_or_list, bracketed_constant}
+use lib.ListN.{length}
 use Rattle.asking_laws.specs.Below.horn.specs.Setting.{document01}
-use Rattle.asking_laws.specs.Below.horn.specs.Names.{Name, is_zero}
 use Rattle.asking_laws.specs.Below.horn.specs.Tokens.{Stream, Token}
-use Rattle.asking_laws.specs.Below.horn.specs.NestedLists.{Item, word, group, Items, closed, ended, bad_line, ◌then◌, asked_at, absent}
-use Rattle.asking_laws.specs.Below.horn.specs.Rulebook.{Symbol, Theory, constructor}
-use Rattle.asking_laws.specs.Below.horn.specs.StoredTerms.{Term, Terms, []ₜ, ◌∷ₜ◌, width, Store}
+use Rattle.asking_laws.specs.Below.horn.specs.NestedLists.{Item, Items}
+use Rattle.asking_laws.specs.Below.horn.specs.Rulebook.{Symbol, Theory}
+use Rattle.asking_laws.specs.Below.horn.specs.StoredTerms.{Terms, Store}
 use Rattle.asking_laws.specs.Below.horn.specs.Checker as definition
 use Rattle.asking_laws.specs.Below.horn.specs.Checker.{Def}
 use Rattle.judgments.specs.Below.lex.specs.declared.Reader.{Reader}
-use Rattle.judgments.specs.Below.arena.proofs.Trees.{Below, both, lookups}
-use Rattle.judgments.specs.Below.arena.proofs.Trees as trees
-use Rattle.judgments.specs.Below.outcomes.specs.Outcomes as outcomes
-use Rattle.judgments.specs.Below.outcomes.specs.Outcomes.{Outcome}
-use Rattle.judgments.specs.Below.outcomes.specs.Leaving as leaving
-use Rattle.judgments.specs.Below.outcomes.specs.Leaving.{Did, ◌leaving◌}
-use Rattle.judgments.specs.Below.words.specs.Sums.{sum32}
-use Rattle.judgments.specs.Below.outcomes.specs.Simulation.{Answers, both_refuse, both_ok, Simulates, refuse, leave, bind, after, weaker}
+use Rattle.judgments.specs.Below.outcomes.specs.Simulation.{Simulates}
 use Rattle.asking_laws.specs.Below.theory_laws.specs.Representation.{Entries, SymbolAt, Holds}
-use Rattle.judgments.specs.Below.words.proofs.Sums.{sum_small}
-use Rattle.asking_laws.specs.Below.theory_laws.proofs.Frames.{Keeps, keeps_all, keeps_less, keeps_then, keeps_set}
-use Rattle.judgments.specs.Below.theory_reading.specs.Addresses.{symbol_at}
-use Rattle.judgments.specs.Below.theory_reading.proofs.Stored.{Longer, longer_none, longer_then, longer_length, longer_tree, Stored, Means}
+use Rattle.judgments.specs.Below.theory_reading.proofs.Stored.{Means}
 use Rattle.judgments.specs.Below.tables.specs.Representation.{Defs}
-use Rattle.asking_laws.specs.Below.asking.specs.Asking as asked
-use Rattle.asking_laws.proofs.Places.{RestComes, At, at_less, at_within}
-use Rattle.asking_laws.proofs.Asking.{ItemMet, atom_met, list_met, item_law, WordMet, word_met, word_law, Looked, look_closed, look_bad, look_ended, look_item}
-use Rattle.asking_laws.proofs.Asking.{look_law}
-use Rattle.judgments.specs.Below.terms.specs.Terms as walk
+use Rattle.asking_laws.proofs.Places.{At}
 use Rattle.judgments.specs.Below.theory_reading.specs.Storing.{Areas}
-use Rattle.judgments.specs.Below.nodes.specs.Nodes.{make, constructor_due, head_due}
-use Rattle.judgments.specs.Below.nodes.specs.Limits.{index_places, def_buckets}
+use Rattle.judgments.specs.Below.nodes.specs.Nodes.{make}
+use Rattle.judgments.specs.Below.nodes.specs.Limits.{def_buckets}
 pub use Rattle.terms_laws.proofs.Asked.{asked_then, asked_no, asked_yes}
-use Rattle.terms_laws.proofs.Rows.{Row, no_words, one_word}
-use Rattle.terms_laws.proofs.Making.{TermRead, make_law}
-use Rattle.terms_laws.proofs.Atoms.{SymbolMet, symbol_met, constructor_law, atom_law}
+use Rattle.terms_laws.proofs.Making.{TermRead}
 pub use Rattle.terms_laws.proofs.Walked.{Ready, ArgumentsRead, TermLaw, CompoundLaw, ArgumentsLaw}
 use Rattle.terms_laws.proofs.Walked as walked
 

@@ -1,12 +1,10 @@
 -- All declarations of a rulebook: what each function answers, and what it leaves of the variables and of the theory.
-use Rattle.std.specs.Prelude.{ℕ, zero, suc, ◌+◌, ◌/◌, Bool, true, false, ◌&&◌, List, [], ◌∷◌, eqb, length}
+use Rattle.std.specs.Prelude.{ℕ, zero, suc, ◌+◌, ◌/◌, Bool, true, false, List, [], ◌∷◌, eqb, length}
 use Rattle.lex.specs.Answers as lex
 use Rattle.lex.specs.Answers.{Answer, peeked, start}
-use Rattle.lex.specs.declared.Reader.{Reader}
 use Rattle.words.specs.Parts.{part, same_bytes}
 use Rattle.items.specs.Places as places
 use Rattle.outcomes.specs.Outcomes.{Outcome, ok, refused, pick}
-use Rattle.outcomes.specs.Outcomes as outcomes
 use Rattle.outcomes.specs.Leaving.{Did, ◌leaving◌, ◌>>=◌, beside}
 use Rattle.words.specs.Sums.{sum32}
 use Rattle.items.specs.Items.{read_on, list_due, head_due}

@@ -4,7 +4,7 @@ use Rattle.words.specs.Parts.{cleared}
 use Rattle.sexp.specs.Walk as sexp
 use Rattle.sexp.specs.Walk.{walked}
 use Rattle.items.specs.Places as places
-use Rattle.outcomes.specs.Outcomes.{Outcome, ok, refused}
+use Rattle.outcomes.specs.Outcomes.{refused}
 use Rattle.outcomes.specs.Leaving.{Did, ◌leaving◌}
 use Rattle.rules.specs.Below.variables.specs.Variables.{Areas}
 use Rattle.theory.specs.Declarations.{declarations}

@@ -16,7 +16,7 @@ use Rattle.theory.specs.Below.lex.specs.declared.Reader.{Reader}
 use Rattle.theory.specs.Below.sexp.specs.Flattening.{flat_one, flat, counts_one, counts_all}
 use Rattle.theory.specs.Below.outcomes.specs.Outcomes as outcomes
 use Rattle.theory.specs.Below.items.specs.Places as places
-use Rattle.theory.specs.Below.items.specs.Items.{read_on, opened_one, list_due, head_due}
+use Rattle.theory.specs.Below.items.specs.Items.{read_on, opened_one, head_due}
 use Rattle.theory.specs.Below.variables.specs.Variables.{Areas}
 use Rattle.theory.specs.Below.items.specs.declared.Walk.{Walk}
 use Rattle.theory.specs.Declarations as walk

@@ -5,7 +5,7 @@ use mathlib.Core.List.{List, ◌∷◌}
 use Prim.Native.Nat.{ℕ, suc, ◌+◌, ◌≤◌}
 use native.Mathlib.Omega.{arith}
 use lib.ListN.{length}
-use Rattle.capacity.specs.Below.horn.specs.Refusals.{number, ok, refused, ◌>>=◌, sort_arity}
+use Rattle.capacity.specs.Below.horn.specs.Refusals.{number, ◌>>=◌, sort_arity}
 use Rattle.capacity.specs.Below.horn.specs.Names.{Name}
 use Rattle.capacity.specs.Below.horn.specs.Tokens.{Stream, ◌▹◌, Token, closing, atom}
 use Rattle.capacity.specs.Below.horn.specs.NestedLists.{Sexp, leaf, list, Sexps, []ₛ, ◌∷ₛ◌}

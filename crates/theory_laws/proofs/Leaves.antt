@@ -19,7 +19,6 @@ use Rattle.capacity.specs.Below.horn.specs.Rulebook as definition
 use Rattle.capacity.specs.Below.horn.specs.Rulebook.{Output, sort, same_output, Symbol, Variable, variable, Pattern, var, app, []ₚ, is_variable, is_constructor, Theory, fits}
 use Rattle.capacity.specs.Below.horn.proofs.Equality.{case, chose_true, chose_false}
 use Rattle.theory.specs.Below.words.specs.Parts.{part}
-use Rattle.theory.specs.Below.names.specs.Chains.{found}
 use Rattle.theory.specs.Below.names.specs.Tables.{Entry, Agree, both_none, both_some}
 use Rattle.theory.specs.Below.names.proofs.Declared.{find_agrees}
 use Rattle.theory.specs.Below.names.proofs.Holds.{by_number}

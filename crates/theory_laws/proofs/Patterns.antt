@@ -8,7 +8,7 @@ use native.Mathlib.Omega.{arith}
 use borrow.Author.Tests.{eqb-true, ne_eqb}
 use lib.Dec.{eqb}
 use lib.ListN.{length, get_or, set}
-use Rattle.capacity.specs.Below.horn.specs.Refusals.{number, ok, refused, need, ◌>>=◌, sort_arity, bracketed_constant}
+use Rattle.capacity.specs.Below.horn.specs.Refusals.{number, ok, need, ◌>>=◌, sort_arity, bracketed_constant}
 use Rattle.capacity.specs.Below.horn.specs.Names.{Name, is_zero}
 use Rattle.capacity.specs.Below.horn.specs.Tokens.{Stream, ◌▹◌, Token, opening, closing, atom}
 use Rattle.capacity.specs.Below.horn.specs.NestedLists.{Sexp, leaf, list, Sexps, []ₛ, ◌∷ₛ◌}

@@ -25,7 +25,7 @@ use Rattle.theory.specs.Below.outcomes.specs.Outcomes as outcomes
 use Rattle.theory.specs.Below.outcomes.specs.Leaving.{beside}
 use Rattle.theory.specs.Below.words.specs.Sums.{sum32}
 use Rattle.theory.specs.Below.items.specs.Places as places
-use Rattle.theory.specs.Below.items.specs.Items.{read_on, opened_one, with_top, list_due}
+use Rattle.theory.specs.Below.items.specs.Items.{read_on, opened_one, with_top}
 use Rattle.theory.specs.Below.variables.specs.Variables.{Areas}
 use Rattle.theory.specs.Below.items.specs.declared.Walk.{Walk}
 use Rattle.theory.specs.Below.symbols.specs.Symbols.{entered}

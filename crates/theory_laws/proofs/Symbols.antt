@@ -26,7 +26,7 @@ use Rattle.theory.specs.Below.outcomes.specs.Leaving as leaving
 use Rattle.theory.specs.Below.outcomes.specs.Leaving.{◌leaving◌}
 use Rattle.theory.specs.Below.words.specs.Sums.{sum32}
 use Rattle.theory.specs.Below.items.specs.Places as places
-use Rattle.theory.specs.Below.items.specs.Items.{read_on, opened_one, with_top, declared_name, list_due, closing_due}
+use Rattle.theory.specs.Below.items.specs.Items.{read_on, opened_one, with_top, list_due, closing_due}
 use Rattle.theory.specs.Below.items.specs.declared.Walk.{Walk}
 use Rattle.theory.specs.Below.symbols.specs.Symbols.{reserved, sort_named, entered, described, sort_declared, inputs, signature, symbol_entered, constructor_declared}
 use Rattle.theory.specs.Below.symbols.specs.Symbols.{predicate_declared}

@@ -6,7 +6,7 @@ use mathlib.Core.List.{List, [], ◌∷◌}
 use Prim.Native.Nat.{ℕ, ◌+◌, ◌/◌, ◌≤◌}
 use native.Mathlib.Omega.{arith}
 use lib.ListN.{length, take}
-use Rattle.capacity.specs.Below.horn.specs.Refusals.{number, Result, ok, refused, ◌>>=◌}
+use Rattle.capacity.specs.Below.horn.specs.Refusals.{number, Result, ok, ◌>>=◌}
 use Rattle.capacity.specs.Below.horn.specs.Tokens.{end, tokens}
 use Rattle.capacity.specs.Below.horn.specs.NestedLists.{items, sexps, Sexps}
 use Rattle.capacity.specs.Below.horn.specs.Rulebook as definition

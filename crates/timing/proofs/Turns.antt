@@ -2,9 +2,8 @@
 use mathlib.Core.Path.{◌≡◌, refl}
 use mathlib.Core.List.{List}
 use Prim.Native.Nat.{ℕ, zero, suc, ◌+◌, ◌-◌, ◌<◌, ◌≤◌}
-use native.Mathlib.Nat.{sub-zero, suc-sub-suc}
 use native.Mathlib.Omega.{arith}
-use Rattle.lex.specs.Answers.{Answer, token, ended, refused, taken}
+use Rattle.lex.specs.Answers.{token, ended, refused, taken}
 use Rattle.lex.specs.declared.Token.{Token}
 use Rattle.lex.specs.declared.Reader.{Reader}
 use Rattle.timing.specs.Count.{counted}

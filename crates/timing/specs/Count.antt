@@ -1,6 +1,6 @@
 -- The number of tokens that a reader takes, at most `fuel` of them.
 use Rattle.std.specs.Prelude.{ℕ, zero, suc, ◌+◌, List}
-use Rattle.lex.specs.Answers.{Answer, token, ended, refused, taken}
+use Rattle.lex.specs.Answers.{token, ended, refused, taken}
 use Rattle.lex.specs.declared.Reader.{Reader}
 
 unfoldable pub counted : ℕ → List ℕ → Reader → ℕ → ℕ

@@ -3,6 +3,7 @@
 #![tactic(auto)]
 
 const STDIN_FILENO: i32 = 0;
+
 const STDOUT_FILENO: i32 = 1;
 
 // Where the line that starts at `p` ends.

@@ -2,14 +2,14 @@
 -- Assumes nothing.
 use mathlib.Core.Path.{◌≡◌, subst, sym}
 use mathlib.Core.Bool.{Bool, true, false, ◌&&◌}
-use mathlib.Core.List.{List, [], ◌∷◌}
+use mathlib.Core.List.{[], ◌∷◌}
 use mathlib.Core.Option.{Option, none, some}
 use Prim.Native.Nat.{ℕ, zero, suc, ◌*◌, ◌-◌, ◌/◌, ◌%◌, ◌^◌, ◌<◌}
 use native.Mathlib.Nat.{not-suc-le-zero}
 use native.Mathlib.Omega.{arith}
 use lib.Dec.{T, eqb, ltb, eqb→eq, ltb→lt}
 use lib.ListN.{get_or}
-use Rattle.horn.specs.Utf8.{Range, range, within, Sequence, sequence, sequences, started_by, tail}
+use Rattle.horn.specs.Utf8.{range, within, Sequence, sequence, sequences, started_by, tail}
 use Rattle.horn.specs.Tokens.{kind, white, white_ranges, in_some}
 use Rattle.utf8.specs.Classes.{kind_number, never, leads_two, leads_ed, leads_f0, lead_number, class_of, low_of, high_of, rows}
 

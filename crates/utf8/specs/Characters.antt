@@ -1,7 +1,7 @@
 -- The first character of some bytes, by RFC 3629's grammar.
-use Rattle.std.specs.Prelude.{ℕ, suc, ◌+◌, ◌*◌, ◌-◌, ◌%◌, Bool, true, false, List, [], ◌∷◌, eqb, ltb, get_or}
-use Rattle.std.proofs.Math.Option.{Option, none, some}
-use Rattle.horn.specs.Utf8.{Range, within, Sequence, sequence, sequences, started_by}
+use Rattle.std.specs.Prelude.{ℕ, suc, ◌+◌, ◌*◌, ◌-◌, ◌%◌, true, false, List, [], ◌∷◌, eqb, ltb, get_or}
+use Rattle.std.proofs.Math.Option.{none, some}
+use Rattle.horn.specs.Utf8.{Range, within, sequence, sequences, started_by}
 use Rattle.horn.specs.Tokens.{kind}
 use Rattle.utf8.specs.Classes.{is_ordinary, kind_number, never, leads_two, leads_plain, leads_f0, low_of, high_of}
 

@@ -1,7 +1,7 @@
 -- "The first byte of a character is looked up in a table of 256 classes, one for each byte."
-use Rattle.std.specs.Prelude.{ℕ, Bool, true, false, List, [], ◌∷◌, eqb, length}
-use Rattle.std.proofs.Math.Option.{Option, none, some}
-use Rattle.horn.specs.Utf8.{Range, range, Sequence, sequence, sequences, started_by}
+use Rattle.std.specs.Prelude.{ℕ, true, false, List, [], ◌∷◌, eqb, length}
+use Rattle.std.proofs.Math.Option.{none, some}
+use Rattle.horn.specs.Utf8.{range, sequence, sequences, started_by}
 use Rattle.horn.specs.Tokens.{Kind, blank, opens, closes, comments, ordinary, kind}
 
 -- The classes of bytes that are a character, which are also the kinds of all characters.

@@ -1,5 +1,5 @@
 -- Parts of lent words and bytes.
-use Rattle.std.specs.Prelude.{ℕ, zero, suc, ◌+◌, ◌-◌, Bool, true, false, List, [], ◌∷◌, set, ◌==◌, slice_index, slice_range, slice_set}
+use Rattle.std.specs.Prelude.{ℕ, zero, suc, ◌+◌, Bool, true, false, List, [], ◌∷◌, ◌==◌, slice_index, slice_range, slice_set}
 
 -- What stands from `start` up to `end`, as far as it is there.
 unfoldable pub part : ℕ → ℕ → List ℕ → List ℕ

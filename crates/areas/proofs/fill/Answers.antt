@@ -1,5 +1,4 @@
 use Rattle.std.proofs.Common.{sym, refl, ◌∙◌, rules}
-use Rattle.areas.specs.Filling.{filled}
 use Rattle.areas.proofs.Turns.{filled_more, filled_end}
 use Rattle.areas.proofs.fill.Goals as goal
 

@@ -1,5 +1,5 @@
 use Rattle.std.proofs.Common.{sym, refl, ◌∙◌, rules}
-use Rattle.areas.specs.Filling.{held, area_held}
+use Rattle.areas.specs.Filling.{area_held}
 use Rattle.areas.proofs.Turns.{held_on, held_off, held_end}
 use Rattle.areas.proofs.holds.Goals as goal
 

@@ -1,5 +1,4 @@
 use mathlib.Core.Path.{refl, sym, ◌∙◌}
-use Rattle.buffers.specs.Filling.{filled}
 use Rattle.buffers.proofs.Turns.{filled_more, filled_end}
 use borrow.Author.Rules.{rules}
 use Rattle.buffers.proofs.fill.Goals as goal

@@ -1,5 +1,5 @@
 use mathlib.Core.Path.{refl, sym, ◌∙◌}
-use Rattle.buffers.specs.Filling.{held, buffer_held}
+use Rattle.buffers.specs.Filling.{buffer_held}
 use Rattle.buffers.proofs.Turns.{held_on, held_off, held_end}
 use borrow.Author.Rules.{rules}
 use Rattle.buffers.proofs.holds.Goals as goal

@@ -1,8 +1,7 @@
-use mathlib.Core.Path.{◌≡◌, ap}
+use mathlib.Core.Path.{◌≡◌}
 use Prim.Native.Nat.{◌+◌}
 use lib.ListN.{length}
 use Rattle.certificates.specs.Certificates.{forms_from}
-use borrow.Author.Rules.{rules}
 use Rattle.certificates.proofs.all_forms.Given as goal
 
 abbrev pub invariant-loop-fuel : goal.invariant-loop-fuel

@@ -1,4 +1,3 @@
-use Prim.Native.Nat.{◌-◌}
 use mathlib.Core.Path.{sym, ◌∙◌, refl}
 use Rattle.concluding.proofs.Turns.{premises_first, premises_on, premise_differs, no_step, premises_end}
 use borrow.Author.Rules.{rules}

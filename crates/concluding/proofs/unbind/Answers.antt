@@ -1,5 +1,4 @@
 use mathlib.Core.Path.{refl, sym, ◌∙◌}
-use Rattle.concluding.specs.Concluding.{unbound}
 use Rattle.concluding.proofs.Turns.{unbound_on, unbound_end}
 use Rattle.concluding.proofs.unbind.Goals as goal
 

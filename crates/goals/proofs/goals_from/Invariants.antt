@@ -1,7 +1,6 @@
-use mathlib.Core.Path.{◌≡◌, ap}
+use mathlib.Core.Path.{◌≡◌}
 use lib.ListN.{length}
 use Rattle.goals.specs.Goals.{goals_from}
-use borrow.Author.Rules.{rules}
 use Rattle.goals.proofs.goals_from.Given as goal
 
 abbrev pub invariant-loop-fuel : goal.invariant-loop-fuel

@@ -1,7 +1,6 @@
 use Rattle.lex.proofs.Answering.{line_bounds, scan_ended, scan_bad, scan_on, scan_token}
 use Rattle.lex.specs.Answers.{found, scanned}
 use lib.ListN.{length}
-use Prim.Native.Nat.{◌-◌}
 use native.Mathlib.Omega.{arith}
 use mathlib.Core.Path.{◌∙◌, sym}
 use Rattle.lex.proofs.scan.Goals as goal

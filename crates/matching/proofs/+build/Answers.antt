@@ -3,7 +3,6 @@ use borrow.Author.Tests.{le-leb, lt-leb}
 use Rattle.matching.specs.Matching.{term_built}
 use Rattle.matching.proofs.Turns.{built_within, building_first, building_on, building_refused, building_end}
 use borrow.Author.Rules.{rules}
-use Prim.Native.Nat.{◌-◌}
 use Rattle.matching.proofs.+build.Goals as goal
 
 pub returns-then-left-eq0 : goal.returns-then-left-eq0

@@ -3,7 +3,6 @@ use borrow.Author.Tests.{le-leb, lt-leb, eq-eqb, ne_eqb}
 use Rattle.matching.specs.Matching.{variable_matched, matched}
 use Rattle.matching.proofs.Turns.{matched_within, arguments_first, arguments_on, argument_differs, arguments_end}
 use borrow.Author.Rules.{rules}
-use Prim.Native.Nat.{◌-◌}
 use Rattle.matching.proofs.+matches.Goals as goal
 
 pub returns-then-left-eq0 : goal.returns-then-left-eq0

@@ -1,6 +1,5 @@
 use mathlib.Core.Path.{sym, ◌∙◌}
-use Rattle.words.specs.Parts.{part}
-use Rattle.names.specs.Chains.{found, chased}
+use Rattle.names.specs.Chains.{found}
 use Rattle.names.proofs.Turns.{before_falls, chased_here, chased_on, chased-none}
 use borrow.Author.Rules.{rules}
 use Rattle.names.proofs.find.Goals as goal

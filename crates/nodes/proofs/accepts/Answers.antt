@@ -1,6 +1,4 @@
-use Rattle.theory_reading.specs.Reading.{accepted}
 use mathlib.Core.Path.{sym, ◌∙◌}
-use Prim.Native.Nat.{◌-◌}
 use Rattle.nodes.proofs.Turns.{accepted_first, not_accepted, fit_on, not_fit, fit_end}
 use borrow.Author.Rules.{rules}
 use Rattle.nodes.proofs.accepts.Goals as goal

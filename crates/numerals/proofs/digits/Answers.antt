@@ -1,5 +1,4 @@
 use mathlib.Core.Path.{sym, ◌∙◌}
-use Prim.Native.Nat.{◌-◌}
 use Rattle.numerals.proofs.Turns.{digit_on, digit_low, digit_high, digit_over, digits_end, digits_none, digits_some, small_enough}
 use borrow.Author.Rules.{rules}
 use Rattle.numerals.proofs.digits.Goals as goal

@@ -1,5 +1,4 @@
 use borrow.Author.Rules.{rules}
-use Prim.Native.Nat.{◌-◌}
 use mathlib.Core.Path.{sym, ◌∙◌, refl}
 use Rattle.patterns.specs.Patterns as models
 use Rattle.patterns.proofs.Turns.{arguments_first, arguments_on, argument_refused, arguments_end, pattern-refused, pattern-whole, pattern-head, closing_taken}

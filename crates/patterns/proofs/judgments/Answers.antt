@@ -1,5 +1,4 @@
 use mathlib.Core.Path.{refl, sym, ◌∙◌}
-use Rattle.patterns.specs.Patterns.{judgments}
 use Rattle.patterns.proofs.Turns.{judgments_on, judgment-refused, judgments_end}
 use Rattle.patterns.proofs.judgments.Goals as goal
 

@@ -1,7 +1,7 @@
 use Prim.Native.Nat.{◌+◌}
 use mathlib.Core.Path.{◌≡◌}
 use lib.ListN.{length}
-use Rattle.references.specs.References.{references_from, references}
+use Rattle.references.specs.References.{references_from}
 use Rattle.references.proofs.references.Given as goal
 
 abbrev pub invariant-loop-fuel : goal.invariant-loop-fuel

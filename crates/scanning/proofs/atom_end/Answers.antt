@@ -5,7 +5,6 @@ use Rattle.utf8.specs.Characters.{width, kind_at}
 use lib.ListN.{length}
 use native.Mathlib.Omega.{arith}
 use mathlib.Core.Path.{◌∙◌, refl, sym, ap}
-use Prim.Native.Nat.{◌-◌}
 use borrow.Author.Rules.{rules}
 use Rattle.scanning.proofs.atom_end.Goals as goal
 

@@ -4,7 +4,6 @@ use Rattle.scanning.proofs.Turns.{line_stop, line_bad, line_on, line_over}
 use lib.ListN.{length}
 use native.Mathlib.Omega.{arith}
 use mathlib.Core.Path.{◌∙◌, refl, sym}
-use Prim.Native.Nat.{◌-◌}
 use borrow.Author.Rules.{rules}
 use Rattle.scanning.proofs.line_end.Goals as goal
 

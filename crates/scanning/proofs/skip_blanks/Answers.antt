@@ -4,7 +4,6 @@ use Rattle.utf8.specs.Characters.{width, kind_at}
 use lib.ListN.{length}
 use native.Mathlib.Omega.{arith}
 use mathlib.Core.Path.{◌∙◌, refl, sym, ap}
-use Prim.Native.Nat.{◌-◌}
 use borrow.Author.Rules.{rules}
 use Rattle.scanning.proofs.skip_blanks.Goals as goal
 

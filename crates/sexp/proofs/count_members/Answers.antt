@@ -1,5 +1,5 @@
 use Rattle.std.proofs.Common.{refl, ◌∙◌, rules}
-use Rattle.sexp.specs.Walk.{walked, walk, walk_answer}
+use Rattle.sexp.specs.Walk.{walked, walk_answer}
 use Rattle.sexp.proofs.Turns.{walk_bad, walk_end, walk-refused, walk_on_lem, walk_out, parts}
 use Rattle.sexp.proofs.count_members.Goals as goal
 

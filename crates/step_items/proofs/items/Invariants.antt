@@ -1,8 +1,7 @@
 use Prim.Native.Nat.{◌+◌}
-use mathlib.Core.Path.{◌≡◌, ap}
+use mathlib.Core.Path.{◌≡◌}
 use lib.ListN.{length}
-use Rattle.step_items.specs.StepItems.{items_from, items}
-use borrow.Author.Rules.{rules}
+use Rattle.step_items.specs.StepItems.{items_from}
 use Rattle.step_items.proofs.items.Given as goal
 
 abbrev pub invariant-loop-fuel : goal.invariant-loop-fuel

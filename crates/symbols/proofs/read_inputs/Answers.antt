@@ -1,5 +1,4 @@
 use mathlib.Core.Path.{refl, sym, ◌∙◌}
-use Rattle.symbols.specs.Symbols.{inputs}
 use Rattle.symbols.proofs.Turns.{inputs_on, input_refused, inputs_end}
 use Rattle.symbols.proofs.read_inputs.Goals as goal
 

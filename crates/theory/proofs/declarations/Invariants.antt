@@ -1,6 +1,6 @@
 use lib.ListN.{length}
 use mathlib.Core.Path.{◌≡◌}
-use Rattle.theory.specs.Declarations.{declarations, declarations_from}
+use Rattle.theory.specs.Declarations.{declarations_from}
 use Rattle.theory.proofs.declarations.Given as goal
 
 abbrev pub invariant-loop-fuel : goal.invariant-loop-fuel

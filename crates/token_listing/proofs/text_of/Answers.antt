@@ -1,7 +1,5 @@
 use native.Mathlib.Omega.{arith}
 use lib.ListN.{length-set}
-use Prim.Native.Nat.{◌-◌}
-use lib.ListN.{length}
 use Rattle.token_listing.proofs.text_of.Goals as goal
 
 pub loop-len-preserved : goal.loop-len-preserved

@@ -1,6 +1,5 @@
 use mathlib.Core.Path.{refl, sym, ◌∙◌}
 use borrow.Author.Rules.{rules}
-use Rattle.used_steps.specs.Marks.{counted}
 use Rattle.used_steps.proofs.Turns.{counted_on, counted_past, counted_end}
 use Rattle.used_steps.proofs.count.Goals as goal
 

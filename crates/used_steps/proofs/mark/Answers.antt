@@ -1,6 +1,5 @@
 use mathlib.Core.Path.{refl, sym, ◌∙◌}
 use borrow.Author.Rules.{rules}
-use Rattle.used_steps.specs.Marks.{marked}
 use Rattle.used_steps.proofs.Turns.{marked_on, marked_end}
 use Rattle.used_steps.proofs.mark.Goals as goal
 

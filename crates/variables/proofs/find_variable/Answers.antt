@@ -1,7 +1,5 @@
 use mathlib.Core.Path.{sym, ◌∙◌}
-use Prim.Native.Nat.{◌-◌}
 use borrow.Author.Rules.{rules}
-use Rattle.words.specs.Parts.{part}
 use Rattle.variables.proofs.Turns.{variable_first, variable_compared, variable_here, variable_on, variable_nowhere}
 use Rattle.variables.proofs.find_variable.Goals as goal
 

@@ -1,5 +1,4 @@
-use Rattle.std.proofs.Common.{◌-◌, sym, ◌∙◌, rules}
-use Rattle.words.specs.Parts.{copied}
+use Rattle.std.proofs.Common.{sym, ◌∙◌, rules}
 use Rattle.words.proofs.Writing.{copy_first, copy_on, copy_end, copied_out}
 use Rattle.words.proofs.copy.Goals as goal
 

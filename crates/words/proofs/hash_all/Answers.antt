@@ -1,4 +1,4 @@
-use Rattle.std.proofs.Common.{◌-◌, sym, refl, ◌∙◌, rules}
+use Rattle.std.proofs.Common.{sym, refl, ◌∙◌, rules}
 use Rattle.words.specs.Hash.{hash}
 use Rattle.words.proofs.Laws.{hash_on, hash_end}
 use Rattle.words.proofs.hash_all.Goals as goal

@@ -1,5 +1,5 @@
 use Rattle.std.proofs.Common.{◌≡◌, ◌-◌, ◌≤◌, length, drop}
-use Rattle.words.specs.Hash.{hash, hashed, hashed_all}
+use Rattle.words.specs.Hash.{hashed_all}
 use Rattle.words.proofs.hash_all.Given as goal
 
 abbrev pub invariant-loop-i : goal.invariant-loop-i

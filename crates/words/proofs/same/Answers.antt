@@ -1,4 +1,4 @@
-use Rattle.std.proofs.Common.{◌-◌, length, sym, refl, ◌∙◌, rules}
+use Rattle.std.proofs.Common.{sym, refl, ◌∙◌, rules}
 use Rattle.words.proofs.Laws.{lengths_differ, same_on, same_off, same_end}
 use Rattle.words.proofs.same.Goals as goal
 

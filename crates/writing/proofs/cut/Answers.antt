@@ -1,7 +1,6 @@
 use native.Mathlib.Omega.{arith}
 use mathlib.Core.Path.{refl, sym, ap, ◌∙◌}
 use lib.ListN.{length}
-use Rattle.horn.specs.Output.{cut}
 use Rattle.writing.proofs.Turns.{cut_back, cut-length, cut_nothing}
 use Rattle.writing.proofs.cut.Goals as goal
 

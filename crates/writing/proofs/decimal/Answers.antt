@@ -1,8 +1,6 @@
 use native.Mathlib.Omega.{arith}
 use mathlib.Core.Path.{sym, ◌∙◌}
-use lib.ListN.{length}
 use borrow.Author.Rules.{rules}
-use Rattle.horn.specs.Layout.{plain}
 use Rattle.horn.proofs.Output.{plain_long, plain_short, length-plain_more}
 use Rattle.writing.proofs.Turns.{digits_first, digits_on, digits_end}
 use Rattle.writing.proofs.decimal.Goals as goal

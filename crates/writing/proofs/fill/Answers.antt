@@ -1,7 +1,5 @@
 use mathlib.Core.Path.{refl, sym, ◌∙◌}
 use borrow.Author.Rules.{rules}
-use Rattle.horn.specs.Output.{spaces}
-use Rattle.writing.specs.Buffer.{placed}
 use Rattle.writing.proofs.Placed.{placed_out}
 use Rattle.writing.proofs.Turns.{spaces_on, spaces_end}
 use Rattle.writing.proofs.fill.Goals as goal

@@ -1,7 +1,5 @@
-use Prim.Native.Nat.{◌-◌}
 use mathlib.Core.Path.{refl, sym, ◌∙◌}
 use borrow.Author.Rules.{rules}
-use Rattle.writing.specs.Buffer.{placed}
 use Rattle.writing.proofs.Placed.{placed_out}
 use Rattle.writing.proofs.Turns.{bytes_on, bytes_end}
 use Rattle.writing.proofs.put_bytes.Goals as goal

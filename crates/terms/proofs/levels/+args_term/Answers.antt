@@ -1,7 +1,6 @@
 use native.Mathlib.Omega.{arith}
 use borrow.Author.Tests.{eq-eqb, ne_eqb}
 use mathlib.Core.Path.{refl, sym, ◌∙◌}
-use Rattle.terms.specs.Terms as models
 use Rattle.terms.proofs.Within.{argument-begun, opened_within, arguments_then, arguments_on, arguments_none, arguments_bound, made, unmade}
 use Rattle.terms.proofs.levels.+args_term.Goals as goal
 

@@ -3,7 +3,6 @@ use lib.ListN.{length}
 use Rattle.terms.specs.Terms as models
 use Rattle.terms.specs.Terms.{arguments_from}
 use Rattle.lex.specs.Lent.{reader_in}
-use borrow.Author.Rules.{rules}
 use Prim.Native.Nat.{◌+◌, ◌*◌}
 use Rattle.terms.proofs.levels.+args_term.Given as goal
 
