@@ -1,6 +1,6 @@
 # alone NAME TREE EXPORTS CRATE..: these crates of a tree, with all that stand below one of them, in a repository of their own, with a crate NAME of
 # exports, so that no crate of the gate has them; SIDE in the exports is NAME, BITS is $bits. The repository is made outside this one, since rt ci
-# refuses a second crates.txt, and goes again; libNAME.a stays in target/bench/NAME. Wants $root and $out. In a subshell, so that its variables are its own.
+# refuses a second crates.txt, and goes again; libNAME.a stays in target/bench/NAME. Wants $root and $out. It runs in a subshell, so that its variables are its own.
 alone() (
     name=$1 from=$2 exports=$3
     shift 3
