@@ -34,6 +34,10 @@ later_judged rulebook goals certificate =
 abbrev pub reported : ℕ → Result Release → calls.Report
 reported bytes m = release_answer (m >>= λ r. ok (report_of bytes r))
 
+-- Of what was read, each count is the walks' count of it.
+counted : {s t g h n m r q : ℕ} (bytes : ℕ) → s ≡ t → g ≡ h → n ≡ m → r ≡ q → report 0 t h m bytes q ≡ report 0 s g n bytes r
+counted bytes e f g h = rw (e, f, g, h)
+
 reports : (rulebook goals certificate : List ℕ) {m : Did AllAreas Counts} {m' : Result Release} → Simulates (Released rulebook goals certificate) m m' → Later m'
     → Reported (released_by (length certificate) m).number (reported (length certificate) m') (told (released_by (length certificate) m))
 unfolding release_answer ◌>>=◌ report_of
@@ -41,7 +45,7 @@ reports rulebook goals certificate (refuse {n} e) (refuses r h) =
     record { same = ap (λ (k : ℕ). report k 0 0 0 0 0) (sym e); not_1 = λ z. absurd (omega arith); not_2 = λ z. absurd (omega arith) }
 reports rulebook goals certificate (leave q) refuses_none =
     record {
-      same = rw (q.steps_are, q.goals_are, q.terms_are, q.requests_are);
+      same = counted (length certificate) q.steps_are q.goals_are q.terms_are q.requests_are;
       not_1 = λ z. absurd (omega arith);
       not_2 = λ z. absurd (omega arith);
     }

@@ -3,6 +3,7 @@ use lib.Seq.{length-take-le}
 use Rattle.clearing.proofs.Areas.{long}
 use Rattle.reports.specs.Below.checker_laws.proofs.Lengths as lengths
 use Rattle.page_call.proofs.Call.{area_short_lem, text_long_lem, page_judged_lem}
+use native.Mathlib.Omega.{arith}
 use Rattle.page_call.proofs.page.Goals as goal
 
 pub returns-then-not-long_enough : goal.returns-then-not-long_enough
@@ -12,7 +13,7 @@ pub returns-then-rulebook-gt-TEXT_BYTES : goal.returns-then-rulebook-gt-TEXT_BYT
 returns-then-rulebook-gt-TEXT_BYTES c = text_long_lem _ _ _ _ _ _ _ _ _ (lengths.rulebook_long _ _ _ _ _ _ _ (sym c.long_enough.ensures ∙ c.if-not-long_enough.false) c.if-rulebook-gt-TEXT_BYTES.true) c.refused-then-rulebook-gt-TEXT_BYTES.ensures
 
 pub returns-then-goals-gt-TEXT_BYTES : goal.returns-then-goals-gt-TEXT_BYTES
-returns-then-goals-gt-TEXT_BYTES c = text_long_lem _ _ _ _ _ _ _ _ _ (lengths.goals_long _ _ _ _ _ _ _ (sym c.long_enough.ensures ∙ c.if-not-long_enough.false) c.if-rulebook-gt-TEXT_BYTES.false c.if-goals-gt-TEXT_BYTES.true) c.refused-then-goals-gt-TEXT_BYTES.ensures
+returns-then-goals-gt-TEXT_BYTES c = text_long_lem _ _ _ _ _ _ _ _ _ (lengths.goals_long _ _ _ _ _ _ _ (sym c.long_enough.ensures ∙ c.if-not-long_enough.false) c.if-rulebook-gt-TEXT_BYTES.false (omega arith)) c.refused-then-goals-gt-TEXT_BYTES.ensures
 
 pub returns-then-certificate-gt-CERTIFICATE_BYTES : goal.returns-then-certificate-gt-CERTIFICATE_BYTES
 returns-then-certificate-gt-CERTIFICATE_BYTES c = text_long_lem _ _ _ _ _ _ _ _ _ (lengths.certificate_long _ _ _ _ _ _ _ (sym c.long_enough.ensures ∙ c.if-not-long_enough.false) c.if-rulebook-gt-TEXT_BYTES.false c.if-goals-gt-TEXT_BYTES.false c.if-certificate-gt-CERTIFICATE_BYTES.true) c.refused-then-certificate-gt-CERTIFICATE_BYTES.ensures
