@@ -2,79 +2,51 @@
 // at the index's last places and walk on at its first. What it writes is that of a list searched from its start.
 #![tactic(auto)]
 
+use arena::Answer;
+use std::alloc::{AllocError, Global};
+use std::{fmt, io};
+
 const NODES: u32 = 2048;
 
 const LIMIT: u32 = 8192;
 
 const PLACES: u32 = 4096;
 
-// One word everywhere in the area.
-fn fill(a: &mut [u32], v: u32) {
-    let mut i: usize = 0;
-    while i < 16384 {
-        words::put(a, i, v);
-        i += 1;
+// A store at document 01's limits, in an area of 16,384 words.
+#[derive(Drop)]
+struct Store {
+    area: Vec<u32>,
+}
+
+impl Store {
+    // No node, over a word that stands everywhere but in the counts and the index.
+    fn over(alloc: Global, garbage: u32) -> Result<Store, AllocError> {
+        let mut area = vec![in alloc; garbage; 16384]?;
+        area[..2].fill(0);
+        area[2050..6146].fill(0);
+        Ok(Store { area })
     }
-}
 
-// Garbage everywhere but in the counts and the index.
-fn prepare(a: &mut [u32], garbage: u32) {
-    fill(a, garbage);
-    words::put(a, 0, 0);
-    words::put(a, 1, 0);
-    let mut i: usize = 0;
-    while i < 4096 {
-        words::put(a, 2050 + i, 0);
-        i += 1;
+    // No node: the store empties itself, over a word that stands everywhere.
+    fn emptied(alloc: Global, garbage: u32) -> Result<Store, AllocError> {
+        let mut area = vec![in alloc; garbage; 16384]?;
+        arena::empty(&mut area, NODES, PLACES);
+        Ok(Store { area })
     }
-}
 
-// A label and a number as a line.
-fn line(label: &[u8], n: u32) {
-    io::write_all(1, label);
-    io::print_decimal(1, n as u64);
-    io::write_all(1, b"\n");
-}
-
-// An answer as a line.
-fn show(r: arena::Answer) {
-    match r {
-        arena::Answer::Found(k) => line(b"found ", k),
-        arena::Answer::Made(k) => line(b"made ", k),
-        arena::Answer::Full => line(b"refused ", 28),
+    // A request.
+    fn ask(&mut self, key: &[u32]) -> Answer {
+        arena::intern(&mut self.area, NODES, LIMIT, PLACES, key)
     }
-}
 
-// A request at document 01's limits.
-fn ask(a: &mut [u32], key: &[u32]) -> arena::Answer {
-    arena::intern(a, NODES, LIMIT, PLACES, key)
-}
-
-// A node of one word.
-fn ask_narrow(a: &mut [u32], w: u32) -> arena::Answer {
-    let key = [w];
-    ask(a, &key)
-}
-
-// A node of eight words, told apart by its second.
-fn ask_wide(a: &mut [u32], w: u32) -> arena::Answer {
-    let key = [7, w, 7, 7, 7, 7, 7, 7];
-    ask(a, &key)
-}
-
-// Each of n one-word nodes, its answer shown.
-fn each(a: &mut [u32], first: u32, step: u32, n: u32) {
-    let mut w = first;
-    let mut left = n;
-    while 0 < left {
-        show(ask_narrow(a, w));
-        w = std::num::wrapping_add_u32(w, step);
-        left -= 1;
+    // A word of the area.
+    fn word(&self, i: usize) -> u32 {
+        self.area.get(i).copied().unwrap_or(0)
     }
 }
 
 // How many answers of each kind there were, and the sum of the numbers given.
-#[derive(Drop)]
+#[derive(Clone, Copy, Default)]
 struct Tally {
     found: u32,
     made: u32,
@@ -83,150 +55,179 @@ struct Tally {
 }
 
 impl Tally {
-    // No answer yet.
-    fn new() -> Tally {
-        Tally {
-            found: 0,
-            made: 0,
-            full: 0,
-            sum: 0,
-        }
-    }
-
     // One answer more.
-    fn and(self, r: arena::Answer) -> Tally {
-        let mut t = self;
-        match r {
-            arena::Answer::Found(k) => {
-                t.found = std::num::wrapping_add_u32(t.found, 1);
-                t.sum = std::num::wrapping_add_u32(t.sum, k);
+    fn and(mut self, answer: Answer) -> Tally {
+        match answer {
+            Answer::Found(k) => {
+                self.found = self.found.wrapping_add(1);
+                self.sum = self.sum.wrapping_add(k);
             }
-            arena::Answer::Made(k) => {
-                t.made = std::num::wrapping_add_u32(t.made, 1);
-                t.sum = std::num::wrapping_add_u32(t.sum, k);
+            Answer::Made(k) => {
+                self.made = self.made.wrapping_add(1);
+                self.sum = self.sum.wrapping_add(k);
             }
-            arena::Answer::Full => {
-                t.full = std::num::wrapping_add_u32(t.full, 1);
-            }
+            Answer::Full => self.full = self.full.wrapping_add(1),
         }
-        t
+        self
     }
 }
 
-// A tally as four lines.
-fn report(t: Tally) {
-    line(b"all found ", t.found);
-    line(b"all made ", t.made);
-    line(b"all refused ", t.full);
-    line(b"sum of numbers ", t.sum);
+// Four lines.
+impl fmt::Display for Tally {
+    fn fmt<W: fmt::Write>(&self, f: &mut fmt::Formatter<W>) -> fmt::Result {
+        let Tally {
+            found,
+            made,
+            full,
+            sum,
+        } = *self;
+        write!(
+            f,
+            "all found {found}\nall made {made}\nall refused {full}\nsum of numbers {sum}"
+        )
+    }
 }
 
-// A node of one word or of eight.
-fn ask_one(a: &mut [u32], w: u32, wide: bool) -> arena::Answer {
-    if wide {
-        return ask_wide(a, w);
-    }
-    ask_narrow(a, w)
+// A node of one word.
+fn narrow(w: u32) -> [u32; 1] {
+    [w]
 }
 
-// n nodes, of one word or of eight, the answers counted.
-fn many(a: &mut [u32], first: u32, n: u32, wide: bool) {
-    let mut t = Tally::new();
-    let mut w = first;
-    let mut left = n;
-    while 0 < left {
-        let r = ask_one(a, w, wide);
-        t = t.and(r);
-        w = std::num::wrapping_add_u32(w, 1);
-        left -= 1;
+// A node of eight words, told apart by its second.
+fn wide(w: u32) -> [u32; 8] {
+    [7, w, 7, 7, 7, 7, 7, 7]
+}
+
+// A request, its answer shown as a line.
+fn show(rt: &impl Print, store: &mut Store, key: &[u32]) -> io::Result<()> {
+    match store.ask(key) {
+        Answer::Found(k) => println!(rt; "found {k}"),
+        Answer::Made(k) => println!(rt; "made {k}"),
+        Answer::Full => println!(rt; "refused 28"),
     }
-    report(t);
+}
+
+// Each of n one-word nodes, 355 apart, its answer shown.
+fn each(rt: &impl Print, store: &mut Store, first: u32, n: u8) -> io::Result<()> {
+    for i in 0..n {
+        show(rt, store, &narrow(first.wrapping_add(355 * u32::from(i))))?;
+    }
+    Ok(())
+}
+
+// A request for the node of one word.
+fn ask_narrow(store: &mut Store, w: u32) -> Answer {
+    store.ask(&narrow(w))
+}
+
+// A request for the node of eight words.
+fn ask_wide(store: &mut Store, w: u32) -> Answer {
+    store.ask(&wide(w))
+}
+
+// n requests, each by the next word, the answers counted.
+fn many<A: Fn(&mut Store, u32) -> Answer>(
+    rt: &impl Print,
+    store: &mut Store,
+    ask: A,
+    first: u32,
+    n: u32,
+) -> io::Result<()>
+    requires { A.IsAlwaysCallable ask }
+{
+    let mut tally = Tally::default();
+    for i in 0..n {
+        tally = tally.and(ask(store, first.wrapping_add(i)));
+    }
+    println!(rt; "{tally}")
 }
 
 // The counts, and a word behind the regions.
-fn totals(a: &[u32]) {
-    let n = arena::node_count(a);
-    line(b"nodes ", n);
-    line(b"words ", words::at(a, n as usize + 1));
-    line(b"behind ", words::at(a, 14338));
+fn totals(rt: &impl Print, store: &Store) -> io::Result<()> {
+    let n = arena::node_count(&store.area);
+    println!(rt; "nodes {n}")?;
+    println!(rt; "words {}", store.word(n as usize + 1))?;
+    println!(rt; "behind {}", store.word(14338))
 }
 
 // What the store holds of a node.
-fn node(a: &[u32], k: u32) {
-    line(b"size ", arena::node_size(a, k));
-    line(b"head ", arena::node_head(a, NODES, PLACES, k));
-    line(b"argument ", arena::node_argument(a, NODES, PLACES, k, 0));
+fn node(rt: &impl Print, store: &Store, k: u32) -> io::Result<()> {
+    let area = &store.area;
+    println!(rt; "size {}", arena::node_size(area, k))?;
+    println!(rt; "head {}", arena::node_head(area, NODES, PLACES, k))?;
+    println!(rt;
+        "argument {}",
+        arena::node_argument(area, NODES, PLACES, k, 0)
+    )
 }
 
 // 95473, 95828, .. start at the index's last place, 86243, 86598, .. at the one before it.
-fn collide(a: &mut [u32]) {
-    each(a, 95473, 355, 12);
-    each(a, 86243, 355, 6);
-    each(a, 95473, 355, 12);
+fn collide(rt: &impl Print, store: &mut Store) -> io::Result<()> {
+    each(rt, store, 95473, 12)?;
+    each(rt, store, 86243, 6)?;
+    each(rt, store, 95473, 12)
 }
 
 // Nodes that share their first words.
-fn share(a: &mut [u32]) {
-    show(ask(a, &[95473, 5]));
-    show(ask(a, &[95473, 5, 6]));
-    show(ask(a, &[95473]));
-    show(ask(a, &[95473, 5]));
-    node(a, 19);
+fn share(rt: &impl Print, store: &mut Store) -> io::Result<()> {
+    show(rt, store, &[95473, 5])?;
+    show(rt, store, &[95473, 5, 6])?;
+    show(rt, store, &[95473])?;
+    show(rt, store, &[95473, 5])?;
+    node(rt, store, 19)
 }
 
 // Nodes of one word, up to the last node that the store may hold.
-fn to_nodes(a: &mut [u32]) {
-    many(a, 1000000, 2027, false);
-    totals(a);
-    many(a, 1002020, 20, false);
-    totals(a);
+fn to_nodes(rt: &impl Print, store: &mut Store) -> io::Result<()> {
+    many(rt, store, ask_narrow, 1000000, 2027)?;
+    totals(rt, store)?;
+    many(rt, store, ask_narrow, 1002020, 20)?;
+    totals(rt, store)
 }
 
 // A full store still finds what it holds.
-fn when_full(a: &mut [u32]) {
-    each(a, 95473, 355, 13);
-    show(ask(a, &[95473, 5, 6]));
-    show(ask(a, &[95473, 5, 7]));
-    many(a, 1000000, 3000, false);
-    totals(a);
+fn when_full(rt: &impl Print, store: &mut Store) -> io::Result<()> {
+    each(rt, store, 95473, 13)?;
+    show(rt, store, &[95473, 5, 6])?;
+    show(rt, store, &[95473, 5, 7])?;
+    many(rt, store, ask_narrow, 1000000, 3000)?;
+    totals(rt, store)
 }
 
 // Nodes of eight words, up to the last word that the store may hold.
-fn to_words(a: &mut [u32]) {
-    each(a, 95473, 355, 8);
-    many(a, 0, 1022, true);
-    totals(a);
-    show(ask(a, &[7, 5000, 7, 7, 7, 7, 7, 7, 7]));
-    show(ask_wide(a, 1021));
-    show(ask_wide(a, 1022));
-    totals(a);
+fn to_words(rt: &impl Print, store: &mut Store) -> io::Result<()> {
+    each(rt, store, 95473, 8)?;
+    many(rt, store, ask_wide, 0, 1022)?;
+    totals(rt, store)?;
+    show(rt, store, &[7, 5000, 7, 7, 7, 7, 7, 7, 7])?;
+    show(rt, store, &wide(1021))?;
+    show(rt, store, &wide(1022))?;
+    totals(rt, store)
 }
 
 // A store full by its words still finds what it holds.
-fn past_words(a: &mut [u32]) {
-    show(ask_narrow(a, 1));
-    show(ask_wide(a, 1023));
-    show(ask_wide(a, 1022));
-    many(a, 0, 1030, true);
-    node(a, 1030);
-    totals(a);
+fn past_words(rt: &impl Print, store: &mut Store) -> io::Result<()> {
+    show(rt, store, &narrow(1))?;
+    show(rt, store, &wide(1023))?;
+    show(rt, store, &wide(1022))?;
+    many(rt, store, ask_wide, 0, 1030)?;
+    node(rt, store, 1030)?;
+    totals(rt, store)
 }
 
-// First a store filled to its nodes, over garbage; then one filled to its words, over ones.
-fn run(a: &mut [u32]) {
-    prepare(a, 3735928559);
-    totals(a);
-    collide(a);
-    share(a);
-    to_nodes(a);
-    when_full(a);
-    fill(a, 1);
-    arena::empty(a, NODES, PLACES);
-    to_words(a);
-    past_words(a);
+// A store filled to its nodes, over garbage.
+fn by_nodes(rt: &impl Print, store: &mut Store) -> io::Result<()> {
+    totals(rt, store)?;
+    collide(rt, store)?;
+    share(rt, store)?;
+    to_nodes(rt, store)?;
+    when_full(rt, store)
 }
 
-fn main() {
-    let mut a = [0u32; 16384];
-    run(&mut a);
+fn main(rt: HostRuntime) -> io::Result<()> {
+    by_nodes(&rt, &mut Store::over(rt.alloc(), 3735928559)?)?;
+    // Another filled to its words, over ones.
+    let mut store = Store::emptied(rt.alloc(), 1)?;
+    to_words(&rt, &mut store)?;
+    past_words(&rt, &mut store)
 }

@@ -3,200 +3,103 @@
 // as they have been since Unicode 6.3.
 #![tactic(auto)]
 
-ghost use Rattle.std.specs.Prelude.{◌<◌};
-
+use std::io;
+use std::ops::RangeInclusive;
 use utf8::classes;
 
-const STDIN_FILENO: i32 = 0;
-
-const STDOUT_FILENO: i32 = 1;
-
-// A line of the list: the characters from `low` to `high`, and where the next line starts.
-#[derive(Drop)]
-struct Listed {
-    low: u32,
-    high: u32,
-    next: u32,
-}
-
 // Characters seen so far, those of them that the list has, and those of which something wrong was said.
-#[derive(Drop)]
+#[derive(Clone, Copy, Default)]
 struct Tally {
     characters: u32,
     white: u32,
     wrong: u32,
 }
 
-// A number with one more hexadecimal digit, which is in capitals.
-fn with_digit(n: u32, digit: u8) -> u32 {
-    n % 0x1000_0000 * 16 + case_text::hex_digit(digit | 32) as u32
-}
-
-// Four hexadecimal digits.
-fn four_digits(list: &[u8], at: u32) -> u32 {
-    let one = with_digit(0, case_text::byte_at(list, at));
-    let two = with_digit(one, case_text::byte_at(list, words::plus(at, 1)));
-    let three = with_digit(two, case_text::byte_at(list, words::plus(at, 2)));
-    with_digit(three, case_text::byte_at(list, words::plus(at, 3)))
-}
-
-// The line that starts at a place: one number, or two with `..` between them.
-fn line_at(list: &[u8], at: u32) -> Listed {
-    let low = four_digits(list, at);
-    let mut high = low;
-    if case_text::byte_at(list, words::plus(at, 4)) == b'.' {
-        high = four_digits(list, words::plus(at, 6));
-    }
-    let next = words::plus(case_text::find(list, at, b'\n'), 1);
-    Listed { low, high, next }
-}
-
-// The first line, from a given one on, that does not lie before a value.
-fn line_for(list: &[u8], line: Listed, v: u32) -> Listed {
-    if v <= line.high {
-        return line;
-    }
-    line_at(list, line.next)
-}
-
-// A later byte of a character, with the last six bits of n.
-fn later(n: u32) -> u8 {
-    0x80 + (n % 64) as u8
-}
-
-// The character of a value in UTF-8, by RFC 3629, section 3, behind the first byte of `out`; how many bytes it has.
-fn encode(v: u32, out: &mut [u8]) -> usize
-    ensures { result < 5 }
-{
-    if v < 0x80 {
-        words::put_byte(out, 1, (v % 128) as u8);
-        return 1;
-    }
-    if v < 0x800 {
-        words::put_byte(out, 1, 0xC0 + (v / 64 % 32) as u8);
-        words::put_byte(out, 2, later(v));
-        return 2;
-    }
-    if v < 0x10000 {
-        words::put_byte(out, 1, 0xE0 + (v / 4096 % 16) as u8);
-        words::put_byte(out, 2, later(v / 64));
-        words::put_byte(out, 3, later(v));
-        return 3;
-    }
-    words::put_byte(out, 1, 0xF0 + (v / 262144 % 8) as u8);
-    words::put_byte(out, 2, later(v / 4096));
-    words::put_byte(out, 3, later(v / 64));
-    words::put_byte(out, 4, later(v));
-    4
+// The characters of a line, by their values: one number, or two with `..` between them.
+fn listed(line: &str) -> anyhow::Result<RangeInclusive<u32>> {
+    let numbers = line.split(' ').next().unwrap_or("");
+    let (low, high) = numbers.split_once("..").unwrap_or((numbers, numbers));
+    Ok(u32::from_str_radix(low, 16)?..=u32::from_str_radix(high, 16)?)
 }
 
 // The kind that a character has, by whether the list has it.
-fn kind_due(v: u32, white: bool) -> u8 {
-    if white {
-        return classes::WHITE;
-    }
-    match v {
-        0x28 => classes::OPENS,
-        0x29 => classes::CLOSES,
-        0x3B => classes::COMMENTS,
+fn kind_due(c: char, white: bool) -> u8 {
+    match c {
+        _ if white => classes::WHITE,
+        '(' => classes::OPENS,
+        ')' => classes::CLOSES,
+        ';' => classes::COMMENTS,
         _ => classes::ORDINARY,
     }
 }
 
-// Whether the leaf says of a value what the list does; above 16 bits it is not asked.
-fn leaf_right(v: u32, white: bool) -> bool {
-    if 0xFFFF < v {
-        return !white;
-    }
-    if utf8::is_white((v % 65536) as u16) {
-        return white;
-    }
-    !white
-}
-
 // Whether an atom that begins with `a` goes on with a character exactly if that is an ordinary one. The text is both, and another `a`.
 fn atom_right(text: &[u8], kind: u8) -> bool {
-    let end = scanning::atom_end(text, text.len(), 0);
-    if kind == classes::ORDINARY {
-        return end == text.len();
+    let due = if kind == classes::ORDINARY {
+        text.len()
+    } else {
+        1
+    };
+    scanning::atom_end(text, text.len(), 0) == due
+}
+
+// Whether the leaf says of a value what the list does; above 16 bits it is not asked.
+fn leaf_right(c: char, white: bool) -> bool {
+    match u16::try_from(u32::from(c)) {
+        Ok(value) => utf8::is_white(value) == white,
+        Err(_) => !white,
     }
-    end == 1
 }
 
 // Whether all that is said of a character is right.
-fn right(v: u32, white: bool) -> bool {
+fn right(c: char, white: bool) -> bool {
     let mut text = *b"aaaaaa";
-    let width = encode(v, &mut text);
-    let kind = kind_due(v, white);
-    let seen = utf8::look(words::bytes_part(&text, 0, width + 1), 1);
-    if seen.width != width {
-        return false;
-    }
-    if seen.kind != kind {
-        return false;
-    }
-    if !atom_right(words::bytes_part(&text, 0, width + 2), kind) {
-        return false;
-    }
-    leaf_right(v, white)
+    let width = c.encode_utf8(&mut text[1..5]).len();
+    let kind = kind_due(c, white);
+    let seen = utf8::look(&text[..width + 1], 1);
+    seen.width == width
+        && seen.kind == kind
+        && atom_right(&text[..width + 2], kind)
+        && leaf_right(c, white)
 }
 
-// Writes a number and what it counts.
-fn told(n: u32, what: &[u8]) {
-    io::print_decimal(STDOUT_FILENO, n as u64);
-    io::write_all(STDOUT_FILENO, what);
-}
-
-// One more character. Each that the list has is written, and each of which something wrong was said.
-fn counted(t: Tally, v: u32, white: bool) -> Tally {
-    let mut n = t;
-    n.characters = words::plus(n.characters, 1);
-    if white {
-        n.white = words::plus(n.white, 1);
-        io::print_hex(STDOUT_FILENO, v as u64, 4);
-        io::write_all(STDOUT_FILENO, b"\n");
-    }
-    if !right(v, white) {
-        n.wrong = words::plus(n.wrong, 1);
-        io::print_hex(STDOUT_FILENO, v as u64, 4);
-        io::write_all(STDOUT_FILENO, b" is wrong\n");
-    }
-    n
-}
-
-// Whether a value lies in a range.
-fn between(low: u32, v: u32, high: u32) -> bool {
-    if v < low {
-        return false;
-    }
-    v <= high
-}
-
-// All characters, in the order of their values.
-fn all(list: &[u8]) -> Tally {
-    let mut line = line_at(list, 0);
-    let mut tally = Tally {
-        characters: 0,
-        white: 0,
-        wrong: 0,
-    };
-    let mut v: u32 = 0;
-    while v < 0x110000 {
-        line = line_for(list, line, v);
-        // A surrogate is no character.
-        if !between(0xD800, v, 0xDFFF) {
-            tally = counted(tally, v, between(line.low, v, line.high));
+impl Tally {
+    // One more character. Each that the list has is written, and each of which something wrong was said.
+    fn and(self, rt: &impl Print, c: char, white: bool) -> io::Result<Tally> {
+        let value = u32::from(c);
+        let wrong = !right(c, white);
+        if white {
+            println!(rt; "{value:04x}")?;
         }
-        v += 1;
+        if wrong {
+            println!(rt; "{value:04x} is wrong")?;
+        }
+        Ok(Tally {
+            characters: self.characters.wrapping_add(1),
+            white: self.white.wrapping_add(u32::from(white)),
+            wrong: self.wrong.wrapping_add(u32::from(wrong)),
+        })
     }
-    tally
 }
 
-fn main() {
-    let mut input = io::buffer();
-    let n = io::read_full(STDIN_FILENO, &mut input);
-    let tally = all(words::bytes_part(&input, 0, n));
-    told(tally.characters, b" characters\n");
-    told(tally.white, b" white space\n");
-    told(tally.wrong, b" wrong\n");
+// All characters, in the order of their values, which the list has too.
+fn all(rt: &impl Print, list: &[u32]) -> io::Result<Tally> {
+    let mut tally = Tally::default();
+    for c in '\0'..=char::MAX {
+        let white = list.binary_search(&u32::from(c)).is_ok();
+        tally = tally.and(rt, c, white)?;
+    }
+    Ok(tally)
+}
+
+fn main(rt: HostRuntime) -> anyhow::Result<()> {
+    let mut list = Vec::new(rt.alloc());
+    for line in rt.lines(rt.alloc()) {
+        list.extend(listed(line?.as_str())?)?;
+    }
+    let tally = all(&rt, &list)?;
+    println!(rt; "{} characters", tally.characters)?;
+    println!(rt; "{} white space", tally.white)?;
+    println!(rt; "{} wrong", tally.wrong)?;
+    Ok(())
 }

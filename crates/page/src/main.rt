@@ -1,6 +1,13 @@
 // The program that writes the release page: of rulebook.txt, goals.txt and proof.txt of the current folder.
 #![tactic(auto)]
 
+use release_files::Three;
+
 fn main(rt: HostRuntime) {
-    page_files::show(&rt, b"rulebook.txt", b"goals.txt", b"proof.txt");
+    let names: Three<&[u8]> = Three {
+        rulebook: b"rulebook.txt",
+        goals: b"goals.txt",
+        certificate: b"proof.txt",
+    };
+    page_files::show(&rt, names);
 }

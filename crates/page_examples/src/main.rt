@@ -5,6 +5,7 @@
 use answers::Call;
 use areas::Lengths;
 use lent_calls::Texts;
+use release_files::Three;
 use std::io;
 use std::io::Write;
 use std::rt::Files;
@@ -115,12 +116,16 @@ fn number<R: Print>(rt: &R, n: u32) -> io::Result<()> {
     out.write_all(b"]\n")
 }
 
-// What the program writes: the page, or the line of a refusal.
-fn files<R: Files + Print + Eprint>(rt: &R) {
-    page_files::show(rt, b"rulebook.txt", b"goals.txt", b"proof.txt");
-    page_files::show(rt, b"refused.txt", b"goals.txt", b"proof.txt");
-    page_files::show(rt, b"rulebook.txt", b"none.txt", b"proof.txt");
-    page_files::show(rt, b"rulebook.txt", b"goals.txt", b"none.txt");
+// What the program writes of three files: the page, or the line of a refusal.
+fn files<R: Files + Print + Eprint>(rt: &R, rulebook: &[u8], goals: &[u8], certificate: &[u8]) {
+    page_files::show(
+        rt,
+        Three {
+            rulebook,
+            goals,
+            certificate,
+        },
+    );
 }
 
 fn main(rt: HostRuntime) -> io::Result<()> {
@@ -134,6 +139,9 @@ fn main(rt: HostRuntime) -> io::Result<()> {
     for n in [0, 10, 999, 2256, 65535] {
         number(&rt, n)?;
     }
-    files(&rt);
+    files(&rt, b"rulebook.txt", b"goals.txt", b"proof.txt");
+    files(&rt, b"refused.txt", b"goals.txt", b"proof.txt");
+    files(&rt, b"rulebook.txt", b"none.txt", b"proof.txt");
+    files(&rt, b"rulebook.txt", b"goals.txt", b"none.txt");
     Ok(())
 }

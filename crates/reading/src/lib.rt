@@ -15,6 +15,7 @@ pub fn fill<F: Read>(file: &mut F, buffer: &mut [u8]) -> io::Result<usize>
     ensures end { IfOk result (λ n. n < length buffer.new → IsAtEnd (F.remaining file.new)) }
 {
     let mut done = 0;
+    // No index is counted here: a read may give any number of bytes.
     while done < buffer.len() {
         let n = file.read(&mut buffer[done..])?;
         if n == 0 {

@@ -1,22 +1,24 @@
 -- "30 comes only from the program, before all else": what the program answers on three files.
-use Rattle.std.specs.Prelude.{ℕ, ◌≤◌, ◌≡◌, List}
+use Rattle.std.specs.Prelude.{ℕ, ◌≡◌, List}
 use Rattle.std.proofs.Math.Option.{Option, none, some}
 use Rattle.horn.specs.Refusals.{number, not_opened}
 use Rattle.horn.specs.Setting.{document01}
 use Rattle.horn.specs.Calls.{Report, report, release_call}
-use Rattle.words.specs.Parts.{part}
-use Rattle.release_files.specs.declared.File.{File}
-use Rattle.release_files.specs.declared.File.TheVariants.{Read, NotOpened}
+use Rattle.std.specs.Prelude as std
+use denote.Ref.{Bor}
+use Rattle.release_files.specs.declared.Three.{Three}
 
--- What was read lies in the buffer.
-abbrev pub Within : File → ℕ → Type 0
-Within (Read n) most = n ≤ most
-Within NotOpened most = Unit {0}
+-- The text that became of a file, or none.
+abbrev pub text : std.Option (Bor (List ℕ)) → Option (List ℕ)
+text (std.Some s) = some s.now
+text std.None = none
 
--- The text that became of a file, from its buffer, or none.
-abbrev pub text : File → List ℕ → Option (List ℕ)
-text (Read n) buffer = some (part 0 n buffer)
-text NotOpened buffer = none
+-- Three things, or nothing if one is missing.
+abbrev pub all_of : {T : Type 0} → std.Option T → std.Option T → std.Option T → std.Option (Three T)
+all_of std.None g c = std.None
+all_of (std.Some r) std.None c = std.None
+all_of (std.Some r) (std.Some g) std.None = std.None
+all_of (std.Some r) (std.Some g) (std.Some c) = std.Some (record { rulebook = r; goals = g; certificate = c })
 
 -- 30 with zero counts if one of the three is not opened, whatever the others hold. Else what the call with three texts answers.
 unfoldable pub answered : Option (List ℕ) → Option (List ℕ) → Option (List ℕ) → Report

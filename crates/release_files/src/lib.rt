@@ -3,145 +3,162 @@
 // No contract can say which bytes a file holds. So what is read goes into buffers, and `answer` says all that follows from them.
 #![tactic(auto)]
 
-ghost use Rattle.std.specs.Prelude.{◌≡◌, length};
-ghost use Rattle.std.specs.Io.{ReadsAtMost};
+ghost use Rattle.std.specs.Prelude.{◌≡◌, ◌≤◌, length, replicate, IfOk, IfSome};
 ghost use Rattle.horn.specs.Setting.{document01};
 ghost use Rattle.horn.specs.Calls.{report, release_call};
 ghost use Rattle.reports.specs.Release.{told};
-ghost use Rattle.release_files.specs.Answers.{Within, text, answered, Answered};
+ghost use Rattle.release_files.specs.Answers.{text, all_of, answered, Answered};
 
 use reports::Report;
 use std::rt::Files;
 use std::{fs, io};
 
-// What became of a file: a text of so many bytes at the start of its buffer, or 30.
+// One thing for each of the three texts: the names of their files, or what was read of them.
+#[derive(Clone, Copy)]
+pub struct Three<T> {
+    pub rulebook: T,
+    pub goals: T,
+    pub certificate: T,
+}
+
+impl<T: Copy> Three<Option<T>> {
+    // All three, or nothing if one is missing.
+    pub fn all(self) -> Option<Three<T>>
+        ensures { result ≡ all_of self.rulebook self.goals self.certificate }
+    {
+        Some(Three {
+            rulebook: self.rulebook?,
+            goals: self.goals?,
+            certificate: self.certificate?,
+        })
+    }
+}
+
+// What the three texts are read into. Each has one byte more than its text may have: so it is full where the file is too long, and no more of
+// that is read. Arrays, so that no memory can be missing.
 #[derive(Drop)]
-pub enum File {
-    Read(usize),
-    NotOpened,
+pub struct Buffers {
+    rulebook: [u8; 8193],
+    goals: [u8; 8193],
+    certificate: [u8; 32769],
 }
 
-// Says on standard error what failed, and why.
-fn tell<R: Eprint>(rt: &R, what: &str, why: io::Error) {
-    let _ = eprintln!(rt; "{what}: {why}");
-}
+impl Buffers {
+    // Nothing read yet.
+    pub fn new() -> Buffers
+        ensures rulebook { result.rulebook ≡ replicate 8193 0 }
+        ensures goals { result.goals ≡ replicate 8193 0 }
+        ensures certificate { result.certificate ≡ replicate 32769 0 }
+    {
+        Buffers {
+            rulebook: [0; 8193],
+            goals: [0; 8193],
+            certificate: [0; 32769],
+        }
+    }
 
-// Fills the buffer from a file, by its name. It has one byte more than the text may have, so it is full where the file is too long, and no more is
-// read; where it is not full, the file is at its end. One that cannot be read, such as a folder, is an error.
-fn fill<R: Files>(rt: &R, name: &str, buffer: &mut [u8]) -> io::Result<usize>
-    ensures { ReadsAtMost result buffer.new }
-{
-    let mut file = fs::open(rt, name)?;
-    reading::fill(&mut file, buffer)
-}
-
-// The same, which says on standard error why a file is not read.
-fn named<R: Files + Eprint>(rt: &R, name: &str, buffer: &mut [u8]) -> File
-    ensures { Within result (length buffer.new) }
-{
-    match fill(rt, name, buffer) {
-        Ok(n) => File::Read(n),
-        Err(why) => {
-            tell(rt, name, why);
-            File::NotOpened
+    // The three texts, from the names of their files; none for a file that is not read, which is said on standard error.
+    pub fn read(&mut self, rt: &(impl Files + Eprint), names: Three<&[u8]>) -> Three<Option<&[u8]>>
+        ensures rulebook { IfSome result.rulebook (λ text. length text.now ≤ 8193) }
+        ensures goals { IfSome result.goals (λ text. length text.now ≤ 8193) }
+        ensures certificate { IfSome result.certificate (λ text. length text.now ≤ 32769) }
+    {
+        let Buffers {
+            rulebook,
+            goals,
+            certificate,
+        } = self;
+        Three {
+            rulebook: read(rt, names.rulebook, rulebook),
+            goals: read(rt, names.goals, goals),
+            certificate: read(rt, names.certificate, certificate),
         }
     }
 }
 
-// Opens, reads and closes a file. Says on standard error why one is not read. The library opens no file whose name is not UTF-8.
-pub fn read<R: Files + Eprint>(rt: &R, name: &[u8], buffer: &mut [u8]) -> File
-    ensures { Within result (length buffer.new) }
+// Says on standard error what failed, and why.
+fn tell(rt: &impl Eprint, what: &str, why: io::Error) {
+    let _ = eprintln!(rt; "{what}: {why}");
+}
+
+// What a file holds, as far as the buffer goes. One that cannot be read, such as a folder, is an error.
+fn contents<'a>(rt: &impl Files, name: &str, buffer: &'a mut [u8]) -> io::Result<&'a [u8]>
+    ensures { IfOk result (λ text. length text.now ≤ length buffer.old) }
 {
-    let Ok(text) = str::from_utf8(name) else {
+    let mut file = fs::open(rt, name)?;
+    let n = reading::fill(&mut file, buffer)?;
+    Ok(&buffer[..n])
+}
+
+// The same, by a name of any bytes; says on standard error why a file is not read. The library opens no file whose name is not UTF-8.
+pub fn read<'a>(rt: &(impl Files + Eprint), name: &[u8], buffer: &'a mut [u8]) -> Option<&'a [u8]>
+    ensures { IfSome result (λ text. length text.now ≤ length buffer.old) }
+{
+    let Ok(name) = str::from_utf8(name) else {
         tell(
             rt,
             "a file's name",
             io::Error::from(io::ErrorKind::InvalidInput),
         );
-        return File::NotOpened;
+        return None;
     };
-    named(rt, text, buffer)
-}
-
-// "30 comes only from the program, before all else"; "a refusal has zero counts".
-fn not_opened() -> Report
-    ensures { told result ≡ report 30 0 0 0 0 0 }
-{
-    Report {
-        number: 30,
-        steps: 0,
-        goals: 0,
-        terms: 0,
-        bytes: 0,
-        requested: 0,
+    match contents(rt, name, buffer) {
+        Ok(text) => Some(text),
+        Err(why) => {
+            tell(rt, name, why);
+            None
+        }
     }
 }
 
 // The call over areas just long enough.
-fn call(rulebook: &[u8], goals: &[u8], certificate: &[u8]) -> Report
-    ensures { told result ≡ release_call document01 16384 16384 16384 16384 rulebook.now goals.now certificate.now }
+fn call(texts: Three<&[u8]>) -> Report
+    ensures { told result
+        ≡ release_call document01 16384 16384 16384 16384 texts.entry.rulebook.now texts.entry.goals.now texts.entry.certificate.now }
 {
     let mut a = [0u32; 16384];
     let mut b = [0u32; 16384];
     let mut c = [0u32; 16384];
     let mut d = [0u32; 16384];
-    kernel::release(rulebook, goals, certificate, &mut a, &mut b, &mut c, &mut d)
-}
-
-// The report on three files, from what became of each and its buffer.
-pub fn answer(
-    rulebook: &[u8],
-    r: File,
-    goals: &[u8],
-    g: File,
-    certificate: &[u8],
-    c: File,
-) -> Report
-    ensures { told result ≡ answered (text r rulebook.now) (text g goals.now) (text c certificate.now) }
-{
-    let File::Read(i) = r else {
-        return not_opened();
-    };
-    let File::Read(j) = g else {
-        return not_opened();
-    };
-    let File::Read(k) = c else {
-        return not_opened();
-    };
-    call(
-        words::bytes_part(rulebook, 0, i),
-        words::bytes_part(goals, 0, j),
-        words::bytes_part(certificate, 0, k),
+    kernel::release(
+        texts.rulebook,
+        texts.goals,
+        texts.certificate,
+        &mut a,
+        &mut b,
+        &mut c,
+        &mut d,
     )
 }
 
+// The report on three texts, of which a file that was not opened gives none: "30 comes only from the program, before all else".
+#[tactic(auto, unfolding(crate::specs::Answers::answered, horn::specs::Refusals::number))]
+pub fn answer(texts: Three<Option<&[u8]>>) -> Report
+    ensures { told result ≡ answered (text texts.entry.rulebook) (text texts.entry.goals) (text texts.entry.certificate) }
+{
+    let Some(all) = texts.all() else {
+        return reports::unreleased(30);
+    };
+    call(all)
+}
+
 // The report on three files, by their names.
-pub fn release<R: Files + Eprint>(
-    rt: &R,
-    rulebook: &[u8],
-    goals: &[u8],
-    certificate: &[u8],
-) -> Report
+pub fn release(rt: &(impl Files + Eprint), names: Three<&[u8]>) -> Report
     ensures { Answered (told result) }
 {
-    let mut r = [0u8; 8193];
-    let mut g = [0u8; 8193];
-    let mut c = [0u8; 32769];
-    let x = read(rt, rulebook, &mut r);
-    let y = read(rt, goals, &mut g);
-    let z = read(rt, certificate, &mut c);
-    answer(&r, x, &g, y, &c, z)
+    let mut buffers = Buffers::new();
+    answer(buffers.read(rt, names))
 }
 
 // Writes bytes to standard output.
-pub fn write<R: Print + Eprint>(rt: &R, bytes: &[u8]) {
+pub fn write(rt: &(impl Print + Eprint), bytes: &[u8]) {
     if let Err(why) = rt.write_all(bytes) {
         tell(rt, "standard output", why);
     }
 }
 
 // Writes the line of a report to standard output.
-pub fn print<R: Print + Eprint>(rt: &R, r: Report) {
+pub fn print(rt: &(impl Print + Eprint), r: Report) {
     let mut line = [0u8; 66];
     let n = report_line::line(
         r.number,

@@ -3,132 +3,146 @@
 // document 01, and their last field from L1: 7 for the bench set with blanks behind any of its texts.
 #![tactic(auto)]
 
+use release_files::Three;
+use std::io;
 use std::rt::Files;
 
+// The names of three files.
+type Names = Three<&'static [u8]>;
+
+const BENCH: Names = Three {
+    rulebook: b"bench/rulebook.txt",
+    goals: b"bench/goals.txt",
+    certificate: b"bench/proof.txt",
+};
+
 // One line: what the files are, and the answer on them.
-fn show<R: Files + Print + Eprint>(
-    rt: &R,
-    label: &[u8],
-    rulebook: &[u8],
-    goals: &[u8],
-    proof: &[u8],
-) {
-    io::write_all(1, label);
-    io::write_all(1, b"\t");
-    release_files::print(rt, release_files::release(rt, rulebook, goals, proof));
+fn show(rt: &(impl Files + Print + Eprint), label: &str, names: Names) -> io::Result<()> {
+    print!(rt; "{label}\t")?;
+    release_files::print(rt, release_files::release(rt, names));
+    Ok(())
 }
 
 // The bench set with another rulebook,
-fn rulebook<R: Files + Print + Eprint>(rt: &R, label: &[u8], name: &[u8]) {
-    show(rt, label, name, b"bench/goals.txt", b"bench/proof.txt");
+fn rulebook(
+    rt: &(impl Files + Print + Eprint),
+    label: &str,
+    rulebook: &'static [u8],
+) -> io::Result<()> {
+    show(rt, label, Three { rulebook, ..BENCH })
 }
 
 // other goals,
-fn goals<R: Files + Print + Eprint>(rt: &R, label: &[u8], name: &[u8]) {
-    show(rt, label, b"bench/rulebook.txt", name, b"bench/proof.txt");
+fn goals(rt: &(impl Files + Print + Eprint), label: &str, goals: &'static [u8]) -> io::Result<()> {
+    show(rt, label, Three { goals, ..BENCH })
 }
 
 // another certificate.
-fn proof<R: Files + Print + Eprint>(rt: &R, label: &[u8], name: &[u8]) {
-    show(rt, label, b"bench/rulebook.txt", b"bench/goals.txt", name);
+fn proof(
+    rt: &(impl Files + Print + Eprint),
+    label: &str,
+    certificate: &'static [u8],
+) -> io::Result<()> {
+    show(
+        rt,
+        label,
+        Three {
+            certificate,
+            ..BENCH
+        },
+    )
 }
 
 // Each of the three texts refused.
-fn refused<R: Files + Print + Eprint>(rt: &R) {
-    rulebook(rt, b"rulebook refused", b"refused/rulebook.txt");
-    goals(rt, b"goals refused", b"refused/goals.txt");
-    proof(rt, b"certificate refused", b"refused/proof.txt");
+fn refused(rt: &(impl Files + Print + Eprint)) -> io::Result<()> {
+    rulebook(rt, "rulebook refused", b"refused/rulebook.txt")?;
+    goals(rt, "goals refused", b"refused/goals.txt")?;
+    proof(rt, "certificate refused", b"refused/proof.txt")
 }
 
 // Each of the three files missing, and all.
-fn missing<R: Files + Print + Eprint>(rt: &R) {
-    rulebook(rt, b"no rulebook.txt", b"none/rulebook.txt");
-    goals(rt, b"no goals.txt", b"none/goals.txt");
-    proof(rt, b"no proof.txt", b"none/proof.txt");
-    show(
-        rt,
-        b"none of the three",
-        b"none/rulebook.txt",
-        b"none/goals.txt",
-        b"none/proof.txt",
-    );
+fn missing(rt: &(impl Files + Print + Eprint)) -> io::Result<()> {
+    rulebook(rt, "no rulebook.txt", b"none/rulebook.txt")?;
+    goals(rt, "no goals.txt", b"none/goals.txt")?;
+    proof(rt, "no proof.txt", b"none/proof.txt")?;
+    let none = Three {
+        rulebook: b"none/rulebook.txt",
+        goals: b"none/goals.txt",
+        certificate: b"none/proof.txt",
+    };
+    show(rt, "none of the three", none)
 }
 
 // 30 comes before all else.
-fn missing_first<R: Files + Print + Eprint>(rt: &R) {
-    show(
-        rt,
-        b"no proof.txt, rulebook refused",
-        b"refused/rulebook.txt",
-        b"bench/goals.txt",
-        b"none/proof.txt",
-    );
-    show(
-        rt,
-        b"no goals.txt, rulebook too long",
-        b"long/rulebook.txt",
-        b"none/goals.txt",
-        b"bench/proof.txt",
-    );
+fn missing_first(rt: &(impl Files + Print + Eprint)) -> io::Result<()> {
+    let refused = Three {
+        rulebook: b"refused/rulebook.txt",
+        certificate: b"none/proof.txt",
+        ..BENCH
+    };
+    show(rt, "no proof.txt, rulebook refused", refused)?;
+    let long = Three {
+        rulebook: b"long/rulebook.txt",
+        goals: b"none/goals.txt",
+        ..BENCH
+    };
+    show(rt, "no goals.txt, rulebook too long", long)
 }
 
 // Each of the three files empty.
-fn empty<R: Files + Print + Eprint>(rt: &R) {
-    rulebook(rt, b"rulebook empty", b"empty/rulebook.txt");
-    goals(rt, b"goals empty", b"empty/goals.txt");
-    proof(rt, b"certificate empty", b"empty/proof.txt");
+fn empty(rt: &(impl Files + Print + Eprint)) -> io::Result<()> {
+    rulebook(rt, "rulebook empty", b"empty/rulebook.txt")?;
+    goals(rt, "goals empty", b"empty/goals.txt")?;
+    proof(rt, "certificate empty", b"empty/proof.txt")
 }
 
 // Files as long as they may be.
-fn at_limits<R: Files + Print + Eprint>(rt: &R) {
-    rulebook(rt, b"rulebook of 8,192 bytes", b"limit/rulebook.txt");
-    goals(rt, b"goals of 8,192 bytes", b"limit/goals.txt");
-    proof(rt, b"certificate of 32,768 bytes", b"limit/proof.txt");
-    show(
-        rt,
-        b"all three at their limits",
-        b"limit/rulebook.txt",
-        b"limit/goals.txt",
-        b"limit/proof.txt",
-    );
+fn at_limits(rt: &(impl Files + Print + Eprint)) -> io::Result<()> {
+    rulebook(rt, "rulebook of 8,192 bytes", b"limit/rulebook.txt")?;
+    goals(rt, "goals of 8,192 bytes", b"limit/goals.txt")?;
+    proof(rt, "certificate of 32,768 bytes", b"limit/proof.txt")?;
+    let limit = Three {
+        rulebook: b"limit/rulebook.txt",
+        goals: b"limit/goals.txt",
+        certificate: b"limit/proof.txt",
+    };
+    show(rt, "all three at their limits", limit)
 }
 
 // Files that are too long: 2, before any text is judged.
-fn too_long<R: Files + Print + Eprint>(rt: &R) {
-    rulebook(rt, b"rulebook of 8,193 bytes", b"long/rulebook.txt");
-    goals(rt, b"goals of 8,193 bytes", b"long/goals.txt");
-    proof(rt, b"certificate of 32,769 bytes", b"long/proof.txt");
-    proof(rt, b"certificate of 100,000 bytes", b"longer/proof.txt");
-    show(
-        rt,
-        b"certificate too long, rulebook refused",
-        b"refused/rulebook.txt",
-        b"bench/goals.txt",
-        b"long/proof.txt",
-    );
+fn too_long(rt: &(impl Files + Print + Eprint)) -> io::Result<()> {
+    rulebook(rt, "rulebook of 8,193 bytes", b"long/rulebook.txt")?;
+    goals(rt, "goals of 8,193 bytes", b"long/goals.txt")?;
+    proof(rt, "certificate of 32,769 bytes", b"long/proof.txt")?;
+    proof(rt, "certificate of 100,000 bytes", b"longer/proof.txt")?;
+    let refused = Three {
+        rulebook: b"refused/rulebook.txt",
+        certificate: b"long/proof.txt",
+        ..BENCH
+    };
+    show(rt, "certificate too long, rulebook refused", refused)
 }
 
 // A folder opens and cannot be read.
-fn folders<R: Files + Print + Eprint>(rt: &R) {
-    rulebook(rt, b"rulebook.txt a folder", b"folder/rulebook.txt");
-    goals(rt, b"goals.txt a folder", b"folder/goals.txt");
-    proof(rt, b"proof.txt a folder", b"folder/proof.txt");
-    show(
-        rt,
-        b"proof.txt a folder, rulebook too long",
-        b"long/rulebook.txt",
-        b"bench/goals.txt",
-        b"folder/proof.txt",
-    );
+fn folders(rt: &(impl Files + Print + Eprint)) -> io::Result<()> {
+    rulebook(rt, "rulebook.txt a folder", b"folder/rulebook.txt")?;
+    goals(rt, "goals.txt a folder", b"folder/goals.txt")?;
+    proof(rt, "proof.txt a folder", b"folder/proof.txt")?;
+    let long = Three {
+        rulebook: b"long/rulebook.txt",
+        certificate: b"folder/proof.txt",
+        ..BENCH
+    };
+    show(rt, "proof.txt a folder, rulebook too long", long)
 }
 
-fn main(rt: HostRuntime) {
-    proof(&rt, b"bench set", b"bench/proof.txt");
-    refused(&rt);
-    missing(&rt);
-    missing_first(&rt);
-    empty(&rt);
-    at_limits(&rt);
-    too_long(&rt);
-    folders(&rt);
+fn main(rt: HostRuntime) -> io::Result<()> {
+    show(&rt, "bench set", BENCH)?;
+    refused(&rt)?;
+    missing(&rt)?;
+    missing_first(&rt)?;
+    empty(&rt)?;
+    at_limits(&rt)?;
+    too_long(&rt)?;
+    folders(&rt)
 }

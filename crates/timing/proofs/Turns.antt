@@ -1,32 +1,29 @@
 -- One turn of the count. Assumes nothing.
-use mathlib.Core.Path.{◌≡◌, refl}
-use mathlib.Core.List.{List}
-use Prim.Native.Nat.{ℕ, zero, suc, ◌+◌, ◌-◌, ◌<◌, ◌≤◌}
-use native.Mathlib.Omega.{arith}
-use Rattle.lex.specs.Answers.{token, ended, refused, taken}
+use Rattle.std.proofs.Common.{◌≡◌, refl, sym, ap, ◌∙◌, ℕ, suc, ◌+◌, ◌-◌, ◌<◌, ◌≤◌, List, arith}
+use Rattle.lex.specs.Answers.{answer, taken}
 use Rattle.lex.specs.declared.Token.{Token}
 use Rattle.lex.specs.declared.Reader.{Reader}
+use Rattle.lex.specs.declared.Read.{Read}
+use Rattle.lex.specs.declared.Read.TheVariants.{Got, End, Bad}
 use Rattle.timing.specs.Count.{counted}
 
-module _ (text : List ℕ) (r : Reader) (n : ℕ) where
-  pub count_on : (left : ℕ) (t : Token) (next : Reader) → 0 < left → token t next ≡ taken text r
-      → counted left text r n ≡ counted (left - 1) text next (n + 1)
-  unfolding counted
-  count_on zero t next h e = absurd (omega arith)
-  count_on (suc l) t next h e =
-      let k : suc l - 1 ≡ l = omega arith in rw (k, ← e, counted)
+module _ (e : ℕ) (text : List ℕ) (r : Reader) (n : ℕ) where
+  pub turn : (read : Read) (t : Token) (next : Reader) → answer read ≡ taken text r → read ≡ Got t next → n < e
+      → counted (e - n) text r n ≡ counted (e - (n + 1)) text next (n + 1)
+  unfolding counted answer
+  turn read t next h k l =
+      let same : e - n ≡ suc (e - (n + 1)) = omega arith in
+      let got : answer (Got t next) ≡ taken text r = ap answer (sym k) ∙ h in rw (same, ← got, counted)
 
-  pub count_ended : (left : ℕ) → 0 < left → ended ≡ taken text r → counted left text r n ≡ n
-  unfolding counted
-  count_ended zero h e = absurd (omega arith)
-  count_ended (suc l) h e = rw (← e, counted)
+  pub ended : (read : Read) → answer read ≡ taken text r → ((t : Token) (next : Reader) → read ≡ Got t next → ⊥) → n < e
+      → counted (e - n) text r n ≡ n
+  unfolding counted answer
+  ended (Got t next) h k l = absurd (k t next refl)
+  ended End h k l = let same : e - n ≡ suc (e - (n + 1)) = omega arith in rw (same, ← h, counted)
+  ended Bad h k l = let same : e - n ≡ suc (e - (n + 1)) = omega arith in rw (same, ← h, counted)
 
-  pub count_refused : (left k : ℕ) → 0 < left → refused k ≡ taken text r → counted left text r n ≡ n
+  pub over : e ≤ n → counted (e - n) text r n ≡ n
   unfolding counted
-  count_refused zero k h e = absurd (omega arith)
-  count_refused (suc l) k h e = rw (← e, counted)
+  over h = let none : e - n ≡ 0 = omega arith in rw none refl
 
-  pub count_out : (left : ℕ) → left ≤ 0 → counted left text r n ≡ n
-  unfolding counted
-  count_out zero h = refl
-  count_out (suc l) h = absurd (omega arith)
+pub ruleset turns = (turn, ended, over)

@@ -7,29 +7,18 @@ ghost use Rattle.lex.specs.Answers.{start};
 ghost use Rattle.timing.specs.Count.{counted};
 
 // How many tokens a text has before its end, or before its first line that is not UTF-8.
+#[tactic(auto, using(crate::proofs::Turns::turns))]
 pub fn count_tokens(text: &[u8]) -> usize
     ensures { result ≡ counted (length text.now) text.now start 0 }
 {
     let mut r = lex::Reader::new();
-    let mut left = text.len();
-    let mut n = 0;
-    while 0 < left {
-        let read = r.token(text);
-        match read {
-            lex::Read::Got(_, next) => {
-                r = next;
-                n += 1;
-                left -= 1;
-            }
-            lex::Read::End => {
-                return n;
-            }
-            lex::Read::Bad => {
-                return n;
-            }
-        }
+    for n in 0..text.len() {
+        let lex::Read::Got(_, next) = r.token(text) else {
+            return n;
+        };
+        r = next;
     }
-    n
+    text.len()
 }
 
 // Sets the first n words to 0.

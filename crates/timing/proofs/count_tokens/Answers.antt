@@ -1,27 +1,11 @@
-use Rattle.timing.proofs.Turns.{count_on, count_ended, count_refused, count_out}
-use Rattle.lex.specs.Answers.{answer}
-use Rattle.lex.specs.Below.horn.specs.Refusals.{number, not_utf8}
-use native.Mathlib.Omega.{arith}
-use mathlib.Core.Path.{◌∙◌, ap, sym}
+use Rattle.std.proofs.Common.{sym, ◌∙◌, arith}
+use Rattle.timing.proofs.Turns.{turn, ended}
 use Rattle.timing.proofs.count_tokens.Goals as goal
 
-pub loop-left-init : goal.loop-left-init
-loop-left-init c = (rw c.new-r.ensures, omega arith)
+pub loop-n-preserved : goal.loop-n-preserved
+loop-n-preserved c =
+    (c.loop-n.invariant.0 ∙ turn _ _ _ _ _ _ _ c.token.ensures c.in-Got.is c.loop-n-test.true, omega arith)
 
-pub overflow_add-n : goal.overflow_add-n
-overflow_add-n c = record { fits = omega arith }
-
-pub loop-left-preserved : goal.loop-left-preserved
-unfolding answer
-loop-left-preserved c = (c.loop-left.invariant.0 ∙ count_on c.args.text.now c.loop-left.r c.loop-left.n c.loop-left.left c.in-Got.field-0 c.in-Got.next c.loop-left-test.true (ap answer (sym c.in-Got.is) ∙ c.token-read.ensures), omega arith)
-
-pub returns-in-End : goal.returns-in-End
-unfolding answer
-returns-in-End c = sym (c.loop-left.invariant.0 ∙ count_ended c.args.text.now c.loop-left.r c.loop-left.n c.loop-left.left c.loop-left-test.true (ap answer (sym c.in-End.is) ∙ c.token-read.ensures))
-
-pub returns-in-Bad : goal.returns-in-Bad
-unfolding answer
-returns-in-Bad c = sym (c.loop-left.invariant.0 ∙ count_refused c.args.text.now c.loop-left.r c.loop-left.n c.loop-left.left (number not_utf8) c.loop-left-test.true (ap answer (sym c.in-Bad.is) ∙ c.token-read.ensures))
-
-pub returns : goal.returns
-returns c = sym (c.loop-left.invariant.0 ∙ count_out c.args.text.now c.loop-left.r c.loop-left.n c.loop-left.left c.loop-left-test.false)
+pub returns-in_default : goal.returns-in_default
+returns-in_default c =
+    sym (c.loop-n.invariant.0 ∙ ended _ _ _ _ _ c.token.ensures c.in_default.not-Got c.loop-n-test.true)

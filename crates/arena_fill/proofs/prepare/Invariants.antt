@@ -1,8 +1,0 @@
-use Rattle.std.proofs.Common.{◌≡◌, ◌-◌, ◌≤◌, length}
-use Rattle.arena_fill.proofs.prepare.Given as goal
-
-abbrev pub invariant-loop-i : goal.invariant-loop-i
-invariant-loop-i l = (length l.a ≡ length l.initial.a) × (l.i ≤ 4_096)
-
-abbrev pub decreases-loop-i : goal.decreases-loop-i
-decreases-loop-i l = 4_096 - l.i
