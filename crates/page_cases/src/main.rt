@@ -8,27 +8,31 @@ use case_lines::{Case, Tally};
 use lent_calls::Texts;
 use std::{fs, io};
 
-// What a case answers over so many bytes of a buffer, with 64 or more before them and behind them that the call is not lent. "A release that is
-// refused writes no byte."
-fn answered(case: &Case, room: usize) -> Result<Answer, Fault> {
-    let mut out = [0u8; 48640];
-    buffers::fill(&mut out);
+// The call over so many bytes of the buffer, with 64 or more before them and behind them that it is not lent.
+fn lend(case: &Case, room: u32, out: &mut [u8]) -> Result<Answer, Fault> {
     let texts = Texts {
         rulebook: case.rulebook.as_slice(),
         goals: case.goals.as_slice(),
         certificate: case.certificate.as_slice(),
     };
-    if 48640 - 128 < room {
+    let end = 64 + room as usize;
+    if out.len() < end + 64 {
         return Err(Fault::TooLong);
     }
-    let lent = &mut out[64..64 + room];
-    let answer = lent_calls::answered(
+    lent_calls::answered(
         Call::Page,
         areas::garbage(),
         case.lengths,
         texts,
-        lent,
-    )?;
+        &mut out[64..end],
+    )
+}
+
+// What a case answers over a buffer of so many bytes. "A release that is refused writes no byte."
+fn answered(case: &Case, room: u32) -> Result<Answer, Fault> {
+    let mut out = [0u8; 48640];
+    buffers::fill(&mut out);
+    let answer = lend(case, room, &mut out)?;
     if answer.number == 0 {
         buffers::with_buffer(answer, &out, 64, case.page.as_slice())
     } else {

@@ -2,7 +2,7 @@
 // as they were; numbers in their field, longer ones than a release can have; and what the program `page` writes of files, refused ones too.
 #![tactic(auto)]
 
-use answers::Call;
+use answers::{Answer, Call, Fault};
 use areas::Lengths;
 use lent_calls::Texts;
 use release_files::Three;
@@ -10,19 +10,23 @@ use std::io;
 use std::io::Write;
 use std::rt::Files;
 
-// Writes what the call answers over so many bytes of a buffer, and the page.
-fn show<R: Print>(rt: &R, label: &str, room: usize, texts: Texts<'_>) -> io::Result<()> {
-    let mut out = [0u8; 512];
-    buffers::fill(&mut out);
-    let lent = out.get_mut(..room).unwrap_or(&mut []);
-    let seen = lent_calls::answered(
+// The call over so many bytes of the buffer.
+fn lend(room: usize, texts: Texts<'_>, out: &mut [u8]) -> Result<Answer, Fault> {
+    let lent = out.get_mut(..room).ok_or(Fault::TooLong)?;
+    lent_calls::answered(
         Call::Page,
         areas::garbage(),
         Lengths::default(),
         texts,
         lent,
-    );
-    let answer = match seen {
+    )
+}
+
+// Writes what the call answers over so many bytes of a buffer, and the page.
+fn show<R: Print>(rt: &R, label: &str, room: usize, texts: Texts<'_>) -> io::Result<()> {
+    let mut out = [0u8; 512];
+    buffers::fill(&mut out);
+    let answer = match lend(room, texts, &mut out) {
         Ok(answer) => answer,
         Err(fault) => return println!(rt; "{label}:{fault}"),
     };
