@@ -21,13 +21,7 @@ fn kept(head: Head) -> Answer {
     Answer {
         call,
         number,
-        counts: [
-            head.first,
-            head.second,
-            head.third,
-            head.fourth,
-            head.fifth,
-        ],
+        counts: [head.first, head.second, head.third, head.fourth, head.fifth],
     }
 }
 
