@@ -1,161 +1,114 @@
-// Answers of the calls, and how programs write and compare them.
+// Answers of the calls, what was wrong with one, and how programs write and compare them.
 #![tactic(auto)]
 
-// A report of a call, or one that is stated. The call with the rulebook alone has four counts: its fifth is 0, and is not written. The call that
-// writes the page has one, the length.
-#[derive(Clone, Copy)]
-pub struct Answer {
-    pub number: u32,
-    pub first: u32,
-    pub second: u32,
-    pub third: u32,
-    pub fourth: u32,
-    pub fifth: u32,
+use std::fmt;
+
+// Which call an answer is of.
+#[derive(Clone, Copy, PartialEq, Eq)]
+pub enum Call {
+    Rulebook,
+    Release,
+    Page,
 }
 
-// An answer of a call that writes one text.
-pub fn written(number: u32, length: u32) -> Answer {
-    Answer {
-        number,
-        first: length,
-        second: 0,
-        third: 0,
-        fourth: 0,
-        fifth: 0,
+impl fmt::Display for Call {
+    fn fmt<W: fmt::Write>(&self, f: &mut fmt::Formatter<W>) -> fmt::Result {
+        match self {
+            Call::Rulebook => write!(f, "rulebook"),
+            Call::Release => write!(f, "release"),
+            Call::Page => write!(f, "page"),
+        }
+    }
+}
+
+// A report of a call, or one that is stated. The call with the rulebook alone has four counts, and its fifth is 0; the call that writes the
+// page has one, the length.
+#[derive(Clone, Copy, PartialEq, Eq)]
+pub struct Answer {
+    pub call: Call,
+    pub number: u32,
+    pub counts: [u32; 5],
+}
+
+// The number and the counts that the call has, a space before each.
+impl fmt::Display for Answer {
+    fn fmt<W: fmt::Write>(&self, f: &mut fmt::Formatter<W>) -> fmt::Result {
+        let number = self.number;
+        let [first, second, third, fourth, fifth] = self.counts;
+        match self.call {
+            Call::Rulebook => write!(f, " {number} {first} {second} {third} {fourth}"),
+            Call::Release => write!(f, " {number} {first} {second} {third} {fourth} {fifth}"),
+            Call::Page => write!(f, " {number} {first}"),
+        }
     }
 }
 
 // How many words of each area are 0 after an answer.
 pub fn cleared(number: u32) -> usize {
-    if number == 1 {
-        return 0;
+    match number {
+        1 | 2 => 0,
+        _ => 16384,
     }
-    if number == 2 {
-        return 0;
-    }
-    16384
 }
 
-// Whether two answers are equal.
-pub fn same(x: Answer, y: Answer) -> bool {
-    if x.number != y.number {
-        return false;
-    }
-    if x.first != y.first {
-        return false;
-    }
-    if x.second != y.second {
-        return false;
-    }
-    if x.third != y.third {
-        return false;
-    }
-    if x.fourth != y.fourth {
-        return false;
-    }
-    x.fifth == y.fifth
+// What was wrong: a case lends more than there is, or the areas, or the buffer, are not as they must be after the answer.
+#[derive(Clone, Copy, PartialEq, Eq)]
+pub enum Fault {
+    TooLong,
+    Areas(Answer),
+    Buffer(Answer),
 }
 
-// Writes a number behind a space.
-pub fn number(n: u32) {
-    io::write_all(1, b" ");
-    io::print_decimal(1, n as u64);
-}
-
-// Writes an answer of the call with the rulebook alone.
-pub fn show_alone(x: Answer) {
-    number(x.number);
-    number(x.first);
-    number(x.second);
-    number(x.third);
-    number(x.fourth);
-}
-
-// Writes an answer of the call with three texts.
-pub fn show(x: Answer) {
-    show_alone(x);
-    number(x.fifth);
-}
-
-// Writes an answer of a call that writes one text.
-pub fn show_written(x: Answer) {
-    number(x.number);
-    number(x.first);
-}
-
-// Writes an answer of either of these two.
-pub fn show_either(alone: bool, x: Answer) {
-    if alone {
-        show_alone(x);
-        return;
+impl fmt::Display for Fault {
+    fn fmt<W: fmt::Write>(&self, f: &mut fmt::Formatter<W>) -> fmt::Result {
+        match self {
+            Fault::TooLong => write!(f, " nothing, since it lends too much"),
+            Fault::Areas(answer) => write!(f, "{answer}, areas wrong"),
+            Fault::Buffer(answer) => write!(f, "{answer}, buffer wrong"),
+        }
     }
-    show(x);
 }
 
-// Writes what an example answers, and what it did to the areas.
-pub fn show_example(alone: bool, label: &[u8], x: Answer) {
-    io::write_all(1, label);
-    io::write_all(1, b":");
-    show_either(alone, x);
-    if cleared(x.number) == 0 {
-        io::write_all(1, b" untouched\n");
-        return;
+// The answer that was due, under the word that says where it stands, and what came in its place.
+#[derive(Clone, Copy)]
+pub struct Difference<'a> {
+    pub word: &'a str,
+    pub due: Answer,
+    pub seen: Result<Answer, Fault>,
+}
+
+impl<'a> fmt::Display for Difference<'a> {
+    fn fmt<W: fmt::Write>(&self, f: &mut fmt::Formatter<W>) -> fmt::Result {
+        let word = self.word;
+        let due = self.due;
+        match self.seen {
+            Ok(answer) => write!(f, ": {word}{due}, answered{answer}"),
+            Err(fault) => write!(f, ": {word}{due}, answered{fault}"),
+        }
     }
-    io::write_all(1, b" cleared\n");
-}
-
-// What became of a kept case.
-#[derive(Drop)]
-pub enum Case {
-    End,
-    Agrees,
-    Differs,
-}
-
-// The answer of a kept case beside the one that is kept. Where they differ, it says so.
-pub fn compare(alone: bool, label: &[u8], kept: Answer, x: Answer) -> Case {
-    if same(kept, x) {
-        return Case::Agrees;
-    }
-    io::write_all(1, label);
-    io::write_all(1, b": kept");
-    show_either(alone, kept);
-    io::write_all(1, b", answered");
-    show_either(alone, x);
-    io::write_all(1, b"\n");
-    Case::Differs
 }
 
 // How many cases there were, and how many of them differed.
-#[derive(Drop)]
+#[derive(Clone, Copy, Default)]
 pub struct Tally {
     pub cases: u32,
     pub differences: u32,
 }
 
 impl Tally {
-    // None yet.
-    pub fn new() -> Tally {
-        Tally {
-            cases: 0,
-            differences: 0,
-        }
-    }
-
     // One case more.
-    pub fn and(self, different: u32) -> Tally {
+    pub fn and(self, different: bool) -> Tally {
         Tally {
-            cases: std::num::wrapping_add_u32(self.cases, 1),
-            differences: std::num::wrapping_add_u32(self.differences, different),
+            cases: self.cases.wrapping_add(1),
+            differences: self.differences.wrapping_add(u32::from(different)),
         }
     }
 }
 
-// Writes the counts.
-pub fn finish(t: Tally) {
-    io::write_all(1, b"cases");
-    number(t.cases);
-    io::write_all(1, b"\ndifferences");
-    number(t.differences);
-    io::write_all(1, b"\n");
+impl fmt::Display for Tally {
+    fn fmt<W: fmt::Write>(&self, f: &mut fmt::Formatter<W>) -> fmt::Result {
+        let cases = self.cases;
+        let differences = self.differences;
+        write!(f, "cases {cases}\ndifferences {differences}\n")
+    }
 }

@@ -5,10 +5,9 @@
 // since a count of requests to the store does not fit two, all else two, high byte first.
 #![tactic(auto)]
 
-ghost use Rattle.std.specs.Prelude.{◌+◌, ◌*◌, ◌≡◌, get_or};
+ghost use Rattle.std.specs.Prelude.{◌+◌, ◌*◌, ◌≡◌, ◌≤◌, get_or, length, IfSome};
+ghost use Rattle.std.specs.Iterator.{at_most};
 ghost use Rattle.call_cases.specs.Heads.{pair_at, four_at};
-
-use std::io::Read;
 
 #[derive(Clone, Copy)]
 pub struct Head {
@@ -24,51 +23,34 @@ pub struct Head {
     pub fifth: u32,
 }
 
-// A byte as a number.
-fn wide(b: u8) -> u32
-    ensures { result ≡ b }
+// The byte at a place, 0 where there is none.
+fn byte(b: &[u8], i: usize) -> u8
+    ensures { result ≡ get_or b.now i 0 }
 {
-    b as u32
-}
-
-// A number of two bytes, the high one first.
-fn pair(high: u8, low: u8) -> u32
-    ensures { result ≡ high * 256 + low }
-{
-    wide(high) * 256 + wide(low)
-}
-
-// A number of four bytes, the highest first.
-fn four(highest: u8, high: u8, low: u8, lowest: u8) -> u32
-    ensures { result ≡ (highest * 256 + high) * 65536 + (low * 256 + lowest) }
-{
-    pair(highest, high) * 65536 + pair(low, lowest)
+    b.get(i).copied().unwrap_or(0)
 }
 
 // The number of one byte at a place.
 fn one_at(b: &[u8], i: usize) -> u32
     ensures { result ≡ get_or b.now i 0 }
 {
-    wide(words::byte(b, i))
+    u32::from(byte(b, i))
 }
 
 // The number of two bytes at two places.
+#[tactic(auto, unfolding(crate::specs::Heads::pair_at))]
 fn two_at(b: &[u8], i: usize, j: usize) -> u32
     ensures { result ≡ pair_at b.now i j }
 {
-    pair(words::byte(b, i), words::byte(b, j))
+    one_at(b, i) * 256 + one_at(b, j)
 }
 
 // The number of four bytes at four places.
+#[tactic(auto, unfolding(crate::specs::Heads::four_at, crate::specs::Heads::pair_at))]
 fn four_at(b: &[u8], i: usize, j: usize, k: usize, l: usize) -> u32
     ensures { result ≡ four_at b.now i j k l }
 {
-    four(
-        words::byte(b, i),
-        words::byte(b, j),
-        words::byte(b, k),
-        words::byte(b, l),
-    )
+    two_at(b, i, j) * 65536 + two_at(b, k, l)
 }
 
 // What the first bytes of a case say of it.
@@ -100,34 +82,65 @@ pub fn head_of(b: &[u8]) -> Head
     }
 }
 
-// Whether the file's next n bytes are now the first n of the buffer.
-fn taken<F: Read>(file: &mut F, buf: &mut [u8], n: usize) -> bool {
-    if buf.len() < n {
-        return false;
-    }
-    match reading::fill(file, &mut buf[..n]) {
-        Ok(got) => got == n,
-        Err(_) => false,
-    }
+// A case, its texts as parts of the file's bytes.
+#[derive(Clone, Copy)]
+pub struct Case<'a> {
+    pub head: Head,
+    pub label: &'a str,
+    pub rulebook: &'a [u8],
+    pub goals: &'a [u8],
+    pub certificate: &'a [u8],
 }
 
-// Whether label and texts are now the first bytes of their buffers. No contract can say which bytes a file holds.
-pub fn read<F: Read>(
-    file: &mut F,
-    h: Head,
-    label: &mut [u8],
-    rulebook: &mut [u8],
-    goals: &mut [u8],
-    certificate: &mut [u8],
-) -> bool {
-    if !taken(file, label, h.label as usize) {
-        return false;
+// The case with which the bytes begin, and the bytes behind it; nothing where they are fewer than its head says.
+fn first_case<'a>(bytes: &'a [u8]) -> Option<(Case<'a>, &'a [u8])>
+    ensures { IfSome result (λ p. length p.1.now + 20 ≤ length bytes.now) }
+{
+    let (first, rest) = bytes.split_first_chunk::<20>()?;
+    let head = head_of(first);
+    let (label, rest) = rest.split_at_checked(head.label as usize)?;
+    let (rulebook, rest) = rest.split_at_checked(head.rulebook as usize)?;
+    let (goals, rest) = rest.split_at_checked(head.goals as usize)?;
+    let (certificate, rest) = rest.split_at_checked(head.certificate as usize)?;
+    let label = str::from_utf8(label).unwrap_or("a label that is no text");
+    Some((
+        Case {
+            head,
+            label,
+            rulebook,
+            goals,
+            certificate,
+        },
+        rest,
+    ))
+}
+
+// The last case of a file has fewer bytes than its head says.
+#[derive(Clone, Copy)]
+pub struct CutShort;
+
+// The cases of a file, by its bytes.
+#[derive(Drop)]
+pub struct Cases<'a>(pub &'a [u8]);
+
+impl<'a> Iterator for Cases<'a> {
+    type Item = Result<Case<'a>, CutShort>;
+
+    ghost remaining = { λ s. at_most (length s.0.now) };
+
+    fn next(&mut self) -> Option<Result<Case<'a>, CutShort>> {
+        if self.0.len() < 20 {
+            return None;
+        }
+        match first_case(self.0) {
+            Some((case, rest)) => {
+                self.0 = rest;
+                Some(Ok(case))
+            }
+            None => {
+                self.0 = b"";
+                Some(Err(CutShort))
+            }
+        }
     }
-    if !taken(file, rulebook, h.rulebook as usize) {
-        return false;
-    }
-    if !taken(file, goals, h.goals as usize) {
-        return false;
-    }
-    taken(file, certificate, h.certificate as usize)
 }

@@ -6,84 +6,57 @@
 // rulebook is judged alone. Its first four numbers are the words of each area that are lent; the fifth says nothing.
 #![tactic(auto)]
 
-use areas::{Before, Lengths};
-use call_cases::Head;
-use std::fs::File;
-use std::io::Read;
-
-// What the areas hold before a case.
-fn held_before(own: u32) -> Before {
-    if own % 2 == 1 {
-        return areas::ones();
-    }
-    areas::garbage()
-}
+use answers::{Answer, Call, Fault};
+use areas::Lengths;
+use call_cases::{Case, Cases};
+use lent_calls::Texts;
+use std::{fs, io};
 
 // One case over as many words of each area as it lends.
-fn judge<'a>(h: Head, label: &[u8], rulebook: &'a [u8], goals: &'a [u8], certificate: &[u8]) {
+fn judge(case: Case<'_>) -> Result<Answer, Fault> {
+    let head = case.head;
+    let call = if 2 <= head.own {
+        Call::Rulebook
+    } else {
+        Call::Release
+    };
+    let before = if head.own % 2 == 1 {
+        areas::ones()
+    } else {
+        areas::garbage()
+    };
     let lengths = Lengths {
-        first: h.first,
-        second: h.second,
-        third: h.third,
-        fourth: h.fourth,
+        first: head.first,
+        second: head.second,
+        third: head.third,
+        fourth: head.fourth,
     };
-    let alone = 2 <= h.own;
-    let x = lent_calls::answered(
-        held_before(h.own),
-        alone,
-        lengths,
-        rulebook,
-        goals,
-        certificate,
-    );
-    answers::show_example(alone, label, x);
+    let texts = Texts {
+        rulebook: case.rulebook,
+        goals: case.goals,
+        certificate: case.certificate,
+    };
+    lent_calls::answered(call, before, lengths, texts, &mut [])
 }
 
-// Whether there was a case more in the file.
-fn next<F: Read>(file: &mut F) -> bool {
-    let mut head = [0u8; 20];
-    let Ok(20) = reading::fill(file, &mut head) else {
-        return false;
-    };
-    let h = call_cases::head_of(&head);
-    let mut label = [0u8; 255];
-    let mut rulebook = [0u8; 8193];
-    let mut goals = [0u8; 8193];
-    let mut certificate = [0u8; 32769];
-    if !call_cases::read(
-        file,
-        h,
-        &mut label,
-        &mut rulebook,
-        &mut goals,
-        &mut certificate,
-    ) {
-        io::write_all(1, b"a case cut short\n");
-        return false;
+// Writes what a case answers, and what it did to the areas.
+fn show<R: Print>(rt: &R, label: &str, seen: Result<Answer, Fault>) -> io::Result<()> {
+    match seen {
+        Ok(answer) if answers::cleared(answer.number) == 0 => {
+            println!(rt; "{label}:{answer} untouched")
+        }
+        Ok(answer) => println!(rt; "{label}:{answer} cleared"),
+        Err(fault) => println!(rt; "{label}:{fault}"),
     }
-    judge(
-        h,
-        words::bytes_part(&label, 0, h.label as usize),
-        words::bytes_part(&rulebook, 0, h.rulebook as usize),
-        words::bytes_part(&goals, 0, h.goals as usize),
-        words::bytes_part(&certificate, 0, h.certificate as usize),
-    );
-    true
 }
 
-// A proved loop has to end, and nothing says that a file does: so many turns at most.
-fn all<F: Read>(file: &mut F) {
-    let mut turns: u32 = 1000000;
-    while 0 < turns {
-        turns -= 1;
-        if !next(file) {
-            turns = 0;
+fn main(rt: HostRuntime) -> io::Result<()> {
+    let bytes = fs::read(&rt, "examples")?;
+    for case in Cases(bytes.as_slice()) {
+        match case {
+            Ok(case) => show(&rt, case.label, judge(case))?,
+            Err(_) => println!(rt; "a case cut short")?,
         }
     }
-}
-
-fn main(rt: HostRuntime) -> std::io::Result<()> {
-    let mut file = File::open(&rt, "examples")?;
-    all(&mut file);
     Ok(())
 }

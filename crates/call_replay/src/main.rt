@@ -5,108 +5,67 @@
 // number, with 128 added where the rulebook is judged alone; its five numbers are the counts, of which a rulebook alone has four and a 0.
 #![tactic(auto)]
 
-use answers::{Answer, Case, Tally};
+use answers::{Answer, Call, Difference, Tally};
 use areas::Lengths;
-use call_cases::Head;
-use std::fs::File;
-use std::io::Read;
+use call_cases::{Case, Cases, Head};
+use lent_calls::Texts;
+use std::{fs, io};
 
-// The number that was kept.
-fn number_of(own: u32) -> u32 {
-    if 128 <= own {
-        return own - 128;
+// The answer that was kept.
+fn kept(head: Head) -> Answer {
+    let (call, number) = if 128 <= head.own {
+        (Call::Rulebook, head.own - 128)
+    } else {
+        (Call::Release, head.own)
+    };
+    Answer {
+        call,
+        number,
+        counts: [head.first, head.second, head.third, head.fourth, head.fifth],
     }
-    own
 }
 
-// One case beside what was kept of it.
-fn judge<'a>(
-    h: Head,
-    label: &[u8],
-    rulebook: &'a [u8],
-    goals: &'a [u8],
-    certificate: &[u8],
-) -> Case {
-    let alone = 128 <= h.own;
-    let kept = Answer {
-        number: number_of(h.own),
-        first: h.first,
-        second: h.second,
-        third: h.third,
-        fourth: h.fourth,
-        fifth: h.fifth,
-    };
+// One case beside what was kept of it: the difference, if there is one.
+fn judge(case: Case<'_>) -> Option<Difference<'static>> {
+    let due = kept(case.head);
     let lengths = Lengths {
         first: 16384,
         second: 20000,
         third: 16385,
         fourth: 16384,
     };
-    let x = lent_calls::answered(
-        areas::garbage(),
-        alone,
-        lengths,
-        rulebook,
-        goals,
-        certificate,
-    );
-    answers::compare(alone, label, kept, x)
-}
-
-// The next case of the file.
-fn next<F: Read>(file: &mut F) -> Case {
-    let mut head = [0u8; 20];
-    let Ok(20) = reading::fill(file, &mut head) else {
-        return Case::End;
+    let texts = Texts {
+        rulebook: case.rulebook,
+        goals: case.goals,
+        certificate: case.certificate,
     };
-    let h = call_cases::head_of(&head);
-    let mut label = [0u8; 255];
-    let mut rulebook = [0u8; 8192];
-    let mut goals = [0u8; 8192];
-    let mut certificate = [0u8; 32768];
-    if !call_cases::read(
-        file,
-        h,
-        &mut label,
-        &mut rulebook,
-        &mut goals,
-        &mut certificate,
-    ) {
-        io::write_all(1, b"a case cut short\n");
-        return Case::Differs;
+    let seen = lent_calls::answered(due.call, areas::garbage(), lengths, texts, &mut []);
+    if seen == Ok(due) {
+        None
+    } else {
+        Some(Difference {
+            word: "kept",
+            due,
+            seen,
+        })
     }
-    judge(
-        h,
-        words::bytes_part(&label, 0, h.label as usize),
-        words::bytes_part(&rulebook, 0, h.rulebook as usize),
-        words::bytes_part(&goals, 0, h.goals as usize),
-        words::bytes_part(&certificate, 0, h.certificate as usize),
-    )
 }
 
-// A proved loop has to end, and nothing says that a file does: so many turns at most.
-fn replay<F: Read>(file: &mut F) {
-    let mut t = Tally::new();
-    let mut turns: u32 = 1000000;
-    while 0 < turns {
-        turns -= 1;
-        match next(file) {
-            Case::Agrees => {
-                t = t.and(0);
-            }
-            Case::Differs => {
-                t = t.and(1);
-            }
-            Case::End => {
-                turns = 0;
-            }
+fn main(rt: HostRuntime) -> io::Result<()> {
+    let bytes = fs::read(&rt, "cases")?;
+    let mut tally = Tally::default();
+    for case in Cases(bytes.as_slice()) {
+        let Ok(case) = case else {
+            println!(rt; "a case cut short")?;
+            tally = tally.and(true);
+            continue;
+        };
+        let difference = judge(case);
+        if let Some(difference) = difference {
+            let label = case.label;
+            println!(rt; "{label}{difference}")?;
         }
+        tally = tally.and(difference.is_some());
     }
-    answers::finish(t);
-}
-
-fn main(rt: HostRuntime) -> std::io::Result<()> {
-    let mut file = File::open(&rt, "cases")?;
-    replay(&mut file);
-    Ok(())
+    print!(rt; "{tally}")
 }

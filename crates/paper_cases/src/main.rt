@@ -3,87 +3,64 @@
 // from the other.
 #![tactic(auto)]
 
-use answers::Answer;
-use case_lines::State;
-use std::fs::File;
+use answers::{Call, Difference};
+use case_lines::{Case, Tally};
+use lent_calls::Texts;
+use std::{fs, io};
 
-// One call of a case against the answer that is stated.
-fn compare<'a>(alone: bool, s: State, stated: Answer, r: &'a [u8], g: &'a [u8], c: &[u8]) -> State {
-    let x = lent_calls::answered(
-        areas::garbage(),
-        alone,
-        s.areas,
-        words::bytes_part(r, 0, s.rulebook as usize),
-        words::bytes_part(g, 0, s.goals as usize),
-        words::bytes_part(c, 0, s.certificate as usize),
-    );
-    case_lines::ran(alone, s, stated, x)
-}
-
-// `release ANSWER`, `rulebook ANSWER` or `both ANSWER`.
-fn answer_line<'a>(
-    s: State,
-    list: &[u8],
-    from: u32,
-    to: u32,
-    r: &'a [u8],
-    g: &'a [u8],
-    c: &[u8],
-) -> State {
-    let x = case_lines::stated(list, words::plus(case_text::find(list, from, 32), 1), to);
-    if case_text::byte_at(list, from) == 98 {
-        return compare(true, compare(false, s, x, r, g, c), x, r, g, c);
+// A call of the case at hand against the answer that is stated, counted.
+fn compare<R: Print>(
+    rt: &R,
+    call: Call,
+    case: &Case,
+    tally: Tally,
+    stated: &str,
+) -> io::Result<Tally> {
+    let due = case_lines::stated(call, stated);
+    let texts = Texts {
+        rulebook: case.rulebook.as_slice(),
+        goals: case.goals.as_slice(),
+        certificate: case.certificate.as_slice(),
+    };
+    let seen = lent_calls::answered(call, areas::garbage(), case.lengths, texts, &mut []);
+    let as_stated = seen == Ok(due);
+    if !as_stated {
+        let number = tally.cases;
+        let difference = Difference {
+            word: "stated",
+            due,
+            seen,
+        };
+        println!(rt; "case {number} {call}{difference}")?;
     }
-    compare(
-        case_text::byte_at(list, words::plus(from, 1)) == 117,
-        s,
-        x,
-        r,
-        g,
-        c,
-    )
+    Ok(case_lines::counted(tally, as_stated))
 }
 
-// A line that states an answer, or one that changes the case at hand.
-fn line(
-    s: State,
-    list: &[u8],
-    from: u32,
-    to: u32,
-    r: &mut [u8],
-    g: &mut [u8],
-    c: &mut [u8],
-) -> State {
-    if case_lines::is_answer(list, from, to) {
-        return answer_line(s, list, from, to, r, g, c);
-    }
-    case_lines::line(s, list, from, to, r, g, c)
-}
-
-// All lines. A proved loop has to end: so many turns at most.
-fn all(list: &[u8]) -> State {
-    let mut r = [0u8; 8193];
-    let mut g = [0u8; 8193];
-    let mut c = [0u8; 32769];
-    let mut s = case_lines::none();
-    let mut i: u32 = 0;
-    let mut turns: u32 = 100000;
-    while 0 < turns {
-        turns -= 1;
-        if case_text::beyond(list, i) {
-            return s;
+// All lines: one that states an answer, or one that changes the case at hand.
+fn all<R: Print>(rt: &R, list: &str) -> io::Result<Tally> {
+    let mut case = Case::default();
+    let mut tally = Tally::default();
+    for line in list.lines() {
+        let (word, rest) = line.split_once(' ').unwrap_or((line, ""));
+        match word {
+            "release" => tally = compare(rt, Call::Release, &case, tally, rest)?,
+            "rulebook" => tally = compare(rt, Call::Rulebook, &case, tally, rest)?,
+            "both" => {
+                tally = compare(rt, Call::Release, &case, tally, rest)?;
+                tally = compare(rt, Call::Rulebook, &case, tally, rest)?;
+            }
+            _ => {
+                if !case_lines::line(&mut case, &mut tally, word, rest) {
+                    println!(rt; "a case out of order")?;
+                }
+            }
         }
-        let to = case_text::find(list, i, 10);
-        s = line(s, list, i, to, &mut r, &mut g, &mut c);
-        i = words::plus(to, 1);
     }
-    s
+    Ok(tally)
 }
 
-fn main(rt: HostRuntime) -> std::io::Result<()> {
-    let mut file = File::open(&rt, "cases.txt")?;
-    let mut list = [0u8; 131072];
-    let n = reading::fill(&mut file, &mut list)?;
-    case_lines::finish(all(words::bytes_part(&list, 0, n)));
-    Ok(())
+fn main(rt: HostRuntime) -> io::Result<()> {
+    let list = fs::read_to_string(&rt, "cases.txt")?;
+    let tally = all(&rt, list.as_str())?;
+    print!(rt; "{tally}")
 }

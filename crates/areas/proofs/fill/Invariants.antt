@@ -1,9 +1,6 @@
-use Rattle.std.proofs.Common.{◌≡◌, ◌+◌, length}
+use Rattle.std.proofs.Common.{◌≡◌, ◌-◌, ◌≤◌, length}
 use Rattle.areas.specs.Filling.{filled}
 use Rattle.areas.proofs.fill.Given as goal
 
-abbrev pub invariant-loop-left : goal.invariant-loop-left
-invariant-loop-left l = (filled (length l.initial.s) 0 l.first l.step l.initial.s ≡ filled l.left l.i l.w l.step l.s) × (length l.s ≡ length l.initial.s) × (l.i + l.left ≡ length l.initial.s)
-
-abbrev pub decreases-loop-left : goal.decreases-loop-left
-decreases-loop-left l = l.left
+abbrev pub invariant-loop-i : goal.invariant-loop-i
+invariant-loop-i l = (filled (length l.initial.s) 0 l.first l.step l.initial.s ≡ filled (l.i-end - l.i) l.i l.w l.step l.s) × (length l.s ≡ length l.initial.s) × (l.i ≤ l.i-end)
