@@ -17,10 +17,10 @@ pub data Start : Type 0 where
   opened : ℕ → Start
 
 -- What each case says, beside the reader that is lent. A refusal has none.
-abbrev pub starting : Reader → Begun → Start × Reader
-starting r starts.Closing = (closed, r)
-starting r (starts.Whole k) = (whole k, r)
-starting r (starts.Opened c) = (opened c, r)
+abbrev pub begins : Reader → Begun → Start × Reader
+begins r starts.Closing = (closed, r)
+begins r (starts.Whole k) = (whole k, r)
+begins r (starts.Opened c) = (opened c, r)
 
 -- Whether a closing is next, asked only for a member of a list.
 abbrev pub look_for : List ℕ → Bool → Reader → Outcome asking.Ahead

@@ -7,7 +7,7 @@ ghost use Rattle.asking.specs.Asking as asked;
 ghost use Rattle.asking.specs.Asking.{looked};
 ghost use Rattle.outcomes.specs.Told.{told_as};
 ghost use Rattle.outcomes.specs.Leaving.{◌leaving◌};
-ghost use Rattle.openings.specs.Openings.{starting, look_for, begun_at, begun};
+ghost use Rattle.openings.specs.Openings.{begins, look_for, begun_at, begun};
 
 use asking::{Item, Look};
 use lex::Reader;
@@ -45,7 +45,7 @@ pub fn item(
     left: u32,
     reader: Reader,
 ) -> Result<Begun, Refusal>
-    ensures { (told_as (starting r.new) result leaving (store.new, stack.new))
+    ensures { (told_as (begins r.new) result leaving (store.new, stack.new))
         ≡ begun_at left text.now rules.now heap.now table.now top (asked.member reader) store.old
         stack.old }
 {
@@ -82,7 +82,7 @@ pub fn begin(
     left: u32,
     member: bool,
 ) -> Result<Begun, Refusal>
-    ensures { (told_as (starting r.new) result leaving (store.new, stack.new))
+    ensures { (told_as (begins r.new) result leaving (store.new, stack.new))
         ≡ begun member left text.now rules.now heap.now table.now top r.old store.old stack.old }
 {
     match look(text, member, *r)? {
