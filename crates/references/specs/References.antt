@@ -10,13 +10,6 @@ use Rattle.outcomes.specs.Outcomes as outcomes
 use Rattle.outcomes.specs.Leaving.{Did, ◌leaving◌, ◌>>=◌}
 use Rattle.theory_reading.specs.Reading.{rule_found, premise_count}
 use Rattle.asking.specs.Asking.{in_form, in_list, Ahead, closing, member, atom_due, list_due, closing_next}
-use Rattle.references.specs.declared.Indexed.{Indexed}
-use Rattle.references.specs.declared.Indexed.TheVariants as numbers
-
--- What a number answers: itself and the reader after it.
-abbrev pub indexed : Indexed → Outcome (ℕ × Reader)
-indexed (numbers.Got i r) = ok (i, r)
-indexed (numbers.Refused n) = refused n
 
 -- "I as a number, 18": an atom, asked for with that much depth left, and the reader after it.
 unfoldable pub number_due : List ℕ → ℕ → Reader → Outcome (ℕ × Reader)
