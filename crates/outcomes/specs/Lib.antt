@@ -3,3 +3,4 @@ pub mod Outcomes
 pub mod Leaving
 pub mod Told
 pub mod Simulation
+pub mod Told

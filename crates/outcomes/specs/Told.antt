@@ -1,10 +1,12 @@
--- What a function of the code answers, said as an outcome: a value, or a refusal by the paper's number.
-use Rattle.std.specs.Prelude.{ℕ, Result, Ok, Err}
+-- What the code's answers say: the number of each refusal, which is the paper's, and a value or a refusal by its number.
+use Rattle.std.specs.Prelude.{ℕ}
+use Rattle.std.specs.declared.result.Result.{Result}
+use Rattle.std.specs.declared.result.Result.TheVariants.{Ok, Err}
 use Rattle.outcomes.specs.Outcomes.{Outcome, ok, refused}
 use Rattle.outcomes.specs.declared.Refusal.{Refusal}
 use Rattle.outcomes.specs.declared.Refusal.TheVariants as refusals
 
--- Column "No." of the paper's table, and 31 by L2.
+-- Column "No." of the table, and 31 for an output that is too long.
 abbrev pub number : Refusal → ℕ
 number refusals.AreaShort = 1
 number refusals.TextLong = 2
@@ -38,12 +40,12 @@ number refusals.GoalOpen = 29
 number refusals.NotOpened = 30
 number refusals.OutputLong = 31
 
--- An answer, of any value.
+-- A value, or a refusal by its number.
 abbrev pub told : {A : Type 0} → Result A Refusal → Outcome A
 told (Ok a) = ok a
 told (Err e) = refused (number e)
 
--- The same where the value is a case of an enum of the code, which f says in the model's words.
+-- The same where the definition has the value in a form of its own.
 abbrev pub told_as : {A B : Type 0} → (A → B) → Result A Refusal → Outcome B
 told_as f (Ok a) = ok (f a)
 told_as f (Err e) = refused (number e)

@@ -1,10 +1,11 @@
-// What a walk answers and leaves, and when that is what the definition says. The refusals, which every answer of the code names.
+// What a walk answers and leaves, and when that is what the definition says; and the refusals themselves, which the code names by one enum.
+
 #![tactic(auto)]
 
 ghost use Rattle.std.specs.Prelude.{◌≡◌};
 ghost use Rattle.outcomes.specs.Told.{number};
 
-// The refusals, in the order of the paper's table; their numbers are `number`'s.
+// The refusals, in the order of the paper's table; the number of each is `number`'s.
 #[derive(Clone, Copy, PartialEq, Eq, Debug)]
 pub enum Refusal {
     AreaShort,
@@ -41,7 +42,7 @@ pub enum Refusal {
 }
 
 impl Refusal {
-    // Its number in the paper's table.
+    // The number that the table gives a refusal, 1 to 31.
     pub fn number(self) -> u32
         ensures { result ≡ number self }
     {
