@@ -30,7 +30,7 @@ pub enum Look {
 }
 
 // "Asking for an item at depth 257 is refusal 4, before its token is taken; then end of text is 5, a closing 6."
-#[tactic(auto, unfolding(crate::specs::Asking::item_due, lex::specs::Answers::answer, horn::specs::Refusals::number))]
+#[tactic(auto, using(outcomes::proofs::BadLines::bad_line), unfolding(crate::specs::Asking::item_due, lex::specs::Answers::answer))]
 pub fn item_due(text: &[u8], left: u32, reader: Reader) -> Result<Item, Refusal>
     ensures { told_as met result ≡ item_due text.now left reader }
 {
@@ -40,11 +40,9 @@ pub fn item_due(text: &[u8], left: u32, reader: Reader) -> Result<Item, Refusal>
     match reader.token(text) {
         Read::End => Err(Refusal::TextEnds),
         Read::Bad => Err(Refusal::NotUtf8),
-        Read::Got(token, next) => match token {
-            Token::Closing => Err(Refusal::StrayClosing),
-            Token::Opening => Ok(Item::List(next)),
-            Token::Atom(s, t) => Ok(Item::Atom(s, t, next)),
-        },
+        Read::Got(Token::Closing, _) => Err(Refusal::StrayClosing),
+        Read::Got(Token::Opening, next) => Ok(Item::List(next)),
+        Read::Got(Token::Atom(s, t), next) => Ok(Item::Atom(s, t, next)),
     }
 }
 
@@ -64,60 +62,52 @@ pub fn atom_due(text: &[u8], left: u32, reader: Reader) -> Result<(usize, usize,
 pub fn list_due(text: &[u8], left: u32, reader: Reader) -> Result<Reader, Refusal>
     ensures { told result ≡ list_due text.now left reader }
 {
-    match item_due(text, left, reader)? {
-        Item::Atom(_, _, _) => Err(Refusal::AtomOrList),
-        Item::List(next) => Ok(next),
-    }
+    let Item::List(next) = item_due(text, left, reader)? else {
+        return Err(Refusal::AtomOrList);
+    };
+    Ok(next)
 }
 
 // "Where a closing is due, end of text is 5 and any other token 10."
-#[tactic(auto, unfolding(crate::specs::Asking::closing_due, lex::specs::Answers::answer, horn::specs::Refusals::number))]
+#[tactic(auto, using(outcomes::proofs::BadLines::bad_line), unfolding(crate::specs::Asking::closing_due, lex::specs::Answers::answer))]
 pub fn closing_due(text: &[u8], reader: Reader) -> Result<Reader, Refusal>
     ensures { told result ≡ closing_due text.now reader }
 {
     match reader.token(text) {
         Read::End => Err(Refusal::TextEnds),
         Read::Bad => Err(Refusal::NotUtf8),
-        Read::Got(token, next) => match token {
-            Token::Opening => Err(Refusal::Excess),
-            Token::Atom(_, _) => Err(Refusal::Excess),
-            Token::Closing => Ok(next),
-        },
+        Read::Got(Token::Closing, next) => Ok(next),
+        Read::Got(Token::Opening | Token::Atom(_, _), _) => Err(Refusal::Excess),
     }
 }
 
 // "After an opening, members are asked for until a closing is next. That look ahead comes first, so a bad line found by it is 3, not 4".
 // At the end of the text a member is asked for, which is 4 or 5 then.
-#[tactic(auto, unfolding(crate::specs::Asking::closing_next, lex::specs::Answers::answer, horn::specs::Refusals::number))]
+#[tactic(auto, using(outcomes::proofs::BadLines::bad_line), unfolding(crate::specs::Asking::closing_next, lex::specs::Answers::answer))]
 pub fn closing_next(text: &[u8], reader: Reader) -> Result<Look, Refusal>
     ensures { told_as looked result ≡ closing_next text.now reader }
 {
     match reader.peek(text) {
         Read::Bad => Err(Refusal::NotUtf8),
         Read::End => Ok(Look::Member(reader)),
-        Read::Got(token, held) => match token {
-            Token::Opening => Ok(Look::Member(held)),
-            Token::Atom(_, _) => Ok(Look::Member(held)),
-            Token::Closing => {
-                let next = closing_due(text, held)?;
-                Ok(Look::Closing(next))
-            }
-        },
+        Read::Got(Token::Closing, held) => {
+            let next = closing_due(text, held)?;
+            Ok(Look::Closing(next))
+        }
+        Read::Got(Token::Opening | Token::Atom(_, _), held) => Ok(Look::Member(held)),
     }
 }
 
 // The next form of goals or certificate, its opening taken; none at the end of the text. At depth 0 an item may be asked for.
-#[tactic(auto, unfolding(crate::specs::Asking::form_due, lex::specs::Answers::answer, horn::specs::Refusals::number))]
+#[tactic(auto, using(outcomes::proofs::BadLines::bad_line), unfolding(crate::specs::Asking::form_due, lex::specs::Answers::answer))]
 pub fn form_due(text: &[u8], reader: Reader) -> Result<Option<Reader>, Refusal>
     ensures { told_as begun result ≡ form_due text.now reader }
 {
     match reader.token(text) {
         Read::End => Ok(None),
         Read::Bad => Err(Refusal::NotUtf8),
-        Read::Got(token, next) => match token {
-            Token::Closing => Err(Refusal::StrayClosing),
-            Token::Atom(_, _) => Err(Refusal::AtomOrList),
-            Token::Opening => Ok(Some(next)),
-        },
+        Read::Got(Token::Closing, _) => Err(Refusal::StrayClosing),
+        Read::Got(Token::Atom(_, _), _) => Err(Refusal::AtomOrList),
+        Read::Got(Token::Opening, next) => Ok(Some(next)),
     }
 }
