@@ -7,7 +7,6 @@ ghost use Rattle.outcomes.specs.Leaving.{◌leaving◌};
 ghost use Rattle.goals.specs.Goals.{goal_name, goal, goals_from, goals};
 
 use lex::Reader;
-use names::Found;
 use outcomes::Refusal;
 use tables::Tally;
 
@@ -56,7 +55,7 @@ pub fn goal(
         r,
     )?;
     let r = asking::closing_due(text, r)?;
-    if let Found::At(_) = tables::find_goal(table, text, text, s, t) {
+    if tables::find_goal(table, text, words::part(text, s, t)).is_some() {
         return Err(Refusal::Duplicate);
     }
     Ok((tables::add_goal(table, text, s, t, k, tally), r))

@@ -8,9 +8,10 @@ ghost use Rattle.judgments.specs.Judgments.{headed_judgment, judgment};
 
 use lex::Reader;
 use outcomes::Refusal;
+use theory_reading::Section;
 
 // "Judgment: list, head a predicate (12), arguments, 15, store." Here its head was asked for: an atom with these bounds.
-#[tactic(auto, unfolding(crate::specs::Judgments::headed_judgment))]
+#[tactic(auto, unfolding(crate::specs::Judgments::headed_judgment, nodes::specs::Nodes::predicate_due))]
 pub fn headed_judgment(
     text: &[u8],
     rules: &[u8],
@@ -28,9 +29,10 @@ pub fn headed_judgment(
         ≡ headed_judgment left text.now rules.now heap.now table.now top s t reader store.old
         stack.old }
 {
-    let (c, r) = nodes::predicate_due(text, rules, heap, s, t, reader)?;
+    let found = theory_reading::find(heap, rules, Section::Predicates, words::part(text, s, t));
+    let c = found.ok_or(Refusal::Unknown)?;
     let above = words::plus(top, 1);
-    let (n, r) = terms::args(text, rules, heap, table, store, stack, above, left, r)?;
+    let (n, r) = terms::args(text, rules, heap, table, store, stack, above, left, reader)?;
     nodes::make(heap, store, stack, c, top, n, r)
 }
 

@@ -9,13 +9,12 @@ ghost use Rattle.outcomes.specs.Told.{told, told_as};
 ghost use Rattle.outcomes.specs.Leaving.{◌leaving◌};
 ghost use Rattle.theory_reading.specs.Reading.{accepted};
 ghost use Rattle.lex.specs.declared.Reader.{Reader};
-ghost use Rattle.nodes.specs.Nodes.{head_on, sort_of, make, constructor_due, predicate_due, atom_term, head_due};
+ghost use Rattle.nodes.specs.Nodes.{head_on, sort_of, make, atom_term, head_due};
 
-use arena::Answer;
+use arena::{Full, Interned};
 use lex::Reader;
-use names::Found;
 use outcomes::Refusal;
-use tables::Kept;
+use theory_reading::Section;
 
 pub mod limits;
 
@@ -24,7 +23,7 @@ pub mod limits;
 pub fn sort_of(heap: &[u32], store: &[u32], k: u32) -> u32
     ensures { result ≡ sort_of heap.now store.now k }
 {
-    let head = arena::node_head(store, limits::NODES, limits::PLACES, k);
+    let head = arena::node_head(store, limits::STORE, k);
     theory_reading::output(heap, head)
 }
 
@@ -38,7 +37,7 @@ pub fn accepts(heap: &[u32], store: &[u32], stack: &[u32], c: u32, from: u32, n:
     }
     for k in 0..n {
         let argument = words::at(stack, from as usize + k as usize);
-        let head = arena::node_head(store, limits::NODES, limits::PLACES, argument);
+        let head = arena::node_head(store, limits::STORE, argument);
         if !theory_reading::fits_input(heap, head, c, k) {
             return false;
         }
@@ -63,12 +62,10 @@ pub fn node(
         return Err(Refusal::SortArity);
     }
     words::put(stack, top as usize, c);
-    let key = words::words_part(stack, top as usize, top as usize + 1 + n as usize);
-    let answer = requests::intern(store, limits::NODES, limits::WORDS, limits::PLACES, key);
-    match answer {
-        Answer::Found(k) => Ok(k),
-        Answer::Made(k) => Ok(k),
-        Answer::Full => Err(Refusal::StoreFull),
+    let key = words::part(stack, top as usize, top as usize + 1 + n as usize);
+    match requests::intern(store, limits::STORE, key) {
+        Ok(Interned::Found(k) | Interned::Made(k)) => Ok(k),
+        Err(Full) => Err(Refusal::StoreFull),
     }
 }
 
@@ -89,44 +86,8 @@ pub fn make(
     Ok((k, reader))
 }
 
-// A constructor by its name.
-#[tactic(auto, unfolding(crate::specs::Nodes::constructor_due))]
-pub fn constructor_due(
-    text: &[u8],
-    rules: &[u8],
-    heap: &[u32],
-    s: usize,
-    t: usize,
-    reader: Reader,
-) -> Result<(u32, Reader), Refusal>
-    ensures { told result ≡ constructor_due text.now rules.now heap.now s t reader }
-{
-    let Found::At(c) = theory_reading::find_constructor(heap, rules, text, s, t) else {
-        return Err(Refusal::Unknown);
-    };
-    Ok((c, reader))
-}
-
-// A predicate by its name.
-#[tactic(auto, unfolding(crate::specs::Nodes::predicate_due))]
-pub fn predicate_due(
-    text: &[u8],
-    rules: &[u8],
-    heap: &[u32],
-    s: usize,
-    t: usize,
-    reader: Reader,
-) -> Result<(u32, Reader), Refusal>
-    ensures { told result ≡ predicate_due text.now rules.now heap.now s t reader }
-{
-    let Found::At(c) = theory_reading::find_predicate(heap, rules, text, s, t) else {
-        return Err(Refusal::Unknown);
-    };
-    Ok((c, reader))
-}
-
 // "An atom with a leading `?`, `?` alone too, is an earlier abbreviation (12). An atom or head is a constructor (12)."
-#[tactic(auto, unfolding(crate::specs::Nodes::atom_term))]
+#[tactic(auto, unfolding(crate::specs::Nodes::atom_term, crate::specs::Nodes::constructor_due))]
 pub fn atom_term(
     text: &[u8],
     rules: &[u8],
@@ -143,17 +104,15 @@ pub fn atom_term(
         ≡ atom_term text.now rules.now heap.now table.now top s t reader store.old stack.old }
 {
     if items::is_question(text, s) {
-        let Kept::Is(k) = tables::meaning(table, limits::DEF_BUCKETS, text, s, t) else {
-            return Err(Refusal::Unknown);
-        };
-        return Ok((k, reader));
+        let meaning = tables::meaning(table, limits::DEF_BUCKETS, text, s, t);
+        return Ok((meaning.ok_or(Refusal::Unknown)?, reader));
     }
-    let (c, next) = constructor_due(text, rules, heap, s, t, reader)?;
-    make(heap, store, stack, c, top, 0, next)
+    let found = theory_reading::find(heap, rules, Section::Constructors, words::part(text, s, t));
+    make(heap, store, stack, found.ok_or(Refusal::Unknown)?, top, 0, reader)
 }
 
 // The head of a term in brackets, asked for without a look ahead.
-#[tactic(auto, unfolding(crate::specs::Nodes::head_due))]
+#[tactic(auto, unfolding(crate::specs::Nodes::head_due, crate::specs::Nodes::constructor_due))]
 pub fn head(
     text: &[u8],
     rules: &[u8],
@@ -164,5 +123,6 @@ pub fn head(
     ensures { told result ≡ head_due text.now rules.now heap.now left reader }
 {
     let (s, t, next) = asking::atom_due(text, left, reader)?;
-    constructor_due(text, rules, heap, s, t, next)
+    let found = theory_reading::find(heap, rules, Section::Constructors, words::part(text, s, t));
+    Ok((found.ok_or(Refusal::Unknown)?, next))
 }

@@ -7,5 +7,12 @@ pub const WORDS: u32 = 8192;
 
 pub const PLACES: u32 = 4096;
 
+// The three together, as the store takes them.
+pub const STORE: arena::Setting = arena::Setting {
+    nodes: NODES,
+    words: WORDS,
+    places: PLACES,
+};
+
 // Buckets of abbreviations. With those of goals they are fewer than the 297 that the table has room for (crate capacity).
 pub const DEF_BUCKETS: u32 = 192;

@@ -1,8 +1,8 @@
 -- The head of a step and its references: what each function answers, and what it leaves of the stack.
 use Rattle.std.specs.Prelude.{ℕ, zero, suc, ◌+◌, List, eqb, length, set}
 use Rattle.numerals.specs.Below.horn.specs.Checker.{numeral}
-use Rattle.names.specs.Below.words.specs.Parts.{part}
-use Rattle.names.specs.Below.words.specs.Sums.{sum32}
+use Rattle.words.specs.Parts.{part}
+use Rattle.words.specs.Sums.{sum32}
 use Rattle.lex.specs.declared.Reader.{Reader}
 use Rattle.numerals.specs.Numbers.{saturated}
 use Rattle.outcomes.specs.Outcomes.{Outcome, ok, refused, need, or_else}

@@ -9,9 +9,8 @@ ghost use Rattle.references.specs.References as models;
 
 use asking::Look;
 use lex::Reader;
-use names::Found;
-use numerals::Number;
 use outcomes::Refusal;
+use theory_reading::Section;
 
 // "I as a number, 18": an atom, asked for with that much depth left, as the text has it, and the reader after it.
 #[tactic(auto, unfolding(crate::specs::References::number_due))]
@@ -19,9 +18,7 @@ pub fn number_due(text: &[u8], left: u32, reader: Reader) -> Result<(u64, Reader
     ensures { told result ≡ models.number_due text.now left reader }
 {
     let (s, t, r) = asking::atom_due(text, left, reader)?;
-    let Number::Is(i) = numerals::numeral(text, s, t) else {
-        return Err(Refusal::NotNumber);
-    };
+    let i = numerals::numeral(text, s, t).ok_or(Refusal::NotNumber)?;
     Ok((i, r))
 }
 
@@ -62,13 +59,12 @@ pub fn rule_due(
     ensures { told result ≡ models.rule_due text.now rules.now heap.now steps reader }
 {
     let (i, r) = number_due(text, asking::IN_FORM, reader)?;
-    if i != steps as u64 {
+    if i != u64::from(steps) {
         return Err(Refusal::StepOrder);
     }
     let (s, t, r) = asking::atom_due(text, asking::IN_FORM, r)?;
-    let Found::At(e) = theory_reading::find_rule(heap, rules, text, s, t) else {
-        return Err(Refusal::Unknown);
-    };
+    let found = theory_reading::find(heap, rules, Section::Rules, words::part(text, s, t));
+    let e = found.ok_or(Refusal::Unknown)?;
     let r = asking::list_due(text, asking::IN_FORM, r)?;
     Ok((e, r))
 }
