@@ -15,7 +15,8 @@ pub const IN_FORM: u32 = 256;
 // What is left for the members of a list within a form, which are at depth 2.
 pub const IN_LIST: u32 = 255;
 
-// An atom with its bounds and the reader after it, or a list with the reader after its opening.
+// An atom with its bounds and the reader after it, or a list with the reader after its opening. In crate items, where the text was read whole, a
+// list has its number of members beside it: one type for both would have a parameter for that number, and be no plainer.
 #[derive(Clone, Copy)]
 pub enum Item {
     Atom(usize, usize, Reader),
@@ -46,7 +47,8 @@ pub fn item_due(text: &[u8], left: u32, reader: Reader) -> Result<Item, Refusal>
     }
 }
 
-// An atom, where one is due: its bounds and the reader after it. "After 4, 5 and 6, an answer that is no atom there is refused 7."
+// An atom, where one is due: its bounds and the reader after it. "After 4, 5 and 6, an answer that is no atom there is refused 7." `let .. else`
+// is the project's rule for this refusal.
 #[tactic(auto, unfolding(crate::specs::Asking::atom_due))]
 pub fn atom_due(text: &[u8], left: u32, reader: Reader) -> Result<(usize, usize, Reader), Refusal>
     ensures { told result ≡ atom_due text.now left reader }

@@ -1,7 +1,7 @@
 // Nodes of terms and judgments in goals and certificate. A term is the number of its node in the store, a symbol the address of its entry in
 // the theory's area (crate items says how that is laid out); names of symbols stand in the rulebook, those of abbreviations in the text
 // that is read. Abbreviations stand in the table (crate tables). On the stack a node is under construction from word `top`
-// on: its head, then its arguments.
+// on: its head, then its arguments. Store, stack, table and theory stay words of lent areas: a rule of the project, fixed memory and no heap.
 #![tactic(auto)]
 
 ghost use Rattle.std.specs.Prelude.{◌≡◌};

@@ -68,7 +68,8 @@ pub fn item(
     }
 }
 
-// The same, or as a member of a list the closing that is next instead.
+// The same, or as a member of a list the closing that is next instead. `member` says which: called by terms that are due too, it stays a function of
+// its own, which the C interface's bound on the stack needs. A function for members alone would be compiled into each level of a term.
 #[tactic(auto, unfolding(crate::specs::Openings::begun))]
 pub fn begin(
     text: &[u8],
