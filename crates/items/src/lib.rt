@@ -36,6 +36,13 @@ pub enum Item {
     List(u32, Walk),
 }
 
+// A rulebook that the first walk read whole, and how many members each of its lists has, in the order of their openings.
+#[derive(Clone, Copy)]
+pub struct Counted<'a> {
+    pub text: &'a [u8],
+    pub counts: &'a [u32],
+}
+
 // One word more in the theory.
 #[tactic(auto, unfolding(crate::specs::Items::pushed))]
 pub fn push(heap: &mut [u32], word: u32, w: Walk) -> Walk
@@ -48,51 +55,76 @@ pub fn push(heap: &mut [u32], word: u32, w: Walk) -> Walk
     }
 }
 
-// The next item. Its member count is the next that the first walk left.
-#[tactic(auto, using(outcomes::proofs::BadLines::bad_line), unfolding(crate::specs::Items::item_due, lex::specs::Answers::answer))]
-pub fn next_item(text: &[u8], counts: &[u32], w: Walk) -> Result<Item, Refusal>
-    ensures { told_as met result ≡ item_due text.now counts.now w }
-{
-    match w.reader.token(text) {
-        Read::End => Err(Refusal::TextEnds),
-        Read::Bad => Err(Refusal::NotUtf8),
-        Read::Got(Token::Closing, _) => Err(Refusal::StrayClosing),
-        Read::Got(Token::Atom(s, t), next) => Ok(Item::Atom(s, t, Walk { reader: next, ..w })),
-        Read::Got(Token::Opening, next) => {
-            let members = words::at(counts, w.opened as usize);
-            let opened = words::plus(w.opened, 1);
-            Ok(Item::List(
-                members,
-                Walk {
-                    reader: next,
-                    opened,
-                    ..w
-                },
-            ))
+impl Counted<'_> {
+    // The next item. Its member count is the next that the first walk left.
+    #[tactic(auto, using(outcomes::proofs::BadLines::bad_line), unfolding(crate::specs::Items::item_due, lex::specs::Answers::answer))]
+    pub fn next_item(self, w: Walk) -> Result<Item, Refusal>
+        ensures { told_as met result ≡ item_due self.entry.text.now self.entry.counts.now w }
+    {
+        match w.reader.token(self.text) {
+            Read::End => Err(Refusal::TextEnds),
+            Read::Bad => Err(Refusal::NotUtf8),
+            Read::Got(Token::Closing, _) => Err(Refusal::StrayClosing),
+            Read::Got(Token::Atom(s, t), next) => Ok(Item::Atom(s, t, Walk { reader: next, ..w })),
+            Read::Got(Token::Opening, next) => {
+                let members = words::at(self.counts, w.opened as usize);
+                let opened = words::plus(w.opened, 1);
+                Ok(Item::List(
+                    members,
+                    Walk {
+                        reader: next,
+                        opened,
+                        ..w
+                    },
+                ))
+            }
         }
     }
-}
 
-// The next item, which must be an atom: its bounds.
-#[tactic(auto, unfolding(crate::specs::Items::atom_due))]
-pub fn next_atom(text: &[u8], counts: &[u32], w: Walk) -> Result<(usize, usize, Walk), Refusal>
-    ensures { told result ≡ atom_due text.now counts.now w }
-{
-    let Item::Atom(s, t, q) = next_item(text, counts, w)? else {
-        return Err(Refusal::AtomOrList);
-    };
-    Ok((s, t, q))
-}
+    // The next item, which must be an atom: its bounds.
+    #[tactic(auto, unfolding(crate::specs::Items::atom_due))]
+    pub fn next_atom(self, w: Walk) -> Result<(usize, usize, Walk), Refusal>
+        ensures { told result ≡ atom_due self.entry.text.now self.entry.counts.now w }
+    {
+        let Item::Atom(s, t, q) = self.next_item(w)? else {
+            return Err(Refusal::AtomOrList);
+        };
+        Ok((s, t, q))
+    }
 
-// The next item, which must be a list, with its member count.
-#[tactic(auto, unfolding(crate::specs::Items::list_due))]
-pub fn next_list(text: &[u8], counts: &[u32], w: Walk) -> Result<(u32, Walk), Refusal>
-    ensures { told result ≡ list_due text.now counts.now w }
-{
-    let Item::List(members, q) = next_item(text, counts, w)? else {
-        return Err(Refusal::AtomOrList);
-    };
-    Ok((members, q))
+    // The next item, which must be a list, with its member count.
+    #[tactic(auto, unfolding(crate::specs::Items::list_due))]
+    pub fn next_list(self, w: Walk) -> Result<(u32, Walk), Refusal>
+        ensures { told result ≡ list_due self.entry.text.now self.entry.counts.now w }
+    {
+        let Item::List(members, q) = self.next_item(w)? else {
+            return Err(Refusal::AtomOrList);
+        };
+        Ok((members, q))
+    }
+
+    // The next item, which must be an atom without a leading `?`.
+    #[tactic(auto, unfolding(crate::specs::Items::declared_name))]
+    pub fn declared_name(self, w: Walk) -> Result<(usize, usize, Walk), Refusal>
+        ensures { told result ≡ declared_name self.entry.text.now self.entry.counts.now w }
+    {
+        let (s, t, q) = self.next_atom(w)?;
+        if is_question(self.text, s) {
+            return Err(Refusal::VariableName);
+        }
+        Ok((s, t, q))
+    }
+
+    // The head of a list of so many members: "not empty (8), its head an atom (7)".
+    #[tactic(auto, unfolding(crate::specs::Items::head_due))]
+    pub fn head(self, members: u32, w: Walk) -> Result<(usize, usize, Walk), Refusal>
+        ensures { told result ≡ head_due self.entry.text.now self.entry.counts.now members w }
+    {
+        if members == 0 {
+            return Err(Refusal::EmptyList);
+        }
+        self.next_atom(w)
+    }
 }
 
 // "Where a closing is due, end of text is 5 and any other token 10."
@@ -114,34 +146,6 @@ pub fn is_question(text: &[u8], s: usize) -> bool
     ensures { result ≡ question text.now s }
 {
     words::at(text, s) == b'?'
-}
-
-// The next item, which must be an atom without a leading `?`.
-#[tactic(auto, unfolding(crate::specs::Items::declared_name))]
-pub fn declared_name(text: &[u8], counts: &[u32], w: Walk) -> Result<(usize, usize, Walk), Refusal>
-    ensures { told result ≡ declared_name text.now counts.now w }
-{
-    let (s, t, q) = next_atom(text, counts, w)?;
-    if is_question(text, s) {
-        return Err(Refusal::VariableName);
-    }
-    Ok((s, t, q))
-}
-
-// The head of a list of so many members: "not empty (8), its head an atom (7)".
-#[tactic(auto, unfolding(crate::specs::Items::head_due))]
-pub fn head(
-    text: &[u8],
-    counts: &[u32],
-    members: u32,
-    w: Walk,
-) -> Result<(usize, usize, Walk), Refusal>
-    ensures { told result ≡ head_due text.now counts.now members w }
-{
-    if members == 0 {
-        return Err(Refusal::EmptyList);
-    }
-    next_atom(text, counts, w)
 }
 
 // Whether an atom has one byte.

@@ -6,10 +6,11 @@ ghost use Rattle.outcomes.specs.Leaving.{◌leaving◌};
 ghost use Rattle.outcomes.specs.Told.{told};
 ghost use Rattle.leaves.specs.Leaves.{applied, constant, compound_head};
 
-use items::{Walk, places};
+use items::{Counted, Walk, places};
 use outcomes::Refusal;
 
-// A constructor or predicate by its name, with its output and its number of inputs tested, stored as a node.
+// A constructor or predicate by its name, with its output and its number of inputs tested, stored as a node. Its kind is said by the place
+// of its buckets: callers may give any, and an enum of the kinds would ask more of them.
 #[tactic(auto, unfolding(crate::specs::Leaves::applied))]
 pub fn apply(
     text: &[u8],
@@ -54,18 +55,18 @@ pub fn constant(
 // The head of a list at a place of a sort.
 #[tactic(auto, unfolding(crate::specs::Leaves::compound_head))]
 pub fn compound_head(
-    text: &[u8],
-    counts: &[u32],
+    rulebook: Counted<'_>,
     heap: &mut [u32],
     sort: u32,
     members: u32,
     w: Walk,
 ) -> Result<(u32, Walk), Refusal>
-    ensures { (told result leaving heap.new) ≡ compound_head text.now counts.now sort members w heap.old }
+    ensures { (told result leaving heap.new) ≡ compound_head rulebook.entry.text.now rulebook.entry.counts.now sort members w heap.old }
 {
-    let (s, t, q) = items::head(text, counts, members, w)?;
+    let (s, t, q) = rulebook.head(members, w)?;
     if members == 1 {
         return Err(Refusal::BracketedConstant);
     }
+    let text = rulebook.text;
     apply(text, heap, places::CONSTRUCTORS, sort, members, s, t, q)
 }

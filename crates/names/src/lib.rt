@@ -1,5 +1,6 @@
 // Entries in a lent area of words, found by their names through hash buckets. An entry at address e (0 is none) has the bounds of its name
 // in a text at e and e + 1, and at e + 2 the address of the last entry before it in its bucket; further words are the caller's.
+// Chains in lent words, and no map: a call takes no heap. So 0 stands for no entry there, and not an Option.
 #![tactic(auto)]
 
 ghost use Rattle.std.specs.Prelude.{◌≡◌, ◌+◌, ◌%◌};

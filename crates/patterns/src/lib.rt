@@ -3,6 +3,9 @@
 //
 // A level of a term takes little stack: where the walk stands is lent to all levels, and what reads the text is in `take`, which returns
 // before the next level begins.
+//
+// `vars` and `heap` go side by side, here and in the crates above. A struct of both would be no plainer: each contract would need a clause
+// more, that both keep their places.
 #![tactic(auto)]
 
 ghost use Rattle.std.specs.Prelude.{◌≡◌};
@@ -11,7 +14,7 @@ ghost use Rattle.outcomes.specs.Told.{told};
 ghost use Rattle.patterns.specs.Lent.{taken_part, done, part_due};
 ghost use Rattle.patterns.specs.Patterns.{leaf, pattern, arguments, judgment, judgments};
 
-use items::{Item, Walk, places};
+use items::{Counted, Item, Walk, places};
 use outcomes::Refusal;
 
 // An atom at a place of a sort.
@@ -38,27 +41,26 @@ fn leaf(
 // is not inlined, so that what it needs is on the stack once and not in each level.
 #[tactic(auto, unfolding(crate::specs::Lent::part_due))]
 fn take(
-    text: &[u8],
-    counts: &[u32],
+    rulebook: Counted<'_>,
     vars: &mut [u32],
     heap: &mut [u32],
     walk: &mut Walk,
     due: Option<u32>,
 ) -> Result<Option<u32>, Refusal>
     ensures { (taken_part result walk.new leaving (vars.new, heap.new))
-        ≡ part_due due text.now counts.now walk.old vars.old heap.old }
+        ≡ part_due due rulebook.entry.text.now rulebook.entry.counts.now walk.old vars.old heap.old }
 {
     let Some(sort) = due else {
-        *walk = items::close(text, *walk)?;
+        *walk = items::close(rulebook.text, *walk)?;
         return Ok(None);
     };
-    match items::next_item(text, counts, *walk)? {
+    match rulebook.next_item(*walk)? {
         Item::Atom(s, t, w) => {
-            *walk = leaf(text, vars, heap, s, t, sort, w)?;
+            *walk = leaf(rulebook.text, vars, heap, s, t, sort, w)?;
             Ok(None)
         }
         Item::List(members, w) => {
-            let (c, w) = leaves::compound_head(text, counts, heap, sort, members, w)?;
+            let (c, w) = leaves::compound_head(rulebook, heap, sort, members, w)?;
             *walk = w;
             Ok(Some(c))
         }
@@ -69,8 +71,7 @@ fn take(
 #[cycle(lent_arguments_lent_pattern)]
 #[tactic(auto, using(crate::proofs::Turns::level_turns), unfolding(crate::specs::Patterns::pattern))]
 fn lent_pattern(
-    text: &[u8],
-    counts: &[u32],
+    rulebook: Counted<'_>,
     vars: &mut [u32],
     heap: &mut [u32],
     walk: &mut Walk,
@@ -78,14 +79,14 @@ fn lent_pattern(
     left: u32,
 ) -> Result<(), Refusal>
     ensures { (done result walk.new leaving (vars.new, heap.new))
-        ≡ pattern left text.now counts.now sort walk.old vars.old heap.old }
+        ≡ pattern left rulebook.entry.text.now rulebook.entry.counts.now sort walk.old vars.old heap.old }
 {
     if left == 0 {
         return Err(Refusal::Nesting);
     }
-    match take(text, counts, vars, heap, walk, Some(sort))? {
+    match take(rulebook, vars, heap, walk, Some(sort))? {
         None => Ok(()),
-        Some(c) => lent_arguments(text, counts, vars, heap, walk, c, left - 1),
+        Some(c) => lent_arguments(rulebook, vars, heap, walk, c, left - 1),
     }
 }
 
@@ -93,8 +94,7 @@ fn lent_pattern(
 #[cycle(lent_arguments_lent_pattern)]
 #[tactic(auto, using(crate::proofs::Turns::turns), unfolding(crate::specs::Patterns::arguments))]
 fn lent_arguments(
-    text: &[u8],
-    counts: &[u32],
+    rulebook: Counted<'_>,
     vars: &mut [u32],
     heap: &mut [u32],
     walk: &mut Walk,
@@ -102,21 +102,20 @@ fn lent_arguments(
     left: u32,
 ) -> Result<(), Refusal>
     ensures { (done result walk.new leaving (vars.new, heap.new))
-        ≡ arguments left text.now counts.now c walk.old vars.old heap.old }
+        ≡ arguments left rulebook.entry.text.now rulebook.entry.counts.now c walk.old vars.old heap.old }
 {
     let inputs = words::at(heap, c as usize + places::ARITY);
     for k in 0..inputs {
         let sort = words::at(heap, c as usize + places::INPUTS + k as usize);
-        lent_pattern(text, counts, vars, heap, walk, sort, left)?;
+        lent_pattern(rulebook, vars, heap, walk, sort, left)?;
     }
-    take(text, counts, vars, heap, walk, None)?;
+    take(rulebook, vars, heap, walk, None)?;
     Ok(())
 }
 
 // The arguments of the symbol at c, on a walk of its own.
 pub fn arguments(
-    text: &[u8],
-    counts: &[u32],
+    rulebook: Counted<'_>,
     vars: &mut [u32],
     heap: &mut [u32],
     c: u32,
@@ -124,10 +123,10 @@ pub fn arguments(
     w: Walk,
 ) -> Result<Walk, Refusal>
     ensures { (told result leaving (vars.new, heap.new))
-        ≡ arguments left text.now counts.now c w vars.old heap.old }
+        ≡ arguments left rulebook.entry.text.now rulebook.entry.counts.now c w vars.old heap.old }
 {
     let mut walk = w;
-    lent_arguments(text, counts, vars, heap, &mut walk, c, left)?;
+    lent_arguments(rulebook, vars, heap, &mut walk, c, left)?;
     Ok(walk)
 }
 
@@ -138,37 +137,35 @@ const LEVELS: u32 = 257;
 // A judgment: "a list (else 7), not empty (8), its head an atom (7) and a predicate (12), its length right (15), then its terms".
 #[tactic(auto, unfolding(crate::specs::Patterns::judgment))]
 pub fn judgment(
-    text: &[u8],
-    counts: &[u32],
+    rulebook: Counted<'_>,
     vars: &mut [u32],
     heap: &mut [u32],
     w: Walk,
 ) -> Result<Walk, Refusal>
     ensures { (told result leaving (vars.new, heap.new))
-        ≡ judgment text.now counts.now w vars.old heap.old }
+        ≡ judgment rulebook.entry.text.now rulebook.entry.counts.now w vars.old heap.old }
 {
-    let (members, q) = items::next_list(text, counts, w)?;
-    let (s, t, p) = items::head(text, counts, members, q)?;
-    let (c, o) = leaves::apply(text, heap, places::PREDICATES, 0, members, s, t, p)?;
-    arguments(text, counts, vars, heap, c, LEVELS, o)
+    let (members, q) = rulebook.next_list(w)?;
+    let (s, t, p) = rulebook.head(members, q)?;
+    let (c, o) = leaves::apply(rulebook.text, heap, places::PREDICATES, 0, members, s, t, p)?;
+    arguments(rulebook, vars, heap, c, LEVELS, o)
 }
 
 // A rule's premises, then the closing.
 #[tactic(auto, using(crate::proofs::Turns::premises))]
 pub fn judgments(
-    text: &[u8],
-    counts: &[u32],
+    rulebook: Counted<'_>,
     vars: &mut [u32],
     heap: &mut [u32],
     n: u32,
     w: Walk,
 ) -> Result<Walk, Refusal>
     ensures { (told result leaving (vars.new, heap.new))
-        ≡ judgments n text.now counts.now w vars.old heap.old }
+        ≡ judgments n rulebook.entry.text.now rulebook.entry.counts.now w vars.old heap.old }
 {
     let mut v = w;
     for _ in 0..n {
-        v = judgment(text, counts, vars, heap, v)?;
+        v = judgment(rulebook, vars, heap, v)?;
     }
-    items::close(text, v)
+    items::close(rulebook.text, v)
 }

@@ -5,11 +5,12 @@ ghost use Rattle.std.specs.Prelude.{◌≡◌, length};
 ghost use Rattle.outcomes.specs.Told.{told};
 ghost use Rattle.rule_names.specs.RuleNames.{passed, skipped, name_kept};
 
-use items::{Item, Walk};
+use items::{Counted, Item, Walk};
 use lex::{Read, Token};
 use outcomes::Refusal;
 
-// What stands in the place of a rule's name, which is judged after the patterns.
+// What stands in the place of a rule's name, which is judged after the patterns. No Option of bounds: that would not say what None is, and a
+// list is something here.
 #[derive(Clone, Copy)]
 pub enum RuleName {
     Atom(usize, usize),
@@ -57,11 +58,11 @@ pub fn skip(text: &[u8], w: Walk) -> Result<Walk, Refusal>
 
 // What stands in the place of a rule's name, unjudged.
 #[tactic(auto, unfolding(crate::specs::RuleNames::name_kept))]
-pub fn keep_name(text: &[u8], counts: &[u32], w: Walk) -> Result<(RuleName, Walk), Refusal>
-    ensures { told result ≡ name_kept text.now counts.now w }
+pub fn keep_name(rulebook: Counted<'_>, w: Walk) -> Result<(RuleName, Walk), Refusal>
+    ensures { told result ≡ name_kept rulebook.entry.text.now rulebook.entry.counts.now w }
 {
-    match items::next_item(text, counts, w)? {
+    match rulebook.next_item(w)? {
         Item::Atom(s, t, q) => Ok((RuleName::Atom(s, t), q)),
-        Item::List(_, q) => Ok((RuleName::List, skip(text, q)?)),
+        Item::List(_, q) => Ok((RuleName::List, skip(rulebook.text, q)?)),
     }
 }

@@ -7,7 +7,7 @@ ghost use Rattle.outcomes.specs.Leaving.{◌leaving◌};
 ghost use Rattle.outcomes.specs.Told.{told};
 ghost use Rattle.rules.specs.Rules.{begun, body_read, rule_described, variables_stored, rule_entered, rule_declared};
 
-use items::{Walk, places};
+use items::{Counted, Walk, places};
 use outcomes::Refusal;
 use rule_names::RuleName;
 
@@ -26,18 +26,17 @@ pub fn begin(w: Walk) -> Walk
 // A rule's premises and its conclusion: the number of premises, the place of the conclusion and the walk after it.
 #[tactic(auto, unfolding(crate::specs::Rules::body_read))]
 pub fn read_body(
-    text: &[u8],
-    counts: &[u32],
+    rulebook: Counted<'_>,
     vars: &mut [u32],
     heap: &mut [u32],
     w: Walk,
 ) -> Result<(u32, u32, Walk), Refusal>
     ensures { (told result leaving (vars.new, heap.new))
-        ≡ body_read text.now counts.now w vars.old heap.old }
+        ≡ body_read rulebook.entry.text.now rulebook.entry.counts.now w vars.old heap.old }
 {
-    let (n, q) = items::next_list(text, counts, w)?;
-    let p = patterns::judgments(text, counts, vars, heap, n, q)?;
-    let o = patterns::judgment(text, counts, vars, heap, p)?;
+    let (n, q) = rulebook.next_list(w)?;
+    let p = patterns::judgments(rulebook, vars, heap, n, q)?;
+    let o = patterns::judgment(rulebook, vars, heap, p)?;
     Ok((n, p.top, o))
 }
 
@@ -97,22 +96,21 @@ pub fn enter_rule(
 // "`(rule N (J...) J)`: premises left to right, conclusion, N, duplicate."
 #[tactic(auto, unfolding(crate::specs::Rules::rule_declared))]
 pub fn declare_rule(
-    text: &[u8],
-    counts: &[u32],
+    rulebook: Counted<'_>,
     vars: &mut [u32],
     heap: &mut [u32],
     w: Walk,
 ) -> Result<Walk, Refusal>
     ensures { (told result leaving (vars.new, heap.new))
-        ≡ rule_declared text.now counts.now w vars.old heap.old }
+        ≡ rule_declared rulebook.entry.text.now rulebook.entry.counts.now w vars.old heap.old }
 {
-    let (name, q) = rule_names::keep_name(text, counts, w)?;
-    let (n, conclusion, p) = read_body(text, counts, vars, heap, begin(q))?;
+    let (name, q) = rule_names::keep_name(rulebook, w)?;
+    let (n, conclusion, p) = read_body(rulebook, vars, heap, begin(q))?;
     let RuleName::Atom(s, t) = name else {
         return Err(Refusal::AtomOrList);
     };
-    if items::is_question(text, s) {
+    if items::is_question(rulebook.text, s) {
         return Err(Refusal::VariableName);
     }
-    enter_rule(text, vars, heap, w.top, s, t, n, conclusion, p)
+    enter_rule(rulebook.text, vars, heap, w.top, s, t, n, conclusion, p)
 }

@@ -11,7 +11,7 @@ use outcomes::Refusal;
 // The depth of the deepest items.
 const DEEPEST: u32 = 256;
 
-// The lists that are open stand from this word on.
+// The lists that are open stand from this word on: in lent words and no Vec, since a call takes no heap.
 const OPEN_LISTS: usize = 8192;
 
 // The innermost of n open lists stands at word BEFORE_OPEN + n.

@@ -7,7 +7,7 @@ ghost use Rattle.outcomes.specs.Told.{told};
 ghost use Rattle.symbols.specs.Symbols.{reserved, sort_named, entered, described, sort_declared, inputs, signature};
 ghost use Rattle.symbols.specs.Symbols.{symbol_entered, constructor_declared, predicate_declared};
 
-use items::{Walk, places};
+use items::{Counted, Walk, places};
 use outcomes::Refusal;
 
 // Keeps words of the theory free.
@@ -23,21 +23,18 @@ pub fn reserve(w: Walk, n: u32) -> Walk
 
 // The address of the sort that is named next.
 #[tactic(auto, unfolding(crate::specs::Symbols::sort_named, crate::specs::Symbols::sort_from))]
-pub fn sort_named(
-    text: &[u8],
-    counts: &[u32],
-    heap: &[u32],
-    w: Walk,
-) -> Result<(u32, Walk), Refusal>
-    ensures { told result ≡ sort_named text.now counts.now heap.now w }
+pub fn sort_named(rulebook: Counted<'_>, heap: &[u32], w: Walk) -> Result<(u32, Walk), Refusal>
+    ensures { told result ≡ sort_named rulebook.entry.text.now rulebook.entry.counts.now heap.now w }
 {
-    let (s, t, q) = items::declared_name(text, counts, w)?;
+    let (s, t, q) = rulebook.declared_name(w)?;
+    let text = rulebook.text;
     let name = words::part(text, s, t);
     let e = names::find(heap, places::SORTS, places::BUCKETS, text, name).ok_or(Refusal::Unknown)?;
     Ok((e, q))
 }
 
-// A new entry at e.
+// A new entry at e, among those of these buckets, which stay a number: an enum of the kinds would ask more of callers. The name goes by its
+// bounds, since these are what an entry keeps.
 #[tactic(auto, unfolding(crate::specs::Symbols::entered))]
 pub fn enter(
     text: &[u8],
@@ -69,46 +66,44 @@ pub fn describe(heap: &mut [u32], e: u32, a: u32, b: u32)
 
 // "`(sort N)`: N, then duplicate."
 #[tactic(auto, unfolding(crate::specs::Symbols::sort_declared))]
-pub fn declare_sort(text: &[u8], counts: &[u32], heap: &mut [u32], w: Walk) -> Result<Walk, Refusal>
-    ensures { (told result leaving heap.new) ≡ sort_declared text.now counts.now w heap.old }
+pub fn declare_sort(rulebook: Counted<'_>, heap: &mut [u32], w: Walk) -> Result<Walk, Refusal>
+    ensures { (told result leaving heap.new) ≡ sort_declared rulebook.entry.text.now rulebook.entry.counts.now w heap.old }
 {
-    let (s, t, q) = items::declared_name(text, counts, w)?;
-    let p = enter(text, heap, places::SORTS, w.top, s, t, q)?;
-    items::close(text, reserve(p, places::SORT_WORDS))
+    let (s, t, q) = rulebook.declared_name(w)?;
+    let p = enter(rulebook.text, heap, places::SORTS, w.top, s, t, q)?;
+    items::close(rulebook.text, reserve(p, places::SORT_WORDS))
 }
 
 // A symbol's inputs, then the closing.
 #[tactic(auto, using(crate::proofs::Turns::turns))]
 pub fn read_inputs(
-    text: &[u8],
-    counts: &[u32],
+    rulebook: Counted<'_>,
     heap: &mut [u32],
     n: u32,
     w: Walk,
 ) -> Result<Walk, Refusal>
-    ensures { (told result leaving heap.new) ≡ inputs n text.now counts.now w heap.old }
+    ensures { (told result leaving heap.new) ≡ inputs n rulebook.entry.text.now rulebook.entry.counts.now w heap.old }
 {
     let mut v = w;
     for _ in 0..n {
-        let (a, q) = sort_named(text, counts, heap, v)?;
+        let (a, q) = sort_named(rulebook, heap, v)?;
         v = items::push(heap, a, q);
     }
-    items::close(text, v)
+    items::close(rulebook.text, v)
 }
 
 // A symbol's name, the number of its inputs and the walk after them.
 #[tactic(auto, unfolding(crate::specs::Symbols::signature))]
 pub fn read_signature(
-    text: &[u8],
-    counts: &[u32],
+    rulebook: Counted<'_>,
     heap: &mut [u32],
     w: Walk,
 ) -> Result<(usize, usize, u32, Walk), Refusal>
-    ensures { (told result leaving heap.new) ≡ signature text.now counts.now w heap.old }
+    ensures { (told result leaving heap.new) ≡ signature rulebook.entry.text.now rulebook.entry.counts.now w heap.old }
 {
-    let (s, t, q) = items::declared_name(text, counts, w)?;
-    let (n, p) = items::next_list(text, counts, q)?;
-    let o = read_inputs(text, counts, heap, n, reserve(p, places::SYMBOL))?;
+    let (s, t, q) = rulebook.declared_name(w)?;
+    let (n, p) = rulebook.next_list(q)?;
+    let o = read_inputs(rulebook, heap, n, reserve(p, places::SYMBOL))?;
     Ok((s, t, n, o))
 }
 
@@ -135,28 +130,24 @@ pub fn enter_symbol(
 // `(ctor N (S...) S)`: "N, inputs left to right, output, duplicate."
 #[tactic(auto, unfolding(crate::specs::Symbols::constructor_declared))]
 pub fn declare_constructor(
-    text: &[u8],
-    counts: &[u32],
+    rulebook: Counted<'_>,
     heap: &mut [u32],
     w: Walk,
 ) -> Result<Walk, Refusal>
-    ensures { (told result leaving heap.new) ≡ constructor_declared text.now counts.now w heap.old }
+    ensures { (told result leaving heap.new) ≡ constructor_declared rulebook.entry.text.now rulebook.entry.counts.now w heap.old }
 {
-    let (s, t, n, q) = read_signature(text, counts, heap, w)?;
-    let (output, p) = sort_named(text, counts, heap, q)?;
+    let (s, t, n, q) = read_signature(rulebook, heap, w)?;
+    let (output, p) = sort_named(rulebook, heap, q)?;
+    let text = rulebook.text;
     enter_symbol(text, heap, places::CONSTRUCTORS, w.top, s, t, output, n, p)
 }
 
 // `(pred N (S...))`: the same without an output, for which 0 stands, which is no sort's address.
 #[tactic(auto, unfolding(crate::specs::Symbols::predicate_declared))]
-pub fn declare_predicate(
-    text: &[u8],
-    counts: &[u32],
-    heap: &mut [u32],
-    w: Walk,
-) -> Result<Walk, Refusal>
-    ensures { (told result leaving heap.new) ≡ predicate_declared text.now counts.now w heap.old }
+pub fn declare_predicate(rulebook: Counted<'_>, heap: &mut [u32], w: Walk) -> Result<Walk, Refusal>
+    ensures { (told result leaving heap.new) ≡ predicate_declared rulebook.entry.text.now rulebook.entry.counts.now w heap.old }
 {
-    let (s, t, n, q) = read_signature(text, counts, heap, w)?;
+    let (s, t, n, q) = read_signature(rulebook, heap, w)?;
+    let text = rulebook.text;
     enter_symbol(text, heap, places::PREDICATES, w.top, s, t, 0, n, q)
 }

@@ -8,7 +8,8 @@
 ghost use Rattle.std.specs.Prelude.{◌≡◌, ◌+◌, ◌-◌, length};
 ghost use Rattle.words.specs.Parts.{part, cleared};
 ghost use Rattle.names.specs.Chains.{answered};
-ghost use Rattle.tables.specs.Words.{goal_buckets, none_yet, entered, goal_found, goal_open, goal_added, goal_counted, goal_closed, goal_done, goal_at, goal_result};
+ghost use Rattle.tables.specs.Words.{goal_buckets, none_yet, entered, goal_found, goal_open, goal_added, goal_counted, goal_closed};
+ghost use Rattle.tables.specs.Words.{goal_done, goal_at, goal_result};
 ghost use Rattle.tables.specs.Words.{def_found, def_meaning, def_added, def_counted, step_at, step_added, step_counted, offset, step_kept, step_word};
 
 // The first word that is free, and how many goals, goals still open and steps there are.
@@ -51,7 +52,7 @@ const ENTRY_WORDS: u32 = 4;
 
 const VALUE: usize = 3;
 
-// The value of a goal that has its result: so much, and the number of the result's step.
+// The value of a goal that has its result: so much, and the number of the result's step. No enum: what is kept is one lent word.
 const CLOSED: u32 = 2147483648;
 
 // Words of a step.
@@ -246,6 +247,7 @@ pub fn step_part(table: &[u32], n: u32, part: StepPart) -> u32
 }
 
 // A word of step n, by its number as `StepPart::offset` has it. None where there is no such step yet.
+// The number stays a number: callers may give any, and a `StepPart` would ask more of them.
 #[tactic(auto, unfolding(crate::specs::Words::step_word, crate::specs::Words::step_at))]
 pub fn step_word(table: &[u32], n: u64, which: u32, tally: Tally) -> Option<u32>
     ensures { answered result ≡ step_word n which tally table.now }

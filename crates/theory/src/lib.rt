@@ -9,7 +9,7 @@ ghost use Rattle.theory.specs.Declarations.{next, sized, form_of, declared_by, d
 ghost use Rattle.theory.specs.Declarations.{start_walk, no_counts, declarations};
 ghost use Rattle.theory.specs.Walks.{theory};
 
-use items::{Walk, places};
+use items::{Counted, Walk, places};
 use lex::{Read, Reader};
 use outcomes::Refusal;
 
@@ -65,20 +65,19 @@ fn form_of(text: &[u8], s: usize, t: usize, members: u32) -> Form
 // A declaration behind its head, by its form.
 fn declare(
     form: Form,
-    text: &[u8],
-    counts: &[u32],
+    rulebook: Counted<'_>,
     vars: &mut [u32],
     heap: &mut [u32],
     w: Walk,
 ) -> Result<Walk, Refusal>
     ensures { (told result leaving (vars.new, heap.new))
-        ≡ declared_by form text.now counts.now w vars.old heap.old }
+        ≡ declared_by form rulebook.entry.text.now rulebook.entry.counts.now w vars.old heap.old }
 {
     match form {
-        Form::Sort => symbols::declare_sort(text, counts, heap, w),
-        Form::Constructor => symbols::declare_constructor(text, counts, heap, w),
-        Form::Predicate => symbols::declare_predicate(text, counts, heap, w),
-        Form::Rule => rules::declare_rule(text, counts, vars, heap, w),
+        Form::Sort => symbols::declare_sort(rulebook, heap, w),
+        Form::Constructor => symbols::declare_constructor(rulebook, heap, w),
+        Form::Predicate => symbols::declare_predicate(rulebook, heap, w),
+        Form::Rule => rules::declare_rule(rulebook, vars, heap, w),
         Form::Other => Err(Refusal::Form),
     }
 }
@@ -86,19 +85,18 @@ fn declare(
 // One declaration: its form and the walk after it.
 #[tactic(auto, unfolding(crate::specs::Declarations::declaration))]
 fn judge(
-    text: &[u8],
-    counts: &[u32],
+    rulebook: Counted<'_>,
     vars: &mut [u32],
     heap: &mut [u32],
     w: Walk,
 ) -> Result<(Form, Walk), Refusal>
     ensures { (told result leaving (vars.new, heap.new))
-        ≡ declaration text.now counts.now w vars.old heap.old }
+        ≡ declaration rulebook.entry.text.now rulebook.entry.counts.now w vars.old heap.old }
 {
-    let (members, q) = items::next_list(text, counts, w)?;
-    let (s, t, p) = items::head(text, counts, members, q)?;
-    let form = form_of(text, s, t, members);
-    let o = declare(form, text, counts, vars, heap, p)?;
+    let (members, q) = rulebook.next_list(w)?;
+    let (s, t, p) = rulebook.head(members, q)?;
+    let form = form_of(rulebook.text, s, t, members);
+    let o = declare(form, rulebook, vars, heap, p)?;
     Ok((form, o))
 }
 
@@ -166,25 +164,24 @@ fn no_counts() -> Counts
     }
 }
 
-// The second walk, over a text that the first walk read whole and whose member counts stand in `counts`.
+// The second walk, over a rulebook that the first walk read whole.
 #[tactic(auto, using(crate::proofs::Turns::turns), unfolding(crate::specs::Declarations::declarations))]
 pub fn declarations(
-    text: &[u8],
+    rulebook: Counted<'_>,
     vars: &mut [u32],
-    counts: &[u32],
     heap: &mut [u32],
 ) -> Result<Counts, Refusal>
     ensures { (told result leaving (vars.new, heap.new))
-        ≡ declarations text.now counts.now vars.old heap.old }
+        ≡ declarations rulebook.entry.text.now rulebook.entry.counts.now vars.old heap.old }
 {
     let mut w = begin_walk();
     let mut c = no_counts();
-    let turns = text.len() / 2 + 1;
+    let turns = rulebook.text.len() / 2 + 1;
     for _ in 0..turns {
-        let Some(v) = look(text, w)? else {
+        let Some(v) = look(rulebook.text, w)? else {
             return Ok(c);
         };
-        let (form, q) = judge(text, counts, vars, heap, v)?;
+        let (form, q) = judge(rulebook, vars, heap, v)?;
         w = q;
         c = count(c, form);
     }
@@ -204,5 +201,5 @@ pub fn theory(
 {
     sexp::count_members(text, counts)?;
     words::clear(heap, places::ALL_BUCKETS);
-    declarations(text, vars, counts, heap)
+    declarations(Counted { text, counts }, vars, heap)
 }

@@ -39,6 +39,9 @@ pub fn find(heap: &[u32], text: &[u8], section: Section, name: &[u8]) -> Option<
     names::find(heap, section.buckets(), places::BUCKETS, text, name)
 }
 
+// The words of entries have a function each. One function with the word's place would be no plainer: its callers would name a place and not
+// what they read.
+
 // What the symbol at c gives: the address of a sort, or 0 for a judgment.
 #[tactic(auto, unfolding(crate::specs::Reading::output_of))]
 pub fn output(heap: &[u32], c: u32) -> u32

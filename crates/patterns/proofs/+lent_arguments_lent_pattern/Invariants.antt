@@ -9,7 +9,7 @@ abbrev pub decreases-lent_arguments : goal.decreases-lent_arguments
 decreases-lent_arguments l = 2 * l.left + 1
 
 abbrev pub invariant-lent_arguments-loop-k : goal.invariant-lent_arguments-loop-k
-invariant-lent_arguments-loop-k l = (l.k ≤ l.inputs) × (arguments_from (models.pattern l.left l.text l.counts) l.inputs l.text l.c 0 l.initial.walk l.initial.vars l.initial.heap ≡ arguments_from (models.pattern l.left l.text l.counts) (l.inputs - l.k) l.text l.c l.k l.walk l.vars l.heap) × (length l.vars ≡ length l.initial.vars) × (length l.heap ≡ length l.initial.heap)
+invariant-lent_arguments-loop-k l = (l.k ≤ l.inputs) × (arguments_from (models.pattern l.left l.rulebook.text.now l.rulebook.counts.now) l.inputs l.rulebook.text.now l.c 0 l.initial.walk l.initial.vars l.initial.heap ≡ arguments_from (models.pattern l.left l.rulebook.text.now l.rulebook.counts.now) (l.inputs - l.k) l.rulebook.text.now l.c l.k l.walk l.vars l.heap) × (length l.vars ≡ length l.initial.vars) × (length l.heap ≡ length l.initial.heap)
 
 abbrev pub decreases-lent_pattern : goal.decreases-lent_pattern
 decreases-lent_pattern l = 2 * l.left

@@ -5,4 +5,4 @@ use Rattle.symbols.specs.Symbols.{inputs}
 use Rattle.symbols.proofs.read_inputs.Given as goal
 
 abbrev pub invariant-loop : goal.invariant-loop
-invariant-loop l = (inputs l.n l.text l.counts l.initial.v l.initial.heap ≡ inputs (l.n - l.counter) l.text l.counts l.v l.heap) × (length l.heap ≡ length l.initial.heap) × (l.counter ≤ l.n)
+invariant-loop l = (inputs l.n l.rulebook.text.now l.rulebook.counts.now l.initial.v l.initial.heap ≡ inputs (l.n - l.counter) l.rulebook.text.now l.rulebook.counts.now l.v l.heap) × (length l.heap ≡ length l.initial.heap) × (l.counter ≤ l.n)
