@@ -58,5 +58,17 @@ pub fn judgment(
     }
     let r = asking::list_due(text, left, reader)?;
     let (s, t, r) = asking::atom_due(text, left - 1, r)?;
-    headed_judgment(text, rules, heap, table, store, stack, top, left - 1, s, t, r)
+    headed_judgment(
+        text,
+        rules,
+        heap,
+        table,
+        store,
+        stack,
+        top,
+        left - 1,
+        s,
+        t,
+        r,
+    )
 }

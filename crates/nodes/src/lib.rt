@@ -108,7 +108,15 @@ pub fn atom_term(
         return Ok((meaning.ok_or(Refusal::Unknown)?, reader));
     }
     let found = theory_reading::find(heap, rules, Section::Constructors, words::part(text, s, t));
-    make(heap, store, stack, found.ok_or(Refusal::Unknown)?, top, 0, reader)
+    make(
+        heap,
+        store,
+        stack,
+        found.ok_or(Refusal::Unknown)?,
+        top,
+        0,
+        reader,
+    )
 }
 
 // The head of a term in brackets, asked for without a look ahead.

@@ -54,9 +54,7 @@ pub fn item(
     }
     match asking::item_due(text, left, reader)? {
         Item::Atom(s, t, p) => {
-            let (k, next) = nodes::atom_term(
-                text, rules, heap, table, store, stack, top, s, t, p,
-            )?;
+            let (k, next) = nodes::atom_term(text, rules, heap, table, store, stack, top, s, t, p)?;
             *r = next;
             Ok(Begun::Whole(k))
         }

@@ -30,7 +30,9 @@ pub fn term(
         ≡ term left text.now rules.now heap.now table.now top reader store.old stack.old }
 {
     let mut r = reader;
-    match openings::begin(text, rules, heap, table, store, stack, &mut r, top, left, false)? {
+    match openings::begin(
+        text, rules, heap, table, store, stack, &mut r, top, left, false,
+    )? {
         Begun::Closing => Err(Refusal::StrayClosing),
         Begun::Whole(k) => Ok((k, r)),
         Begun::Opened(c) => {
