@@ -6,8 +6,6 @@ ghost use Rattle.lex.specs.Answers.{answer, found, after, token_at, scanned, pee
 
 use utf8::classes;
 
-pub mod lent;
-
 // "A token is an opening, a closing or an atom with its bounds."
 #[derive(Clone, Copy)]
 pub enum Token {
