@@ -1,4 +1,5 @@
 -- What is asked of a reader, beside what the definition asks of its items. Assumes nothing.
+use Rattle.std.specs.Prelude.{None}
 use Prim.Native.Nat.{ℕ, zero, suc, ◌+◌, ◌≤◌, ◌<◌}
 use mathlib.Core.Path.{◌≡◌, refl}
 use mathlib.Core.Bool.{not}
@@ -15,7 +16,6 @@ use Rattle.theory_laws.specs.Below.horn.specs.NestedLists.{Item, word, group, It
 use Rattle.theory_laws.specs.Below.horn.specs.Checker as definition
 use Rattle.theory_laws.specs.Below.words.specs.Parts.{part}
 use Rattle.asking.specs.Below.lex.specs.Answers as lexed
-use Rattle.asking.specs.Below.lex.specs.declared.Ahead.TheVariants.{Nothing}
 use Rattle.asking.specs.Below.lex.specs.declared.Reader.{Reader}
 use Rattle.asking.specs.Below.lex.proofs.Standing.{Stands}
 use Rattle.asking.specs.Below.lex.proofs.Readers.{takes, taken_end, taken_bad, Sees, see_end, see_bad}
@@ -62,7 +62,7 @@ module _ (text : List ℕ) where
     pub data ItemMet : Met → Item × Items → Type 0 where
       atom_met : {s t : ℕ} {r : Reader} {name : Name} {rest : Items} → part s t text ≡ name → s < t → t ≤ length text → At text (RestComes rest K) (n + 2) r
           → ItemMet (asked.atom s t r) (word name, rest)
-      list_met : {r : Reader} {inner rest : Items} → At text (RestComes inner (RestComes rest K)) n r → r.ahead ≡ Nothing
+      list_met : {r : Reader} {inner rest : Items} → At text (RestComes inner (RestComes rest K)) n r → r.ahead ≡ None
           → ItemMet (asked.list r) (group inner, rest)
 
     pub data WordMet : ℕ × ℕ × Reader → Name × Items → Type 0 where
@@ -70,7 +70,7 @@ module _ (text : List ℕ) where
           → WordMet (s, t, r) (name, rest)
 
     pub data GroupMet : Reader → Items × Items → Type 0 where
-      group_met : {r : Reader} {inner rest : Items} → At text (RestComes inner (RestComes rest K)) n r → r.ahead ≡ Nothing
+      group_met : {r : Reader} {inner rest : Items} → At text (RestComes inner (RestComes rest K)) n r → r.ahead ≡ None
           → GroupMet r (inner, rest)
 
     -- The next item.

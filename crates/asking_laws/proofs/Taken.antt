@@ -1,4 +1,5 @@
 -- What is taken of a reader, beside the token that the definition has next. Assumes nothing.
+use Rattle.std.specs.Prelude.{None}
 use Prim.Native.Nat.{ℕ, suc, ◌+◌, ◌≤◌, ◌<◌}
 use mathlib.Core.Path.{◌≡◌, ap, sym}
 use mathlib.Core.List.{List}
@@ -8,7 +9,6 @@ use Rattle.theory_laws.specs.Below.horn.specs.Tokens.{Stream, ◌▹◌, Token, 
 use Rattle.theory_laws.specs.Below.words.specs.Parts.{part}
 use Rattle.asking.specs.Below.lex.specs.Answers as lexed
 use Rattle.asking.specs.Below.lex.specs.declared.Token.TheVariants.{Opening, Closing, Atom}
-use Rattle.asking.specs.Below.lex.specs.declared.Ahead.TheVariants.{Nothing}
 use Rattle.asking.specs.Below.lex.specs.declared.Reader.{Reader}
 use Rattle.asking.specs.Below.lex.proofs.Readers.{Takes, take_opening, take_closing, take_atom}
 use Rattle.theory_laws.specs.Reading.{weight}
@@ -18,7 +18,7 @@ use Rattle.asking_laws.proofs.Places.{At}
 module _ (text : List ℕ) where
   -- A token that comes was taken: the reader stands behind it. An atom spends two bytes at least.
   pub data Got (K : Stream Token → Type 0) (n : ℕ) : Token → lexed.Answer → Type 0 where
-    got_opening : {q : Reader} → At text K n q → q.ahead ≡ Nothing → Got K n opening (lexed.token Opening q)
+    got_opening : {q : Reader} → At text K n q → q.ahead ≡ None → Got K n opening (lexed.token Opening q)
     got_closing : {q : Reader} → At text K n q → Got K n closing (lexed.token Closing q)
     got_atom : {a b : ℕ} {q : Reader} {bytes : List ℕ} → part a b text ≡ bytes → a < b → b ≤ length text → At text K (n + 2) q
         → Got K n (atom bytes) (lexed.token (Atom a b) q)

@@ -33,7 +33,7 @@ fn counts_of(last: Tally, store: &[u32]) -> Counts
         steps: last.steps,
         goals: last.goals,
         terms: arena::node_count(store),
-        requested: requests::requested(store, limits::NODES, limits::WORDS, limits::PLACES),
+        requested: requests::requested(store, limits::STORE),
     }
 }
 
@@ -55,7 +55,7 @@ pub fn check(
     if let Judged::Refused(n) = judged {
         return Checked::Refused(n);
     }
-    requests::empty(store, limits::NODES, limits::WORDS, limits::PLACES);
+    requests::empty(store, limits::STORE);
     let none = tables::begin(table, limits::DEF_BUCKETS);
     let gathered = goals::goals(text, rulebook, heap, table, store, stack, none);
     let Forms::All(tally) = gathered else {

@@ -1,4 +1,5 @@
 -- A step of the certificate is the definition's, where the table holds the goals, abbreviations and steps so far. Assumes nothing.
+use Rattle.std.specs.Prelude.{None}
 use Prim.Native.Nat.{ℕ, suc, ◌+◌, ◌*◌, ◌≤◌, ◌<◌}
 use mathlib.Core.Path.{◌≡◌, refl, ap₂, sym, subst, ◌∙◌}
 use mathlib.Core.Bool.{Bool, true, false}
@@ -24,7 +25,6 @@ use Rattle.matching_laws.specs.Below.horn.proofs.Equality.{eqb_decides}
 use Rattle.matching_laws.specs.Below.horn.proofs.SoundnessWords.{WellFormed}
 use Rattle.matching_laws.specs.Below.words.specs.Parts.{part}
 use Rattle.steps.specs.Below.lex.specs.Answers.{after}
-use Rattle.steps.specs.Below.lex.specs.declared.Ahead.TheVariants.{Nothing}
 use Rattle.steps.specs.Below.lex.specs.declared.Reader.{Reader}
 use Rattle.steps.specs.Below.lex.proofs.Positions.{never_past}
 use Rattle.steps.specs.Below.outcomes.specs.Outcomes as outcomes
@@ -66,7 +66,7 @@ use Rattle.steps_laws.proofs.Items.{ItemRead, item_read, items_from_lem}
 -- them, and the definition reads them.
 pub record ReferencesListed (text : List ℕ) (place tested : ℕ) (refs : List ℕ) : Type 0 where
   pub items : Items
-  pub reader : At text (RestComes items Any) 1 (after place tested Nothing)
+  pub reader : At text (RestComes items Any) 1 (after place tested None)
   pub reads : certificates.references items ≡ refusals.ok refs
 
 -- A step was read: its judgment's number, its rule's address, the place of its references and up to where the text is tested there, and the
