@@ -8,6 +8,7 @@ ghost use Rattle.pages.specs.Pages.{line_at, lines_to, page_from};
 use nodes::limits;
 
 // The line of goal k: its name, its result's step, and the name of the rule of that step.
+#[tactic(auto, unfolding(crate::specs::Pages::line_at))]
 pub fn goal_line<'a>(
     rulebook: &'a [u8],
     goals: &'a [u8],
@@ -28,6 +29,7 @@ pub fn goal_line<'a>(
 }
 
 // The lines of the first n goals, in goals order.
+#[tactic(auto, using(crate::proofs::Turns::turns))]
 pub fn goal_lines<'a>(
     rulebook: &'a [u8],
     goals: &'a [u8],
@@ -39,15 +41,14 @@ pub fn goal_lines<'a>(
     ensures { out.new
         ≡ lines_to n rulebook.now goals.now table.now heap.now out.old }
 {
-    let mut k: u32 = 0;
-    while k < n {
+    for k in 0..n {
         goal_line(rulebook, goals, table, heap, k, out);
-        k += 1;
     }
 }
 
 // The page of a release that has so many goals and steps. The store's area and the stack are free by now: the one takes the marks of the
 // steps, the other the references that are read again.
+#[tactic(auto, unfolding(crate::specs::Pages::page_from))]
 pub fn page<'a>(
     rulebook: &'a [u8],
     text: &'a [u8],
