@@ -13,8 +13,8 @@ use Rattle.arena.specs.Probing.{probe, start_place}
 use Rattle.arena.specs.Store.{area_words, place_at, count, start, searched, added_answer, added_area, answer_at, area_at, intern_answer, intern_area, emptied}
 use Rattle.arena.specs.declared.Probe.{Probe}
 use Rattle.arena.specs.declared.Probe.TheVariants.{Held, Free, Nowhere}
-use Rattle.arena.specs.declared.Answer.{Answer}
-use Rattle.arena.specs.declared.Answer.TheVariants.{Found, Made, Full}
+use Rattle.arena.specs.Store.{Answer}
+use Rattle.arena.specs.Store.{Found, Made, Full}
 use Rattle.arena.proofs.Nodes.{Node, Nodes, node_of, total, asked}
 use Rattle.arena.proofs.Limits.{Limits, places_positive, few_nodes, place_below}
 use Rattle.arena.proofs.Holds.{Holds}

@@ -11,7 +11,7 @@ use Rattle.facts.specs.Below.horn.specs.StoredTerms.{Term}
 use Rattle.facts.specs.Below.horn.proofs.Run.{store_of}
 use Rattle.arena.specs.Probing.{start_place}
 use Rattle.arena.specs.Store.{intern_answer, intern_area, answered}
-use Rattle.arena.specs.declared.Answer.TheVariants.{Full}
+use Rattle.arena.specs.Store.{Full}
 use Rattle.arena.proofs.Nodes.{Node}
 use Rattle.arena.proofs.Limits.{Limits, shifted, trailing_power}
 use Rattle.arena.proofs.Trees.{Trees, Formed, InternedTree, build, interned_tree}

@@ -15,8 +15,8 @@ use Rattle.facts.specs.Below.horn.specs.Setting.{Setting}
 use Rattle.facts.specs.Below.horn.specs.Rulebook.{Symbol}
 use Rattle.facts.specs.Below.horn.specs.StoredTerms.{Term, node, Terms, []ₜ, ◌∷ₜ◌, width, node_size, size, holds, within_limits, intern}
 use Rattle.arena.specs.Store.{intern_answer, intern_area}
-use Rattle.arena.specs.declared.Answer.{Answer}
-use Rattle.arena.specs.declared.Answer.TheVariants.{Found, Made, Full}
+use Rattle.arena.specs.Store.{Answer}
+use Rattle.arena.specs.Store.{Found, Made, Full}
 use Rattle.facts.specs.Below.horn.proofs.Equality.{case}
 use Rattle.arena.proofs.Cases.{not_both}
 use Rattle.arena.proofs.Equality.{held_place, place_held}

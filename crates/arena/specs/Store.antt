@@ -9,8 +9,11 @@ use Rattle.facts.specs.Below.horn.specs.Refusals.{number, store_full}
 use Rattle.arena.specs.Probing.{probe, start_place}
 use Rattle.arena.specs.declared.Probe.{Probe}
 use Rattle.arena.specs.declared.Probe.TheVariants.{Held, Free, Nowhere}
-use Rattle.arena.specs.declared.Answer.{Answer}
-use Rattle.arena.specs.declared.Answer.TheVariants.{Found, Made, Full}
+use Rattle.std.specs.declared.result.Result.{Result}
+use Rattle.std.specs.declared.result.Result.TheVariants.{Ok, Err}
+use Rattle.arena.specs.declared.Interned.{Interned}
+use Rattle.arena.specs.declared.Interned.TheVariants as interned
+use Rattle.arena.specs.declared.Full as full
 
 abbrev pub start_at : ℕ → ℕ
 start_at k = k + 1
@@ -44,6 +47,18 @@ is_key a nodes places key k = same_bytes (part (word_at nodes places (start a k)
 unfoldable pub searched : List ℕ → ℕ → ℕ → List ℕ → Probe
 searched a nodes places key =
     probe places places (λ (p : ℕ). get_or a (place_at nodes p) 0) (is_key a nodes places key) (start_place (hash key) places)
+
+-- The answer to a node: its number, of a node held before or of a new one, or that the store has no room for it.
+pub data Answer : Type 0 where
+  Found : ℕ → Answer
+  Made : ℕ → Answer
+  Full : Answer
+
+-- What each case of the code's answer says.
+abbrev pub answer : Result Interned full.Full → Answer
+answer (Ok (interned.Found k)) = Found k
+answer (Ok (interned.Made k)) = Made k
+answer (Err e) = Full
 
 -- "Refusal 28 comes when a node not yet held would pass either, and otherwise never."
 unfoldable pub added_answer : List ℕ → ℕ → ℕ → List ℕ → Answer

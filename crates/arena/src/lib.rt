@@ -1,10 +1,28 @@
-// Nodes, each stored once and named by its number, in one lent area. Limits are parameters, and any area is survived.
+// Nodes, each stored once and named by its number, in one lent area. The limits are a parameter, and any area is survived.
 #![tactic(auto)]
 
-ghost use Rattle.std.specs.Prelude.{◌≡◌, ℕ, ◌+◌, ◌%◌, ◌<◌, get_or};
+ghost use Rattle.std.specs.Prelude.{◌≡◌, ℕ, ◌+◌, ◌%◌, ◌^◌, ◌<◌, get_or};
 ghost use Rattle.arena.specs.Probing.{probe, start_place};
-ghost use Rattle.arena.specs.Store.{place_at, count, is_key, added_answer, added_area};
+ghost use Rattle.arena.specs.Store.{place_at, word_at, count, is_key, answer, added_answer, added_area};
 ghost use Rattle.arena.specs.Store.{intern_answer, intern_area, intern_report, answered, emptied, size_of, head_of, argument_of};
+
+// The setting of a store, its limits: how many nodes it may have, how many words these may have together, and how many places its index has.
+#[derive(Clone, Copy)]
+pub struct Setting {
+    pub nodes: u32,
+    pub words: u32,
+    pub places: u32,
+}
+
+impl Setting {
+    // Where the nodes' words begin: behind the counts, the nodes' starts and the index.
+    fn base(self) -> usize
+        ensures start { result ≡ word_at self.nodes self.places 0 }
+        ensures few { result < 2 ^ 34 }
+    {
+        2 + self.nodes as usize + self.places as usize
+    }
+}
 
 // Where probing the index ends: at the node that is asked for, at a free place, or nowhere, which a store within its limits rules out.
 #[derive(Drop)]
@@ -14,15 +32,19 @@ enum Probe {
     Nowhere,
 }
 
-// The answer to a node: its number, of a node held before or of a new one, or that the store has no room for it.
+// L1: "Storing a node must now say whether it was found or made." Its number, of a node held before or of a new one.
 #[derive(Clone, Copy)]
-pub enum Answer {
+pub enum Interned {
     Found(u32),
     Made(u32),
-    Full,
 }
 
+// The store has no room for a node.
+#[derive(Clone, Copy)]
+pub struct Full;
+
 // The place where the walk for a hash starts, from the top bits, as many as the index's length has trailing zeros.
+#[tactic(auto, using(crate::proofs::Turns::starting))]
 pub fn start_place(h: u64, places: u32) -> u32
     ensures { result ≡ start_place h places }
 {
@@ -34,14 +56,14 @@ pub fn start_place(h: u64, places: u32) -> u32
 }
 
 // Whether node k is the key.
-fn is_key(a: &[u32], nodes: u32, places: u32, key: &[u32], k: u32) -> bool
-    ensures { result ≡ is_key a.now nodes places key.now k }
+#[tactic(auto, using(words::proofs::Laws::same_pointwise), unfolding(crate::specs::Store::is_key, crate::specs::Store::start))]
+fn is_key(a: &[u32], limits: Setting, key: &[u32], k: u32) -> bool
+    ensures { result ≡ is_key a.now limits.nodes limits.places key.now k }
 {
     let start = words::at(a, k as usize + 1);
     let next = words::at(a, k as usize + 1 + 1);
-    let base = 2 + nodes as usize + places as usize;
-    let node = words::words_part(a, base + start as usize, base + next as usize);
-    words::same_words(node, key)
+    let base = limits.base();
+    words::part(a, base + start as usize, base + next as usize) == key
 }
 
 // The place behind i, from last to first. Only the last place pays for a division.
@@ -57,75 +79,77 @@ fn next_place(i: u32, places: u32) -> u32
 }
 
 // Walks the index from a place, at most once around.
-fn walk(a: &[u32], nodes: u32, places: u32, key: &[u32], start: u32) -> Probe
+#[tactic(auto, using(crate::proofs::Turns::walking))]
+fn walk(a: &[u32], limits: Setting, key: &[u32], start: u32) -> Probe
     ensures { result
-        ≡ probe places places (λ (p : ℕ). get_or a.now (place_at nodes p) 0) (is_key a.now nodes places key.now) start }
+        ≡ probe limits.places limits.places (λ (p : ℕ). get_or a.now (place_at limits.nodes p) 0)
+        (is_key a.now limits.nodes limits.places key.now) start }
 {
-    let mut fuel = places;
     let mut i = start;
-    while 0 < fuel {
-        let v = words::at(a, 2 + nodes as usize + i as usize);
+    for _ in 0..limits.places {
+        let v = words::at(a, 2 + limits.nodes as usize + i as usize);
         if v == 0 {
             return Probe::Free(i);
         }
-        if is_key(a, nodes, places, key, v - 1) {
+        if is_key(a, limits, key, v - 1) {
             return Probe::Held(v - 1);
         }
-        i = next_place(i, places);
-        fuel -= 1;
+        i = next_place(i, limits.places);
     }
     Probe::Nowhere
 }
 
 // Adds a node that is not held, where both limits allow it.
-fn add(a: &mut [u32], nodes: u32, limit: u32, places: u32, key: &[u32], p: u32) -> Answer
-    ensures value { result ≡ added_answer a.old nodes limit key.now }
-    ensures a_after { a.new ≡ added_area a.old nodes limit places key.now p }
+#[tactic(auto, unfolding(crate::specs::Store::added_answer, crate::specs::Store::added_area, crate::specs::Store::with_node, crate::specs::Store::count, crate::specs::Store::start))]
+fn add(a: &mut [u32], limits: Setting, key: &[u32], p: u32) -> Result<Interned, Full>
+    ensures value { answer result ≡ added_answer a.old limits.nodes limits.words key.now }
+    ensures a_after { a.new ≡ added_area a.old limits.nodes limits.words limits.places key.now p }
 {
     let n = words::at(a, 0);
-    if nodes <= n {
-        return Answer::Full;
+    if limits.nodes <= n {
+        return Err(Full);
     }
     let w = words::at(a, n as usize + 1);
-    if limit < w {
-        return Answer::Full;
+    if limits.words < w {
+        return Err(Full);
     }
-    if ((limit - w) as usize) < key.len() {
-        return Answer::Full;
+    if ((limits.words - w) as usize) < key.len() {
+        return Err(Full);
     }
     let len = key.len() as u32;
-    let base = 2 + nodes as usize + places as usize;
-    words::copy(a, base + w as usize, key, key.len());
+    words::copy(a, limits.base() + w as usize, key, key.len());
     words::put(a, n as usize + 1 + 1, w + len);
     words::put(a, 0, n + 1);
-    words::put(a, 2 + nodes as usize + p as usize, n + 1);
-    Answer::Made(n)
+    words::put(a, 2 + limits.nodes as usize + p as usize, n + 1);
+    Ok(Interned::Made(n))
 }
 
 // The number of a node: of the one held, else of a new one.
-pub fn intern(a: &mut [u32], nodes: u32, limit: u32, places: u32, key: &[u32]) -> Answer
-    ensures value { result ≡ intern_answer a.old nodes limit places key.now }
-    ensures a_after { a.new ≡ intern_area a.old nodes limit places key.now }
-    ensures result_value { answered result ≡ intern_report a.old nodes limit places key.now }
+#[tactic(auto, unfolding(crate::specs::Store::intern_answer, crate::specs::Store::intern_area, crate::specs::Store::intern_report, crate::specs::Store::answer_at, crate::specs::Store::area_at, crate::specs::Store::searched))]
+pub fn intern(a: &mut [u32], limits: Setting, key: &[u32]) -> Result<Interned, Full>
+    ensures value { answer result ≡ intern_answer a.old limits.nodes limits.words limits.places key.now }
+    ensures a_after { a.new ≡ intern_area a.old limits.nodes limits.words limits.places key.now }
+    ensures result_value { answered (answer result) ≡ intern_report a.old limits.nodes limits.words limits.places key.now }
 {
     let h = words::hash_all(key);
-    let start = start_place(h, places);
-    let p = walk(a, nodes, places, key, start);
-    match p {
-        Probe::Held(k) => Answer::Found(k),
-        Probe::Free(i) => add(a, nodes, limit, places, key, i),
-        Probe::Nowhere => Answer::Full,
+    let start = start_place(h, limits.places);
+    match walk(a, limits, key, start) {
+        Probe::Held(k) => Ok(Interned::Found(k)),
+        Probe::Free(i) => add(a, limits, key, i),
+        Probe::Nowhere => Err(Full),
     }
 }
 
 // Empties the store: zero counts and a zero index. The nodes' words stay as they are.
-pub fn empty(a: &mut [u32], nodes: u32, places: u32)
-    ensures { a.new ≡ emptied a.old nodes places }
+#[tactic(auto, unfolding(crate::specs::Store::emptied))]
+pub fn empty(a: &mut [u32], limits: Setting)
+    ensures { a.new ≡ emptied a.old limits.nodes limits.places }
 {
-    words::clear(a, 2 + nodes as usize + places as usize);
+    words::clear(a, limits.base());
 }
 
 // How many nodes there are.
+#[tactic(auto, unfolding(crate::specs::Store::count))]
 pub fn node_count(a: &[u32]) -> u32
     ensures { result ≡ count a.now }
 {
@@ -133,6 +157,7 @@ pub fn node_count(a: &[u32]) -> u32
 }
 
 // How many words a node has.
+#[tactic(auto, unfolding(crate::specs::Store::size_of, crate::specs::Store::start))]
 pub fn node_size(a: &[u32], k: u32) -> u32
     ensures { result ≡ size_of a.now k }
 {
@@ -145,20 +170,19 @@ pub fn node_size(a: &[u32], k: u32) -> u32
 }
 
 // The head of a node.
-pub fn node_head(a: &[u32], nodes: u32, places: u32, k: u32) -> u32
-    ensures { result ≡ head_of a.now nodes places k }
+#[tactic(auto, unfolding(crate::specs::Store::head_of, crate::specs::Store::start))]
+pub fn node_head(a: &[u32], limits: Setting, k: u32) -> u32
+    ensures { result ≡ head_of a.now limits.nodes limits.places k }
 {
     let start = words::at(a, k as usize + 1);
-    words::at(a, 2 + nodes as usize + places as usize + start as usize)
+    words::at(a, limits.base() + start as usize)
 }
 
 // Argument j, counted from 0.
-pub fn node_argument(a: &[u32], nodes: u32, places: u32, k: u32, j: u32) -> u32
-    ensures { result ≡ argument_of a.now nodes places k j }
+#[tactic(auto, unfolding(crate::specs::Store::argument_of, crate::specs::Store::start))]
+pub fn node_argument(a: &[u32], limits: Setting, k: u32, j: u32) -> u32
+    ensures { result ≡ argument_of a.now limits.nodes limits.places k j }
 {
     let start = words::at(a, k as usize + 1);
-    words::at(
-        a,
-        2 + nodes as usize + places as usize + start as usize + 1 + j as usize,
-    )
+    words::at(a, limits.base() + start as usize + 1 + j as usize)
 }

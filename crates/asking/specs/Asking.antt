@@ -1,5 +1,5 @@
 -- What is asked of a reader, and what it answers: a value with the reader after it, or a refusal by document 01's number.
-use Rattle.std.specs.Prelude.{ℕ, not, List, eqb}
+use Rattle.std.specs.Prelude.{ℕ, not, List, eqb, Option, Some, None}
 use Rattle.lex.specs.Answers as lex
 use Rattle.lex.specs.Answers.{Answer, taken, peeked}
 use Rattle.lex.specs.declared.Reader.{Reader}
@@ -7,14 +7,8 @@ use Rattle.lex.specs.declared.Token.TheVariants as tokens
 use Rattle.outcomes.specs.Outcomes.{Outcome, ok, refused, ◌>>=◌, need}
 use Rattle.asking.specs.declared.Item.{Item}
 use Rattle.asking.specs.declared.Item.TheVariants as items
-use Rattle.asking.specs.declared.Named.{Named}
-use Rattle.asking.specs.declared.Named.TheVariants as names
-use Rattle.asking.specs.declared.Passed.{Passed}
-use Rattle.asking.specs.declared.Passed.TheVariants as passes
 use Rattle.asking.specs.declared.Look.{Look}
 use Rattle.asking.specs.declared.Look.TheVariants as looks
-use Rattle.asking.specs.declared.Begun.{Begun}
-use Rattle.asking.specs.declared.Begun.TheVariants as begins
 
 -- What is left for the members of a form, which are at depth 1.
 abbrev pub in_form : ℕ
@@ -39,29 +33,18 @@ pub data Top : Type 0 where
   over : Top
   form : Reader → Top
 
--- What each case of an answer says: a value, or a refusal by its number.
-abbrev pub met : Item → Outcome Met
-met (items.Atom s t r) = ok (atom s t r)
-met (items.List r) = ok (list r)
-met (items.Refused n) = refused n
+-- What each case of a value says; refusals are said by `told_as` (crate outcomes).
+abbrev pub met : Item → Met
+met (items.Atom s t r) = atom s t r
+met (items.List r) = list r
 
-abbrev pub named : Named → Outcome (ℕ × ℕ × Reader)
-named (names.Atom s t r) = ok (s, t, r)
-named (names.Refused n) = refused n
+abbrev pub looked : Look → Ahead
+looked (looks.Closing r) = closing r
+looked (looks.Member r) = member r
 
-abbrev pub passed : Passed → Outcome Reader
-passed (passes.To r) = ok r
-passed (passes.Refused n) = refused n
-
-abbrev pub looked : Look → Outcome Ahead
-looked (looks.Closing r) = ok (closing r)
-looked (looks.Member r) = ok (member r)
-looked (looks.Refused n) = refused n
-
-abbrev pub begun : Begun → Outcome Top
-begun begins.Over = ok over
-begun (begins.Form r) = ok (form r)
-begun (begins.Refused n) = refused n
+abbrev pub begun : Option Reader → Top
+begun None = over
+begun (Some r) = form r
 
 -- The item that a token begins: "end of text is 5, a closing 6".
 abbrev pub item_from : Answer → Outcome Met

@@ -3,10 +3,11 @@
 #![tactic(auto)]
 
 ghost use Rattle.std.specs.Prelude.{◌≡◌};
-ghost use Rattle.outcomes.specs.Outcomes.{refusal};
-ghost use Rattle.asking.specs.Asking.{met, named, passed, looked, begun, item_due, atom_due, list_due, closing_due, closing_next, form_due};
+ghost use Rattle.outcomes.specs.Told.{told, told_as};
+ghost use Rattle.asking.specs.Asking.{met, looked, begun, item_due, atom_due, list_due, closing_due, closing_next, form_due};
 
 use lex::{Read, Reader, Token};
+use outcomes::Refusal;
 
 // What is left for the members of a form, which are at depth 1.
 pub const IN_FORM: u32 = 256;
@@ -14,160 +15,101 @@ pub const IN_FORM: u32 = 256;
 // What is left for the members of a list within a form, which are at depth 2.
 pub const IN_LIST: u32 = 255;
 
-// An atom with its bounds and the reader after it, or a list with the reader after its opening.
-#[derive(Drop)]
+// An atom with its bounds and the reader after it, or a list with the reader after its opening. In crate items, where the text was read whole, a
+// list has its number of members beside it: one type for both would have a parameter for that number, and be no plainer.
+#[derive(Clone, Copy)]
 pub enum Item {
     Atom(usize, usize, Reader),
     List(Reader),
-    Refused(u32),
-}
-
-// A name by its bounds.
-#[derive(Drop)]
-pub enum Named {
-    Atom(usize, usize, Reader),
-    Refused(u32),
-}
-
-// The reader after a bracket that was due.
-#[derive(Drop)]
-pub enum Passed {
-    To(Reader),
-    Refused(u32),
 }
 
 // Whether a closing is next: if so it is taken; if not, a member is to be asked for.
-#[derive(Drop)]
+#[derive(Clone, Copy)]
 pub enum Look {
     Closing(Reader),
     Member(Reader),
-    Refused(u32),
-}
-
-// At top level: a form with the reader after its opening, or the end of the text.
-#[derive(Drop)]
-pub enum Begun {
-    Form(Reader),
-    Over,
-    Refused(u32),
 }
 
 // "Asking for an item at depth 257 is refusal 4, before its token is taken; then end of text is 5, a closing 6."
-pub fn item_due(text: &[u8], left: u32, reader: Reader) -> Item
-    ensures { met result ≡ item_due text.now left reader }
+#[tactic(auto, using(outcomes::proofs::BadLines::bad_line), unfolding(crate::specs::Asking::item_due, lex::specs::Answers::answer))]
+pub fn item_due(text: &[u8], left: u32, reader: Reader) -> Result<Item, Refusal>
+    ensures { told_as met result ≡ item_due text.now left reader }
 {
     if left == 0 {
-        return Item::Refused(4);
+        return Err(Refusal::Nesting);
     }
-    let read = reader.token(text);
-    match read {
-        Read::End => Item::Refused(5),
-        Read::Bad => Item::Refused(3),
-        Read::Got(token, next) => match token {
-            Token::Closing => Item::Refused(6),
-            Token::Opening => Item::List(next),
-            Token::Atom(s, t) => Item::Atom(s, t, next),
-        },
+    match reader.token(text) {
+        Read::End => Err(Refusal::TextEnds),
+        Read::Bad => Err(Refusal::NotUtf8),
+        Read::Got(Token::Closing, _) => Err(Refusal::StrayClosing),
+        Read::Got(Token::Opening, next) => Ok(Item::List(next)),
+        Read::Got(Token::Atom(s, t), next) => Ok(Item::Atom(s, t, next)),
     }
 }
 
-// An atom, where one is due: "after 4, 5 and 6, an answer that is no atom there is refused 7."
-pub fn atom_due(text: &[u8], left: u32, reader: Reader) -> Named
-    ensures { named result ≡ atom_due text.now left reader }
+// An atom, where one is due: its bounds and the reader after it. "After 4, 5 and 6, an answer that is no atom there is refused 7." `let .. else`
+// is the project's rule for this refusal.
+#[tactic(auto, unfolding(crate::specs::Asking::atom_due))]
+pub fn atom_due(text: &[u8], left: u32, reader: Reader) -> Result<(usize, usize, Reader), Refusal>
+    ensures { told result ≡ atom_due text.now left reader }
 {
-    let answer = item_due(text, left, reader);
-    if let Item::Refused(n) = answer {
-        return Named::Refused(n);
-    }
-    let Item::Atom(s, t, next) = answer else {
-        return Named::Refused(7);
+    let Item::Atom(s, t, next) = item_due(text, left, reader)? else {
+        return Err(Refusal::AtomOrList);
     };
-    Named::Atom(s, t, next)
+    Ok((s, t, next))
 }
 
 // A list, where one is due: its opening is taken.
-pub fn list_due(text: &[u8], left: u32, reader: Reader) -> Passed
-    ensures { passed result ≡ list_due text.now left reader }
+#[tactic(auto, unfolding(crate::specs::Asking::list_due))]
+pub fn list_due(text: &[u8], left: u32, reader: Reader) -> Result<Reader, Refusal>
+    ensures { told result ≡ list_due text.now left reader }
 {
-    let answer = item_due(text, left, reader);
-    match answer {
-        Item::Refused(n) => Passed::Refused(n),
-        Item::Atom(_, _, _) => Passed::Refused(7),
-        Item::List(next) => Passed::To(next),
-    }
+    let Item::List(next) = item_due(text, left, reader)? else {
+        return Err(Refusal::AtomOrList);
+    };
+    Ok(next)
 }
 
 // "Where a closing is due, end of text is 5 and any other token 10."
-pub fn closing_due(text: &[u8], reader: Reader) -> Passed
-    ensures { passed result ≡ closing_due text.now reader }
+#[tactic(auto, using(outcomes::proofs::BadLines::bad_line), unfolding(crate::specs::Asking::closing_due, lex::specs::Answers::answer))]
+pub fn closing_due(text: &[u8], reader: Reader) -> Result<Reader, Refusal>
+    ensures { told result ≡ closing_due text.now reader }
 {
-    let read = reader.token(text);
-    match read {
-        Read::End => Passed::Refused(5),
-        Read::Bad => Passed::Refused(3),
-        Read::Got(token, next) => match token {
-            Token::Opening => Passed::Refused(10),
-            Token::Atom(_, _) => Passed::Refused(10),
-            Token::Closing => Passed::To(next),
-        },
+    match reader.token(text) {
+        Read::End => Err(Refusal::TextEnds),
+        Read::Bad => Err(Refusal::NotUtf8),
+        Read::Got(Token::Closing, next) => Ok(next),
+        Read::Got(Token::Opening | Token::Atom(_, _), _) => Err(Refusal::Excess),
     }
 }
 
 // "After an opening, members are asked for until a closing is next. That look ahead comes first, so a bad line found by it is 3, not 4".
 // At the end of the text a member is asked for, which is 4 or 5 then.
-pub fn closing_next(text: &[u8], reader: Reader) -> Look
-    ensures { looked result ≡ closing_next text.now reader }
+#[tactic(auto, using(outcomes::proofs::BadLines::bad_line), unfolding(crate::specs::Asking::closing_next, lex::specs::Answers::answer))]
+pub fn closing_next(text: &[u8], reader: Reader) -> Result<Look, Refusal>
+    ensures { told_as looked result ≡ closing_next text.now reader }
 {
-    let seen = reader.peek(text);
-    match seen {
-        Read::Bad => Look::Refused(3),
-        Read::End => Look::Member(reader),
-        Read::Got(token, held) => match token {
-            Token::Opening => Look::Member(held),
-            Token::Atom(_, _) => Look::Member(held),
-            Token::Closing => {
-                let p = closing_due(text, held);
-                match p {
-                    Passed::To(next) => Look::Closing(next),
-                    Passed::Refused(n) => Look::Refused(n),
-                }
-            }
-        },
+    match reader.peek(text) {
+        Read::Bad => Err(Refusal::NotUtf8),
+        Read::End => Ok(Look::Member(reader)),
+        Read::Got(Token::Closing, held) => {
+            let next = closing_due(text, held)?;
+            Ok(Look::Closing(next))
+        }
+        Read::Got(Token::Opening | Token::Atom(_, _), held) => Ok(Look::Member(held)),
     }
 }
 
-// The next form of goals or certificate, if there is one. At depth 0 an item may be asked for.
-pub fn form_due(text: &[u8], reader: Reader) -> Begun
-    ensures { begun result ≡ form_due text.now reader }
+// The next form of goals or certificate, its opening taken; none at the end of the text. At depth 0 an item may be asked for.
+#[tactic(auto, using(outcomes::proofs::BadLines::bad_line), unfolding(crate::specs::Asking::form_due, lex::specs::Answers::answer))]
+pub fn form_due(text: &[u8], reader: Reader) -> Result<Option<Reader>, Refusal>
+    ensures { told_as begun result ≡ form_due text.now reader }
 {
-    let read = reader.token(text);
-    match read {
-        Read::End => Begun::Over,
-        Read::Bad => Begun::Refused(3),
-        Read::Got(token, next) => match token {
-            Token::Closing => Begun::Refused(6),
-            Token::Atom(_, _) => Begun::Refused(7),
-            Token::Opening => Begun::Form(next),
-        },
-    }
-}
-
-// The number of its refusal, 0 where there is none.
-pub fn named_refusal(r: Named) -> u32
-    ensures { result ≡ refusal (named r) }
-{
-    match r {
-        Named::Atom(_, _, _) => 0,
-        Named::Refused(n) => n,
-    }
-}
-
-// The number of its refusal, 0 where there is none.
-pub fn passed_refusal(r: Passed) -> u32
-    ensures { result ≡ refusal (passed r) }
-{
-    match r {
-        Passed::To(_) => 0,
-        Passed::Refused(n) => n,
+    match reader.token(text) {
+        Read::End => Ok(None),
+        Read::Bad => Err(Refusal::NotUtf8),
+        Read::Got(Token::Closing, _) => Err(Refusal::StrayClosing),
+        Read::Got(Token::Atom(_, _), _) => Err(Refusal::AtomOrList),
+        Read::Got(Token::Opening, next) => Ok(Some(next)),
     }
 }

@@ -1,3 +1,2 @@
-pub mod Clearing
 pub mod Areas
 pub mod Reported

@@ -16,8 +16,7 @@ pub const CERTIFICATE_BYTES: usize = 32768;
 pub fn clear(s: &mut [u32])
     ensures { s.new ≡ replicate (length s.old) 0 }
 {
-    let n = s.len();
-    words::clear(s, n);
+    s.fill(0);
 }
 
 // Sets all words of the four areas to 0.
@@ -34,6 +33,7 @@ pub fn clear_all(a: &mut [u32], b: &mut [u32], c: &mut [u32], d: &mut [u32])
 }
 
 // "Four work areas of 32-bit words are lent, each of at least 16,384 words."
+#[tactic(auto, unfolding(crate::specs::Lengths::long_enough))]
 pub fn long_enough(a: usize, b: usize, c: usize, d: usize) -> bool
     ensures { result ≡ long_enough a b c d }
 {

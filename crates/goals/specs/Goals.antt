@@ -13,20 +13,6 @@ use Rattle.tables.specs.declared.Tally.{Tally}
 use Rattle.tables.specs.Words.{goal_found, goal_added, goal_counted}
 use Rattle.asking.specs.Asking.{in_form, Top, over, form, atom_due, closing_due, form_due}
 use Rattle.judgments.specs.Judgments.{judgment}
-use Rattle.goals.specs.declared.Form.{Form}
-use Rattle.goals.specs.declared.Form.TheVariants as forms
-use Rattle.goals.specs.declared.Forms.{Forms}
-use Rattle.goals.specs.declared.Forms.TheVariants as all
-
--- What each case of an answer says: how many there are now and the reader after the form, or a refusal by its number;
-abbrev pub formed : Form → Outcome (Tally × Reader)
-formed (forms.Next tally r) = ok (tally, r)
-formed (forms.Refused n) = refused n
-
--- how many there are at the end of the text.
-abbrev pub gathered : Forms → Outcome Tally
-gathered (all.All tally) = ok tally
-gathered (all.Refused n) = refused n
 
 -- The store and the stack, then the table.
 abbrev pub Gathered : Type 0

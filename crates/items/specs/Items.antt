@@ -10,35 +10,16 @@ use Rattle.outcomes.specs.Leaving.{Did, ◌leaving◌}
 use Rattle.items.specs.declared.Walk.{Walk}
 use Rattle.items.specs.declared.Item.{Item}
 use Rattle.items.specs.declared.Item.TheVariants as items
-use Rattle.items.specs.declared.Named.{Named}
-use Rattle.items.specs.declared.Named.TheVariants as names
-use Rattle.items.specs.declared.Numbered.{Numbered}
-use Rattle.items.specs.declared.Numbered.TheVariants as numbers
-use Rattle.items.specs.declared.Walked.{Walked}
-use Rattle.items.specs.declared.Walked.TheVariants as walks
 
 -- An atom with its bounds, or a list with the number of its members; and the walk after it.
 pub data Met : Type 0 where
   atom : ℕ → ℕ → Walk → Met
   list : ℕ → Walk → Met
 
--- What each case of an answer says: a value, or a refusal by its number.
-abbrev pub met : Item → Outcome Met
-met (items.Atom s t w) = ok (atom s t w)
-met (items.List n w) = ok (list n w)
-met (items.Refused n) = refused n
-
-abbrev pub named : Named → Outcome (ℕ × ℕ × Walk)
-named (names.Atom s t w) = ok (s, t, w)
-named (names.Refused n) = refused n
-
-abbrev pub numbered : Numbered → Outcome (ℕ × Walk)
-numbered (numbers.Got n w) = ok (n, w)
-numbered (numbers.Refused n) = refused n
-
-abbrev pub walked : Walked → Outcome Walk
-walked (walks.To w) = ok w
-walked (walks.Refused n) = refused n
+-- What each case of an item says.
+abbrev pub met : Item → Met
+met (items.Atom s t w) = atom s t w
+met (items.List n w) = list n w
 
 -- A walk with its reader moved on,
 abbrev pub read_on : Walk → Reader → Walk

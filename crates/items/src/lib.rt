@@ -10,16 +10,18 @@
 #![tactic(auto)]
 
 ghost use Rattle.std.specs.Prelude.{◌≡◌, ◌-◌, eqb};
-ghost use Rattle.outcomes.specs.Outcomes.{ok, refusal};
+ghost use Rattle.outcomes.specs.Outcomes.{ok};
 ghost use Rattle.outcomes.specs.Leaving.{◌leaving◌};
-ghost use Rattle.items.specs.Items.{met, named, numbered, walked, pushed, item_due, atom_due, list_due, closing_due, question, declared_name, head_due};
+ghost use Rattle.outcomes.specs.Told.{told, told_as};
+ghost use Rattle.items.specs.Items.{met, pushed, item_due, atom_due, list_due, closing_due, question, declared_name, head_due};
 
 use lex::{Read, Reader, Token};
+use outcomes::Refusal;
 
 pub mod places;
 
 // Where the walk stands: the reader, how many lists were opened, the first free word of the theory, and how many variables the rule has.
-#[derive(Drop)]
+#[derive(Clone, Copy)]
 pub struct Walk {
     pub reader: Reader,
     pub opened: u32,
@@ -27,190 +29,117 @@ pub struct Walk {
     pub variables: u32,
 }
 
-// An atom with its bounds, or a list with the number of its members, its opening taken.
-#[derive(Drop)]
+// An atom with its bounds, or a list with the number of its members, its opening taken; and the walk after it.
+#[derive(Clone, Copy)]
 pub enum Item {
     Atom(usize, usize, Walk),
     List(u32, Walk),
-    Refused(u32),
-}
-
-// A name with its bounds.
-#[derive(Drop)]
-pub enum Named {
-    Atom(usize, usize, Walk),
-    Refused(u32),
-}
-
-// A number of members, or an address.
-#[derive(Drop)]
-pub enum Numbered {
-    Got(u32, Walk),
-    Refused(u32),
-}
-
-#[derive(Drop)]
-pub enum Walked {
-    To(Walk),
-    Refused(u32),
-}
-
-// The number of its refusal, 0 where there is none.
-pub fn named_refusal(r: Named) -> u32
-    ensures { result ≡ refusal (named r) }
-{
-    match r {
-        Named::Atom(_, _, _) => 0,
-        Named::Refused(n) => n,
-    }
-}
-
-// The number of its refusal, 0 where there is none.
-pub fn numbered_refusal(r: Numbered) -> u32
-    ensures { result ≡ refusal (numbered r) }
-{
-    match r {
-        Numbered::Got(_, _) => 0,
-        Numbered::Refused(n) => n,
-    }
-}
-
-// The number of its refusal, 0 where there is none.
-pub fn walked_refusal(r: Walked) -> u32
-    ensures { result ≡ refusal (walked r) }
-{
-    match r {
-        Walked::To(_) => 0,
-        Walked::Refused(n) => n,
-    }
 }
 
 // One word more in the theory.
+#[tactic(auto, unfolding(crate::specs::Items::pushed))]
 pub fn push(heap: &mut [u32], word: u32, w: Walk) -> Walk
     ensures { (ok result leaving heap.new) ≡ pushed word w heap.old }
 {
-    let top = w.top;
-    words::put(heap, top as usize, word);
-    let reader = w.reader;
+    words::put(heap, w.top as usize, word);
     Walk {
-        reader,
-        opened: w.opened,
-        top: words::plus(top, 1),
-        variables: w.variables,
+        top: words::plus(w.top, 1),
+        ..w
     }
 }
 
 // The next item. Its member count is the next that the first walk left.
-pub fn next_item(text: &[u8], counts: &[u32], w: Walk) -> Item
-    ensures { met result ≡ item_due text.now counts.now w }
+#[tactic(auto, using(outcomes::proofs::BadLines::bad_line), unfolding(crate::specs::Items::item_due, lex::specs::Answers::answer))]
+pub fn next_item(text: &[u8], counts: &[u32], w: Walk) -> Result<Item, Refusal>
+    ensures { told_as met result ≡ item_due text.now counts.now w }
 {
-    let reader = w.reader;
-    let opened = w.opened;
-    let read = reader.token(text);
-    match read {
-        Read::End => Item::Refused(5),
-        Read::Bad => Item::Refused(3),
-        Read::Got(token, next) => match token {
-            Token::Closing => Item::Refused(6),
-            Token::Atom(s, t) => Item::Atom(
-                s,
-                t,
+    match w.reader.token(text) {
+        Read::End => Err(Refusal::TextEnds),
+        Read::Bad => Err(Refusal::NotUtf8),
+        Read::Got(Token::Closing, _) => Err(Refusal::StrayClosing),
+        Read::Got(Token::Atom(s, t), next) => Ok(Item::Atom(s, t, Walk { reader: next, ..w })),
+        Read::Got(Token::Opening, next) => {
+            let members = words::at(counts, w.opened as usize);
+            let opened = words::plus(w.opened, 1);
+            Ok(Item::List(
+                members,
                 Walk {
                     reader: next,
                     opened,
-                    top: w.top,
-                    variables: w.variables,
+                    ..w
                 },
-            ),
-            Token::Opening => {
-                let members = words::at(counts, opened as usize);
-                Item::List(
-                    members,
-                    Walk {
-                        reader: next,
-                        opened: words::plus(opened, 1),
-                        top: w.top,
-                        variables: w.variables,
-                    },
-                )
-            }
-        },
+            ))
+        }
     }
 }
 
-// The next item, which must be an atom.
-pub fn next_atom(text: &[u8], counts: &[u32], w: Walk) -> Named
-    ensures { named result ≡ atom_due text.now counts.now w }
+// The next item, which must be an atom: its bounds.
+#[tactic(auto, unfolding(crate::specs::Items::atom_due))]
+pub fn next_atom(text: &[u8], counts: &[u32], w: Walk) -> Result<(usize, usize, Walk), Refusal>
+    ensures { told result ≡ atom_due text.now counts.now w }
 {
-    let i = next_item(text, counts, w);
-    match i {
-        Item::Atom(s, t, q) => Named::Atom(s, t, q),
-        Item::List(_, _) => Named::Refused(7),
-        Item::Refused(n) => Named::Refused(n),
-    }
+    let Item::Atom(s, t, q) = next_item(text, counts, w)? else {
+        return Err(Refusal::AtomOrList);
+    };
+    Ok((s, t, q))
 }
 
 // The next item, which must be a list, with its member count.
-pub fn next_list(text: &[u8], counts: &[u32], w: Walk) -> Numbered
-    ensures { numbered result ≡ list_due text.now counts.now w }
+#[tactic(auto, unfolding(crate::specs::Items::list_due))]
+pub fn next_list(text: &[u8], counts: &[u32], w: Walk) -> Result<(u32, Walk), Refusal>
+    ensures { told result ≡ list_due text.now counts.now w }
 {
-    let i = next_item(text, counts, w);
-    match i {
-        Item::Atom(_, _, _) => Numbered::Refused(7),
-        Item::List(n, q) => Numbered::Got(n, q),
-        Item::Refused(n) => Numbered::Refused(n),
-    }
+    let Item::List(members, q) = next_item(text, counts, w)? else {
+        return Err(Refusal::AtomOrList);
+    };
+    Ok((members, q))
 }
 
 // "Where a closing is due, end of text is 5 and any other token 10."
-pub fn close(text: &[u8], w: Walk) -> Walked
-    ensures { walked result ≡ closing_due text.now w }
+#[tactic(auto, using(outcomes::proofs::BadLines::bad_line), unfolding(crate::specs::Items::closing_due, lex::specs::Answers::answer))]
+pub fn close(text: &[u8], w: Walk) -> Result<Walk, Refusal>
+    ensures { told result ≡ closing_due text.now w }
 {
-    let reader = w.reader;
-    let read = reader.token(text);
-    match read {
-        Read::End => Walked::Refused(5),
-        Read::Bad => Walked::Refused(3),
-        Read::Got(token, next) => match token {
-            Token::Opening => Walked::Refused(10),
-            Token::Atom(_, _) => Walked::Refused(10),
-            Token::Closing => Walked::To(Walk {
-                reader: next,
-                opened: w.opened,
-                top: w.top,
-                variables: w.variables,
-            }),
-        },
+    match w.reader.token(text) {
+        Read::End => Err(Refusal::TextEnds),
+        Read::Bad => Err(Refusal::NotUtf8),
+        Read::Got(Token::Closing, next) => Ok(Walk { reader: next, ..w }),
+        Read::Got(Token::Opening | Token::Atom(_, _), _) => Err(Refusal::Excess),
     }
 }
 
 // Whether an atom that starts here has a leading `?`.
+#[tactic(auto, unfolding(crate::specs::Items::question))]
 pub fn is_question(text: &[u8], s: usize) -> bool
     ensures { result ≡ question text.now s }
 {
-    words::byte(text, s) == 0x3F
+    words::at(text, s) == b'?'
 }
 
 // The next item, which must be an atom without a leading `?`.
-pub fn declared_name(text: &[u8], counts: &[u32], w: Walk) -> Named
-    ensures { named result ≡ declared_name text.now counts.now w }
+#[tactic(auto, unfolding(crate::specs::Items::declared_name))]
+pub fn declared_name(text: &[u8], counts: &[u32], w: Walk) -> Result<(usize, usize, Walk), Refusal>
+    ensures { told result ≡ declared_name text.now counts.now w }
 {
-    let a = next_atom(text, counts, w);
-    let Named::Atom(s, t, q) = a else {
-        return Named::Refused(named_refusal(a));
-    };
+    let (s, t, q) = next_atom(text, counts, w)?;
     if is_question(text, s) {
-        return Named::Refused(11);
+        return Err(Refusal::VariableName);
     }
-    Named::Atom(s, t, q)
+    Ok((s, t, q))
 }
 
 // The head of a list of so many members: "not empty (8), its head an atom (7)".
-pub fn head(text: &[u8], counts: &[u32], members: u32, w: Walk) -> Named
-    ensures { named result ≡ head_due text.now counts.now members w }
+#[tactic(auto, unfolding(crate::specs::Items::head_due))]
+pub fn head(
+    text: &[u8],
+    counts: &[u32],
+    members: u32,
+    w: Walk,
+) -> Result<(usize, usize, Walk), Refusal>
+    ensures { told result ≡ head_due text.now counts.now members w }
 {
     if members == 0 {
-        return Named::Refused(8);
+        return Err(Refusal::EmptyList);
     }
     next_atom(text, counts, w)
 }
@@ -219,8 +148,5 @@ pub fn head(text: &[u8], counts: &[u32], members: u32, w: Walk) -> Named
 pub fn is_bare(s: usize, t: usize) -> bool
     ensures { result ≡ eqb (t - s) 1 }
 {
-    if t <= s {
-        return false;
-    }
-    t - s == 1
+    t.saturating_sub(s) == 1
 }

@@ -2,15 +2,16 @@
 #![tactic(auto)]
 
 ghost use Rattle.std.specs.Prelude.{◌≡◌};
+ghost use Rattle.outcomes.specs.Told.{told};
 ghost use Rattle.outcomes.specs.Leaving.{◌leaving◌};
-ghost use Rattle.nodes.specs.Nodes.{numbered};
 ghost use Rattle.judgments.specs.Judgments.{headed_judgment, judgment};
 
-use asking::{Named, Passed};
 use lex::Reader;
-use nodes::Numbered;
+use outcomes::Refusal;
+use theory_reading::Section;
 
 // "Judgment: list, head a predicate (12), arguments, 15, store." Here its head was asked for: an atom with these bounds.
+#[tactic(auto, unfolding(crate::specs::Judgments::headed_judgment, nodes::specs::Nodes::predicate_due))]
 pub fn headed_judgment(
     text: &[u8],
     rules: &[u8],
@@ -23,24 +24,20 @@ pub fn headed_judgment(
     s: usize,
     t: usize,
     reader: Reader,
-) -> Numbered
-    ensures { (numbered result leaving (store.new, stack.new))
+) -> Result<(u32, Reader), Refusal>
+    ensures { (told result leaving (store.new, stack.new))
         ≡ headed_judgment left text.now rules.now heap.now table.now top s t reader store.old
         stack.old }
 {
-    let h = nodes::predicate_due(text, rules, heap, s, t, reader);
-    let Numbered::Got(c, q) = h else {
-        return Numbered::Refused(nodes::numbered_refusal(h));
-    };
+    let found = theory_reading::find(heap, rules, Section::Predicates, words::part(text, s, t));
+    let c = found.ok_or(Refusal::Unknown)?;
     let above = words::plus(top, 1);
-    let a = terms::args(text, rules, heap, table, store, stack, above, left, q);
-    let Numbered::Got(n, p) = a else {
-        return Numbered::Refused(nodes::numbered_refusal(a));
-    };
-    nodes::make(heap, store, stack, c, top, n, p)
+    let (n, r) = terms::args(text, rules, heap, table, store, stack, above, left, reader)?;
+    nodes::make(heap, store, stack, c, top, n, r)
 }
 
 // A judgment, asked for with that much depth left.
+#[tactic(auto, using(crate::proofs::Turns::judgment_within), unfolding(crate::specs::Judgments::judgment))]
 pub fn judgment(
     text: &[u8],
     rules: &[u8],
@@ -51,22 +48,16 @@ pub fn judgment(
     top: u32,
     left: u32,
     reader: Reader,
-) -> Numbered
-    ensures { (numbered result leaving (store.new, stack.new))
+) -> Result<(u32, Reader), Refusal>
+    ensures { (told result leaving (store.new, stack.new))
         ≡ judgment left text.now rules.now heap.now table.now top reader store.old
         stack.old }
 {
     if left == 0 {
-        return Numbered::Refused(4);
+        return Err(Refusal::Nesting);
     }
-    let l = asking::list_due(text, left, reader);
-    let Passed::To(q) = l else {
-        return Numbered::Refused(asking::passed_refusal(l));
-    };
-    let a = asking::atom_due(text, left - 1, q);
-    let Named::Atom(s, t, p) = a else {
-        return Numbered::Refused(asking::named_refusal(a));
-    };
+    let r = asking::list_due(text, left, reader)?;
+    let (s, t, r) = asking::atom_due(text, left - 1, r)?;
     headed_judgment(
         text,
         rules,
@@ -78,6 +69,6 @@ pub fn judgment(
         left - 1,
         s,
         t,
-        p,
+        r,
     )
 }

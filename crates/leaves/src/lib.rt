@@ -3,13 +3,14 @@
 
 ghost use Rattle.std.specs.Prelude.{◌≡◌};
 ghost use Rattle.outcomes.specs.Leaving.{◌leaving◌};
-ghost use Rattle.items.specs.Items.{numbered, walked};
+ghost use Rattle.outcomes.specs.Told.{told};
 ghost use Rattle.leaves.specs.Leaves.{applied, constant, compound_head};
 
-use items::{Named, Numbered, Walk, Walked, places};
-use names::Found;
+use items::{Walk, places};
+use outcomes::Refusal;
 
 // A constructor or predicate by its name, with its output and its number of inputs tested, stored as a node.
+#[tactic(auto, unfolding(crate::specs::Leaves::applied))]
 pub fn apply(
     text: &[u8],
     heap: &mut [u32],
@@ -19,36 +20,39 @@ pub fn apply(
     s: usize,
     t: usize,
     w: Walk,
-) -> Numbered
-    ensures { (numbered result leaving heap.new) ≡ applied text.now buckets sort members s t w heap.old }
+) -> Result<(u32, Walk), Refusal>
+    ensures { (told result leaving heap.new) ≡ applied text.now buckets sort members s t w heap.old }
 {
-    let found = names::find(heap, buckets, places::BUCKETS, text, text, s, t);
-    let Found::At(c) = found else {
-        return Numbered::Refused(12);
-    };
+    let name = words::part(text, s, t);
+    let c = names::find(heap, buckets, places::BUCKETS, text, name).ok_or(Refusal::Unknown)?;
     if words::at(heap, c as usize + places::OUTPUT) != sort {
-        return Numbered::Refused(15);
+        return Err(Refusal::SortArity);
     }
     let inputs = words::at(heap, c as usize + places::ARITY);
     if inputs as u64 + 1 != members as u64 {
-        return Numbered::Refused(15);
+        return Err(Refusal::SortArity);
     }
-    let q = items::push(heap, c, w);
-    Numbered::Got(c, q)
+    Ok((c, items::push(heap, c, w)))
 }
 
 // An atom that is a constructor without inputs.
-pub fn constant(text: &[u8], heap: &mut [u32], s: usize, t: usize, sort: u32, w: Walk) -> Walked
-    ensures { (walked result leaving heap.new) ≡ constant text.now s t sort w heap.old }
+#[tactic(auto, unfolding(crate::specs::Leaves::constant))]
+pub fn constant(
+    text: &[u8],
+    heap: &mut [u32],
+    s: usize,
+    t: usize,
+    sort: u32,
+    w: Walk,
+) -> Result<Walk, Refusal>
+    ensures { (told result leaving heap.new) ≡ constant text.now s t sort w heap.old }
 {
-    let a = apply(text, heap, places::CONSTRUCTORS, sort, 1, s, t, w);
-    match a {
-        Numbered::Got(_, q) => Walked::To(q),
-        Numbered::Refused(n) => Walked::Refused(n),
-    }
+    let (_, q) = apply(text, heap, places::CONSTRUCTORS, sort, 1, s, t, w)?;
+    Ok(q)
 }
 
 // The head of a list at a place of a sort.
+#[tactic(auto, unfolding(crate::specs::Leaves::compound_head))]
 pub fn compound_head(
     text: &[u8],
     counts: &[u32],
@@ -56,15 +60,12 @@ pub fn compound_head(
     sort: u32,
     members: u32,
     w: Walk,
-) -> Numbered
-    ensures { (numbered result leaving heap.new) ≡ compound_head text.now counts.now sort members w heap.old }
+) -> Result<(u32, Walk), Refusal>
+    ensures { (told result leaving heap.new) ≡ compound_head text.now counts.now sort members w heap.old }
 {
-    let h = items::head(text, counts, members, w);
-    let Named::Atom(s, t, q) = h else {
-        return Numbered::Refused(items::named_refusal(h));
-    };
+    let (s, t, q) = items::head(text, counts, members, w)?;
     if members == 1 {
-        return Numbered::Refused(16);
+        return Err(Refusal::BracketedConstant);
     }
     apply(text, heap, places::CONSTRUCTORS, sort, members, s, t, q)
 }

@@ -1,4 +1,5 @@
 -- One turn of the scan for a token, and the token at a place. Assumes nothing.
+use Rattle.std.specs.Prelude.{None, Some}
 use mathlib.Core.Path.{◌≡◌, ◌∙◌, refl, sym}
 use mathlib.Core.List.{List}
 use Prim.Native.Nat.{ℕ, zero, suc, ◌+◌, ◌-◌, ◌≤◌, ◌<◌}
@@ -11,26 +12,24 @@ use Rattle.utf8.specs.Classes.{is_ordinary, is_opening, is_closing}
 use Rattle.utf8.specs.Characters.{first, width, kind_at}
 use Rattle.scanning.specs.Scan.{blanks, atom_end, line_end}
 use Rattle.lex.specs.Answers.{token, ended, refused, after, token_at, scanned_on}
-use Rattle.scanning.specs.declared.Line.TheVariants as lines
 use Rattle.lex.specs.declared.Token.TheVariants.{Opening, Closing, Atom}
-use Rattle.lex.specs.declared.Ahead.TheVariants.{Nothing}
 use Rattle.utf8.specs.Below.horn.proofs.Equality.{case}
 use Rattle.utf8.proofs.Looks.{width_steps}
 use Rattle.scanning.proofs.Turns.{line_stop, line_bad, line_step, line_over}
 
 -- A good line ends after its start and within the text.
-pub line_bounds : (text : List ℕ) (f q n : ℕ) → length text - q ≤ f → q < length text → line_end (suc f) text q ≡ lines.Good n
+pub line_bounds : (text : List ℕ) (f q n : ℕ) → length text - q ≤ f → q < length text → line_end (suc f) text q ≡ Some n
     → (q < n) × (n ≤ length text)
 line_bounds text zero q n l h e = absurd (omega arith)
 line_bounds text (suc f) q n l h e =
     case (eqb (get_or text q 0) 0x0A)
     (λ t.
-    let g : lines.Good (q + 1) ≡ lines.Good n = sym (line_stop text q h (suc f) (eqb-true _ _ t)) ∙ e in
+    let g : Some (q + 1) ≡ Some n = sym (line_stop text q h (suc f) (eqb-true _ _ t)) ∙ e in
     let k : q + 1 ≡ n = cc in
     (omega arith, omega arith))
     (λ t. case (eqb (width (first (drop q text))) 0)
     (λ z.
-    let g : lines.Bad ≡ lines.Good n = sym (line_bad text q h (eqb-false _ _ t) _ refl (suc f) (eqb-true _ _ z)) ∙ e in
+    let g : None ≡ Some n = sym (line_bad text q h (eqb-false _ _ t) _ refl (suc f) (eqb-true _ _ z)) ∙ e in
     let k : ◌≡◌ {A = ℕ} 0 1 = cc in
     absurd (omega arith))
     (λ z.
@@ -41,7 +40,7 @@ line_bounds text (suc f) q n l h e =
     let r = line_bounds text f (q + width (first (drop q text))) n (omega arith) (ltb-true _ _ b) g in
     (omega arith, omega arith))
     (λ b.
-    let k : lines.Good (q + width (first (drop q text))) ≡ lines.Good n = sym (line_over text _ f (ltb-false _ _ b)) ∙ g in
+    let k : Some (q + width (first (drop q text))) ≡ Some n = sym (line_over text _ f (ltb-false _ _ b)) ∙ g in
     let m : q + width (first (drop q text)) ≡ n = cc in
     (omega arith, omega arith))))
 
@@ -54,17 +53,17 @@ module _ (text : List ℕ) (e q : ℕ) where
   unfolding scanned_on
   scan_ended f h k = rw (le-leb e q h, le-leb (length text) q k, scanned_on)
 
-  pub scan_bad : (f : ℕ) → e ≤ q → q < length text → line_end (suc (length text)) text q ≡ lines.Bad
+  pub scan_bad : (f : ℕ) → e ≤ q → q < length text → line_end (suc (length text)) text q ≡ None
       → scanned_on (suc f) text e q ≡ refused (number not_utf8)
   unfolding scanned_on
   scan_bad f h k b = rw (le-leb e q h, lt-leb (length text) q k, b, scanned_on)
 
-  pub scan_step : (f n : ℕ) → e ≤ q → q < length text → line_end (suc (length text)) text q ≡ lines.Good n
+  pub scan_step : (f n : ℕ) → e ≤ q → q < length text → line_end (suc (length text)) text q ≡ Some n
       → scanned_on (suc f) text e q ≡ scanned_on f text n (blanks (suc (length text)) text n q)
   unfolding scanned_on
   scan_step f n h k b = rw (le-leb e q h, lt-leb (length text) q k, b, scanned_on)
 
-  pub scan_on : (f n : ℕ) → length text - e ≤ f → e ≤ q → q < length text → line_end (suc (length text)) text q ≡ lines.Good n
+  pub scan_on : (f n : ℕ) → length text - e ≤ f → e ≤ q → q < length text → line_end (suc (length text)) text q ≡ Some n
       → (g : ℕ) × ((length text - n ≤ g)
       × (scanned_on (suc f) text e q ≡ scanned_on (suc g) text n (blanks (suc (length text)) text n q)))
   scan_on zero n l h k b = absurd (omega arith)
@@ -74,16 +73,16 @@ module _ (text : List ℕ) (e q : ℕ) where
 -- The token at a place, by the kind of the character there.
 module _ (text : List ℕ) (end p k : ℕ) (ek : k ≡ kind_at (first (drop p text))) where
   pub at_atom : (q : ℕ) → k ≡ is_ordinary → q ≡ atom_end (suc (length text)) text end p
-      → token (Atom p q) (after q end Nothing) ≡ token_at text end p
+      → token (Atom p q) (after q end None) ≡ token_at text end p
   unfolding token_at
   at_atom q e h = rw (← ek, eq-eqb k is_ordinary e, ← h, token_at)
 
   module _ (n : ℕ) (en : n ≡ width (first (drop p text))) where
-    pub at_opening : k ≡ is_opening → token Opening (after (p + n) end Nothing) ≡ token_at text end p
+    pub at_opening : k ≡ is_opening → token Opening (after (p + n) end None) ≡ token_at text end p
     unfolding token_at
     at_opening e = rw (en, ← ek, ne_eqb k is_ordinary (λ z. omega arith), ← ek, eq-eqb k is_opening e, token_at)
 
-    pub at_closing : k ≡ is_closing → token Closing (after (p + n) end Nothing) ≡ token_at text end p
+    pub at_closing : k ≡ is_closing → token Closing (after (p + n) end None) ≡ token_at text end p
     unfolding token_at
     at_closing e =
         rw (en, ← ek, ne_eqb k is_ordinary (λ z. omega arith), ← ek, ne_eqb k is_opening (λ z. omega arith), ← ek, eq-eqb k is_closing e, token_at)

@@ -1,5 +1,4 @@
 pub mod Answering
 pub mod Standing
 pub mod Positions
-pub mod Looking
 pub mod Readers

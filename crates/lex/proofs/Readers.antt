@@ -1,4 +1,5 @@
 -- What a reader answers, by the tokens before which it stands: the form in which the walks ask for it. Assumes nothing.
+use Rattle.std.specs.Prelude.{None}
 use Prim.Native.Nat.{ℕ, ◌≤◌, ◌<◌}
 use mathlib.Core.Path.{◌≡◌, refl}
 use mathlib.Core.List.{List}
@@ -9,7 +10,6 @@ use Rattle.utf8.specs.Below.horn.specs.Tokens.{Stream, end, bad, ◌▹◌, Toke
 use Rattle.utf8.specs.Below.words.specs.Parts.{part}
 use Rattle.lex.specs.Answers as lexed
 use Rattle.lex.specs.declared.Token.TheVariants.{Opening, Closing, Atom}
-use Rattle.lex.specs.declared.Ahead.TheVariants.{Nothing}
 use Rattle.lex.specs.declared.Reader.{Reader}
 use Rattle.lex.proofs.Standing as standing
 use Rattle.lex.proofs.Standing.{Stands}
@@ -19,7 +19,7 @@ use Rattle.lex.proofs.Positions.{never_past}
 pub data Takes (text : List ℕ) : Stream Token → lexed.Answer → Type 0 where
   take_end : Takes text end lexed.ended
   take_bad : Takes text bad (lexed.refused 3)
-  take_opening : {r : Reader} {s : Stream Token} → Stands text r s → r.ahead ≡ Nothing → Takes text (opening ▹ s) (lexed.token Opening r)
+  take_opening : {r : Reader} {s : Stream Token} → Stands text r s → r.ahead ≡ None → Takes text (opening ▹ s) (lexed.token Opening r)
   take_closing : {r : Reader} {s : Stream Token} → Stands text r s → Takes text (closing ▹ s) (lexed.token Closing r)
   take_atom : {a b : ℕ} {r : Reader} {bytes : List ℕ} {s : Stream Token} → Stands text r s → part a b text ≡ bytes → a < b → b ≤ length text
       → Takes text (atom bytes ▹ s) (lexed.token (Atom a b) r)

@@ -1,4 +1,5 @@
 -- Where a reader stands: the law that joins the reader to the definition's tokens. Assumes nothing.
+use Rattle.std.specs.Prelude.{None, Option, Some}
 use mathlib.Core.Path.{◌≡◌, ◌∙◌, refl, ap, sym}
 use mathlib.Core.List.{List, []}
 use mathlib.Core.Logic.{◌⊎◌, inl, inr}
@@ -18,12 +19,8 @@ use Rattle.utf8.specs.Classes.{is_ordinary, is_white, is_opening, is_closing, is
 use Rattle.utf8.specs.Characters.{first, kind_at}
 use Rattle.scanning.specs.Scan.{blanks, atom_end, line_end}
 use Rattle.lex.specs.Answers.{Answer, token, ended, refused, after, token_at, scanned_on, scanned, holding, peeked, peeked_by, taken, taken_by, start}
-use Rattle.scanning.specs.declared.Line.{Line}
-use Rattle.scanning.specs.declared.Line.TheVariants as line
 use Rattle.lex.specs.declared.Token.{Token}
 use Rattle.lex.specs.declared.Token.TheVariants.{Opening, Closing, Atom}
-use Rattle.lex.specs.declared.Ahead.{Ahead}
-use Rattle.lex.specs.declared.Ahead.TheVariants.{Nothing, Held}
 use Rattle.lex.specs.declared.Reader.{Reader}
 use Rattle.utf8.specs.Below.horn.proofs.Equality.{case}
 use Rattle.utf8.proofs.Grammar.{lt_of_le_of_ne}
@@ -63,21 +60,21 @@ start_of Closing e = e - 1
 start_of (Atom a b) e = a
 
 -- The place of a reader: before the token that it holds.
-unfoldable pub place_of : Ahead → ℕ → ℕ
-place_of Nothing at = at
-place_of (Held t) at = start_of t at
+unfoldable pub place_of : Option Token → ℕ → ℕ
+place_of None at = at
+place_of (Some t) at = start_of t at
 
 unfoldable pub place : Reader → ℕ
 place r = place_of r.ahead r.at
 
-unfoldable pub HeldMoved : List ℕ → Ahead → ℕ → Type 0
-HeldMoved text Nothing at = Unit {0}
-HeldMoved text (Held t) at = Moved text (start_of t at) t at
+unfoldable pub HeldMoved : List ℕ → Option Token → ℕ → Type 0
+HeldMoved text None at = Unit {0}
+HeldMoved text (Some t) at = Moved text (start_of t at) t at
 
 -- A token held ahead comes first.
-unfoldable pub with_ahead : List ℕ → Ahead → Stream horn.Token → Stream horn.Token
-with_ahead text Nothing s = s
-with_ahead text (Held t) s = meant text t ▹ s
+unfoldable pub with_ahead : List ℕ → Option Token → Stream horn.Token → Stream horn.Token
+with_ahead text None s = s
+with_ahead text (Some t) s = meant text t ▹ s
 
 -- A reader stands before some tokens of a text: within the text, between tokens, in a line that is tested up to its end
 -- or at the end of such a line.
@@ -93,7 +90,7 @@ pub record Took (text : List ℕ) (p : ℕ) (t : Token) (r : Reader) (s : Stream
   pub others : Stream horn.Token
   pub next : s ≡ meant text t ▹ others
   pub stands : Stands text r others
-  pub cleared : r.ahead ≡ Nothing
+  pub cleared : r.ahead ≡ None
   pub moved : Moved text p t r.at
 
 -- A token was seen from place p: the reader still stands before all of them, and holds it.
@@ -101,7 +98,7 @@ pub record Saw (text : List ℕ) (p : ℕ) (t : Token) (r : Reader) (s : Stream 
   pub others : Stream horn.Token
   pub next : s ≡ meant text t ▹ others
   pub stands : Stands text r s
-  pub holds : r.ahead ≡ Held t
+  pub holds : r.ahead ≡ Some t
   pub moved : Moved text p t r.at
 
 -- What an answer says of the tokens before which the reader stood, at place p: a token was taken; there is none; or the
@@ -122,9 +119,9 @@ pub start_stands : (text : List ℕ) → Stands text start (tokens text)
 unfolding start tokens with_ahead HeldMoved
 start_stands text = record { line = inl refl; inside = omega arith; passed = passed_start text; held = tt; stream = refl }
 
-line_case : {C : Type 0} (x : Line) → (x ≡ line.Bad → C) → ((n : ℕ) → x ≡ line.Good n → C) → C
-line_case line.Bad f g = f refl
-line_case (line.Good n) f g = g n refl
+line_case : {C : Type 0} (x : Option ℕ) → (x ≡ None → C) → ((n : ℕ) → x ≡ Some n → C) → C
+line_case None f g = f refl
+line_case (Some n) f g = g n refl
 
 part_empty : (text : List ℕ) (p : ℕ) → part p p text ≡ []
 unfolding part
@@ -132,7 +129,7 @@ part_empty text p = rw (sub_self p)
 
 module _ (text : List ℕ) where
   -- A reader in the line that it was in, at a place after a token.
-  stands_at : (p e : ℕ) → Passed text e → Clean text p e → Stands text (after p e Nothing) (tokens_at text between p)
+  stands_at : (p e : ℕ) → Passed text e → Clean text p e → Stands text (after p e None) (tokens_at text between p)
   unfolding with_ahead HeldMoved
   stands_at p e w c = record { line = inr c; inside = (clean_le text c).1; passed = w; held = tt; stream = refl }
 
@@ -233,12 +230,12 @@ module _ (text : List ℕ) where
       (past_blanks text (length text) p e (omega arith) c)
 
   -- `token` takes the first of the tokens before which the reader stands.
-  takes_by : (r : Reader) (a : Ahead) (s : Stream horn.Token) → (r.at ≡ r.end) ⊎ Clean text r.at r.end → r.end ≤ length text
+  takes_by : (r : Reader) (a : Option Token) (s : Stream horn.Token) → (r.at ≡ r.end) ⊎ Clean text r.at r.end → r.end ≤ length text
       → Passed text r.end → HeldMoved text a r.at → s ≡ with_ahead text a (tokens_at text between r.at)
       → TakenFrom text (place_of a r.at) (taken_by text r a) s
   unfolding taken_by with_ahead HeldMoved place_of TakenFrom
-  takes_by r Nothing s l m w h e = rw e (scan_takes r.at r.end w l m)
-  takes_by r (Held t) s l m w h e =
+  takes_by r None s l m w h e = rw e (scan_takes r.at r.end w l m)
+  takes_by r (Some t) s l m w h e =
       record {
         others = tokens_at text between r.at;
         next = e;
@@ -280,14 +277,14 @@ module _ (text : List ℕ) where
   holding_sees p (refused n) s k = k
 
   -- `peek` looks at it.
-  sees_by : (r : Reader) (a : Ahead) (s : Stream horn.Token) → r.ahead ≡ a → Stands text r s
+  sees_by : (r : Reader) (a : Option Token) (s : Stream horn.Token) → r.ahead ≡ a → Stands text r s
       → HeldMoved text a r.at → s ≡ with_ahead text a (tokens_at text between r.at)
       → SeenFrom text (place_of a r.at) (peeked_by text r a) s
   unfolding peeked_by with_ahead HeldMoved place_of SeenFrom
-  sees_by r Nothing s i st h e =
+  sees_by r None s i st h e =
       holding_sees r.at (scanned (suc (length text)) text r.end r.at) s
       (rw e (scan_takes r.at r.end st.passed st.line st.inside))
-  sees_by r (Held t) s i st h e =
+  sees_by r (Some t) s i st h e =
       record { others = tokens_at text between r.at; next = e; stands = st; holds = i; moved = h }
 
   pub peek_law : (r : Reader) (s : Stream horn.Token) → Stands text r s → SeenFrom text (place r) (peeked text r) s

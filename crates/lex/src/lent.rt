@@ -2,9 +2,10 @@
 ghost use Rattle.std.specs.Prelude.{◌≡◌};
 ghost use Rattle.lex.specs.Lent.{reader_in};
 
-use crate::{Ahead, Reader, Token};
+use crate::{Reader, Token};
 
 // Where it stands, up to where the text is tested, and what it holds ahead: nothing, an opening, a closing, or an atom with its bounds.
+#[tactic(auto, unfolding(crate::specs::Lent::reader_in))]
 pub fn lend(reader: Reader) -> [usize; 5]
     ensures { reader_in result ≡ reader }
 {
@@ -12,8 +13,8 @@ pub fn lend(reader: Reader) -> [usize; 5]
     let end = reader.end;
     let ahead = reader.ahead;
     match ahead {
-        Ahead::Nothing => [at, end, 0, 0, 0],
-        Ahead::Held(token) => match token {
+        None => [at, end, 0, 0, 0],
+        Some(token) => match token {
             Token::Opening => [at, end, 1, 0, 0],
             Token::Closing => [at, end, 2, 0, 0],
             Token::Atom(s, t) => [at, end, 3, s, t],
@@ -22,6 +23,7 @@ pub fn lend(reader: Reader) -> [usize; 5]
 }
 
 // The reader that the words stand for.
+#[tactic(auto, unfolding(crate::specs::Lent::reader_in))]
 pub fn reader_in(r: &[usize; 5]) -> Reader
     ensures { result ≡ reader_in r.now }
 {

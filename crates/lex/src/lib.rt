@@ -1,11 +1,9 @@
 // A reader over a lent text: "On each read the reader moves on one token and is handed back."
 #![tactic(auto)]
 
-ghost use Rattle.std.specs.Prelude.{◌≡◌, suc, length};
-ghost use Rattle.lex.specs.declared.Ahead.TheVariants.{Nothing, Held};
+ghost use Rattle.std.specs.Prelude.{◌≡◌, suc, length, Some, None};
 ghost use Rattle.lex.specs.Answers.{answer, found, after, token_at, scanned, peeked, taken, start};
 
-use scanning::Line;
 use utf8::classes;
 
 pub mod lent;
@@ -18,19 +16,12 @@ pub enum Token {
     Atom(usize, usize),
 }
 
-// "One token may be looked at ahead."
-#[derive(Clone, Copy)]
-pub enum Ahead {
-    Nothing,
-    Held(Token),
-}
-
-// Where the reader stands, up to where the text is tested, and the token that it looked at.
+// Where the reader stands, up to where the text is tested, and the token that it looked at: "one token may be looked at ahead."
 #[derive(Clone, Copy)]
 pub struct Reader {
     pub at: usize,
     pub end: usize,
-    pub ahead: Ahead,
+    pub ahead: Option<Token>,
 }
 
 // A token with the reader after it; the end of the text; a line that is not UTF-8.
@@ -83,7 +74,7 @@ fn scan(text: &[u8], end: usize, p: usize) -> Scanned
             return Scanned::End;
         }
         let line = scanning::line_end(text, q);
-        let Line::Good(next) = line else {
+        let Some(next) = line else {
             return Scanned::Bad;
         };
         e = next;
@@ -94,6 +85,7 @@ fn scan(text: &[u8], end: usize, p: usize) -> Scanned
 
 impl Reader {
     // A reader before the first token of any text.
+    #[tactic(auto, unfolding(crate::specs::Answers::start))]
     pub fn new() -> Self
         ensures { result ≡ start }
     {
@@ -102,32 +94,33 @@ impl Reader {
 
     // A reader that has looked at nothing.
     pub fn bare(at: usize, end: usize) -> Self
-        ensures { result ≡ after at end Nothing }
+        ensures { result ≡ after at end None }
     {
         Reader {
             at,
             end,
-            ahead: Ahead::Nothing,
+            ahead: None,
         }
     }
 
     // A reader that has looked at a token.
     fn holding(at: usize, end: usize, token: Token) -> Self
-        ensures { result ≡ after at end (Held token) }
+        ensures { result ≡ after at end (Some token) }
     {
         Reader {
             at,
             end,
-            ahead: Ahead::Held(token),
+            ahead: Some(token),
         }
     }
 
     // Looks at the next token: the reader that is handed back holds it.
+    #[tactic(auto, unfolding(crate::specs::Answers::answer, crate::specs::Answers::found, crate::specs::Answers::holding, crate::specs::Answers::peeked, crate::specs::Answers::peeked_by))]
     pub fn peek(self, text: &[u8]) -> Read
         ensures { answer result ≡ peeked text.now self }
     {
         let ahead = self.ahead;
-        if let Ahead::Held(t) = ahead {
+        if let Some(t) = ahead {
             return Read::Got(t, self);
         }
         let seen = scan(text, self.end, self.at);
@@ -149,11 +142,12 @@ impl Reader {
     }
 
     // Takes the next token.
+    #[tactic(auto, unfolding(crate::specs::Answers::answer, crate::specs::Answers::found, crate::specs::Answers::taken, crate::specs::Answers::taken_by))]
     pub fn token(self, text: &[u8]) -> Read
         ensures { answer result ≡ taken text.now self }
     {
         let ahead = self.ahead;
-        if let Ahead::Held(t) = ahead {
+        if let Some(t) = ahead {
             return Read::Got(t, Reader::bare(self.at, self.end));
         }
         let scanned = scan(text, self.end, self.at);

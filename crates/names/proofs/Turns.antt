@@ -24,6 +24,8 @@ pub hash_end : (s : List ℕ) (i h : ℕ) → length s ≤ i → hashed_all h (d
 unfolding hashed_all
 hash_end s i h k = rw (drop_of_length-le s k)
 
+pub ruleset hashing = (hash_on, hash_end)
+
 -- A bucket's number: the hash modulo the count.
 pub bucket_none : (count : ℕ) (name : List ℕ) → count ≡ 0 → bucket_of count name ≡ 0
 unfolding bucket_of
@@ -32,10 +34,6 @@ bucket_none count name z = rw (eq-eqb count 0 z, bucket_of)
 pub bucket_some : (count : ℕ) (name : List ℕ) → 0 < count → bucket_of count name ≡ hash_of name % count
 unfolding bucket_of
 bucket_some count name p = rw (ne_eqb count 0 (λ (e : count ≡ 0). omega arith), bucket_of)
-
--- The place of a bucket, where the count is n.
-pub bucket_place : (first count n h : ℕ) (name : List ℕ) → count ≡ n → 0 < n → h ≡ hash_of name → first + h % n ≡ first + bucket_of count name
-bucket_place first count n h name e p k = rw (e, bucket_some n name p, k)
 
 pub bucket_below : (count : ℕ) (name : List ℕ) → 0 < count → bucket_of count name < count
 bucket_below count name p = rw (bucket_some count name p) (mod-lt (hash_of name) p)
@@ -104,3 +102,9 @@ module _ (area text key : List ℕ) where
   pub chased-none : (e : ℕ) → e ≡ 0 → chased area text key e ≡ none
   unfolding chased
   chased-none e z = rw z (searched-none 0)
+
+pub ruleset chasing = (before_falls, chased_here, chased_on, chased-none)
+
+pub ruleset linking = (before_link, before_none)
+
+pub ruleset buckets = (bucket_none, bucket_some)

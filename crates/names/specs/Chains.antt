@@ -4,13 +4,13 @@ use Rattle.std.specs.Prelude.{ℕ, zero, suc, ◌+◌, ◌*◌, ◌%◌, true, f
 use Rattle.std.proofs.Math.Option.{Option, none, some}
 use Rattle.words.specs.Parts.{part, same_bytes}
 use Rattle.words.specs.Sums.{low32}
-use Rattle.names.specs.declared.Found.{Found}
-use Rattle.names.specs.declared.Found.TheVariants.{At, Nothing}
+use Rattle.std.specs.declared.option.Option as code
+use Rattle.std.specs.declared.option.Option.TheVariants.{Some, None}
 
--- What the cases of an answer say: the address of an entry, or that there is none.
-abbrev pub answered : Found → Option ℕ
-answered (At e) = some e
-answered Nothing = none
+-- What the code's answer says: a value, as the address of an entry, or that there is none.
+abbrev pub answered : {A : Type 0} → code.Option A → Option A
+answered (Some a) = some a
+answered None = none
 
 unfoldable pub hashed_all : ℕ → List ℕ → ℕ
 hashed_all h [] = h

@@ -3,29 +3,23 @@
 #![tactic(auto)]
 
 ghost use Rattle.std.specs.Prelude.{◌≡◌, ◌+◌, ◌%◌};
-ghost use Rattle.words.specs.Parts.{part, same_bytes};
+ghost use Rattle.words.specs.Parts.{same_bytes};
 ghost use Rattle.names.specs.Chains.{hash_of, bucket_of, name_at, before, found, added, answered};
 
-#[derive(Drop)]
-pub enum Found {
-    At(u32),
-    Nothing,
-}
-
 // The hash of a name.
+#[tactic(auto, using(crate::proofs::Turns::hashing), unfolding(crate::specs::Chains::hash_of))]
 fn hash(name: &[u8]) -> u64
     ensures { result ≡ hash_of name.now }
 {
     let mut h: u64 = 0;
-    let mut i = 0;
-    while i < name.len() {
-        h = (h * 31 + name[i] as u64) % 4294967296;
-        i += 1;
+    for &b in name {
+        h = (h * 31 + b as u64) % 4294967296;
     }
     h
 }
 
 // The place of a name's bucket. The counts in use, said as constants, cost no division.
+#[tactic(auto, using(crate::proofs::Turns::buckets))]
 fn bucket(buckets: u32, count: u32, name: &[u8]) -> usize
     ensures { result ≡ buckets + bucket_of count name.now }
 {
@@ -47,6 +41,7 @@ fn bucket(buckets: u32, count: u32, name: &[u8]) -> usize
 }
 
 // Whether the entry at e has the name `key`.
+#[tactic(auto, unfolding(crate::specs::Chains::name_at))]
 fn is_named(area: &[u32], e: u32, text: &[u8], key: &[u8]) -> bool
     ensures { result ≡ same_bytes (name_at area.now text.now e) key.now }
 {
@@ -56,6 +51,7 @@ fn is_named(area: &[u32], e: u32, text: &[u8], key: &[u8]) -> bool
 }
 
 // The entry before the one at e in its bucket. A link that does not fall is no link, so every chain ends.
+#[tactic(auto, using(crate::proofs::Turns::linking))]
 fn link(area: &[u32], e: u32) -> u32
     ensures { result ≡ before area.now e }
 {
@@ -66,31 +62,25 @@ fn link(area: &[u32], e: u32) -> u32
     0
 }
 
-// The newest entry that has a name, which is given as a part of any text.
-pub fn find(
-    area: &[u32],
-    buckets: u32,
-    count: u32,
-    text: &[u8],
-    from: &[u8],
-    start: usize,
-    end: usize,
-) -> Found
-    ensures { answered result ≡ found area.now buckets count text.now (part start end from.now) }
+// The address of the newest entry that has a name. The entries' names are parts of `text`, the name may be of any.
+#[tactic(auto, using(crate::proofs::Turns::chasing), unfolding(crate::specs::Chains::found))]
+pub fn find(area: &[u32], buckets: u32, count: u32, text: &[u8], name: &[u8]) -> Option<u32>
+    ensures { answered result ≡ found area.now buckets count text.now name.now }
 {
-    let key = words::bytes_part(from, start, end);
-    let place = bucket(buckets, count, key);
+    let place = bucket(buckets, count, name);
     let mut e = words::at(area, place);
+    // No index is counted here: a chain is walked, and how far it falls is not known before.
     while 0 < e {
-        if is_named(area, e, text, key) {
-            return Found::At(e);
+        if is_named(area, e, text, name) {
+            return Some(e);
         }
         e = link(area, e);
     }
-    Found::Nothing
+    None
 }
 
 // Makes e the newest entry of its bucket, named by a part of the text.
+#[tactic(auto, unfolding(crate::specs::Chains::added, crate::specs::Chains::linked))]
 pub fn add(
     area: &mut [u32],
     buckets: u32,
@@ -102,7 +92,7 @@ pub fn add(
 )
     ensures { area.new ≡ added area.old buckets count e text.now start end }
 {
-    let name = words::bytes_part(text, start, end);
+    let name = words::part(text, start, end);
     let place = bucket(buckets, count, name);
     let last = words::at(area, place);
     words::put(area, e as usize, words::low(start));

@@ -6,7 +6,7 @@ use Rattle.lex.specs.declared.Reader.{Reader}
 use Rattle.arena.specs.Store.{head_of, intern_answer}
 use Rattle.requests.specs.Requests.{requested_area}
 use Rattle.tables.specs.Words.{def_meaning}
-use Rattle.outcomes.specs.Outcomes.{Outcome, ok, refused, need, or_else, pick}
+use Rattle.outcomes.specs.Outcomes.{Outcome, ok, need, or_else, pick}
 use Rattle.outcomes.specs.Outcomes as outcomes
 use Rattle.outcomes.specs.Leaving.{Did, ◌leaving◌, ◌>>=◌}
 use Rattle.items.specs.Items.{question}
@@ -15,20 +15,6 @@ use Rattle.theory_reading.specs.Storing as storing
 use Rattle.theory_reading.specs.Storing.{Areas}
 use Rattle.asking.specs.Asking.{atom_due}
 use Rattle.nodes.specs.Limits.{node_limit, word_limit, index_places, def_buckets}
-use Rattle.nodes.specs.declared.Number.{Number}
-use Rattle.nodes.specs.declared.Number.TheVariants as plain
-use Rattle.nodes.specs.declared.Numbered.{Numbered}
-use Rattle.nodes.specs.declared.Numbered.TheVariants as numbers
-
--- What each case of an answer says: a number with the reader after it, or a refusal by its number.
-abbrev pub numbered : Numbered → Outcome (ℕ × Reader)
-numbered (numbers.Got k r) = ok (k, r)
-numbered (numbers.Refused n) = refused n
-
--- A number beside the reader that is lent. A refusal has none.
-abbrev pub given : Number → Reader → Outcome (ℕ × Reader)
-given (plain.Is k) r = ok (k, r)
-given (plain.Refused n) r = refused n
 
 -- The sort of a term is what its head gives.
 unfoldable pub sort_of : List ℕ → List ℕ → ℕ → ℕ

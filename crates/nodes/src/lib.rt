@@ -1,90 +1,71 @@
 // Nodes of terms and judgments in goals and certificate. A term is the number of its node in the store, a symbol the address of its entry in
 // the theory's area (crate items says how that is laid out); names of symbols stand in the rulebook, those of abbreviations in the text
 // that is read. Abbreviations stand in the table (crate tables). On the stack a node is under construction from word `top`
-// on: its head, then its arguments.
+// on: its head, then its arguments. Store, stack, table and theory stay words of lent areas: a rule of the project, fixed memory and no heap.
 #![tactic(auto)]
 
 ghost use Rattle.std.specs.Prelude.{◌≡◌};
-ghost use Rattle.outcomes.specs.Outcomes.{refusal};
+ghost use Rattle.outcomes.specs.Told.{told, told_as};
 ghost use Rattle.outcomes.specs.Leaving.{◌leaving◌};
 ghost use Rattle.theory_reading.specs.Reading.{accepted};
 ghost use Rattle.lex.specs.declared.Reader.{Reader};
-ghost use Rattle.nodes.specs.Nodes.{numbered, given, head_on, sort_of, make, constructor_due, predicate_due, atom_term, head_due};
+ghost use Rattle.nodes.specs.Nodes.{head_on, sort_of, make, atom_term, head_due};
 
-use arena::Answer;
-use asking::Named;
+use arena::{Full, Interned};
 use lex::Reader;
-use names::Found;
-use tables::Kept;
+use outcomes::Refusal;
+use theory_reading::Section;
 
 pub mod limits;
 
-// The number of a node, the address of a symbol, or how many arguments there are; and the reader after it.
-#[derive(Drop)]
-pub enum Numbered {
-    Got(u32, Reader),
-    Refused(u32),
-}
-
-// The same without the reader, where that is lent.
-#[derive(Drop)]
-pub enum Number {
-    Is(u32),
-    Refused(u32),
-}
-
-// The number of its refusal, 0 where there is none.
-pub fn numbered_refusal(r: Numbered) -> u32
-    ensures { result ≡ refusal (numbered r) }
-{
-    match r {
-        Numbered::Got(_, _) => 0,
-        Numbered::Refused(n) => n,
-    }
-}
-
 // The sort of a term is what its head gives.
+#[tactic(auto, unfolding(crate::specs::Nodes::sort_of))]
 pub fn sort_of(heap: &[u32], store: &[u32], k: u32) -> u32
     ensures { result ≡ sort_of heap.now store.now k }
 {
-    let head = arena::node_head(store, limits::NODES, limits::PLACES, k);
+    let head = arena::node_head(store, limits::STORE, k);
     theory_reading::output(heap, head)
 }
 
 // "Arity and sorts": whether the n terms that stand on the stack from a place on are what the symbol at c takes.
+#[tactic(auto, using(crate::proofs::Turns::fits), unfolding(theory_reading::specs::Reading::accepted))]
 pub fn accepts(heap: &[u32], store: &[u32], stack: &[u32], c: u32, from: u32, n: u32) -> bool
     ensures { result ≡ accepted (head_on store.now stack.now from) heap.now c n }
 {
     if theory_reading::arity(heap, c) != n {
         return false;
     }
-    let mut k: u32 = 0;
-    while k < n {
+    for k in 0..n {
         let argument = words::at(stack, from as usize + k as usize);
-        let head = arena::node_head(store, limits::NODES, limits::PLACES, argument);
+        let head = arena::node_head(store, limits::STORE, argument);
         if !theory_reading::fits_input(heap, head, c, k) {
             return false;
         }
-        k += 1;
     }
     true
 }
 
 // "Then 15 for arity and sorts, then the store." The node's arguments stand behind the place of its head.
-pub fn node(heap: &[u32], store: &mut [u32], stack: &mut [u32], c: u32, top: u32, n: u32) -> Number
-    ensures { (r : Reader) → (given result r leaving (store.new, stack.new))
+#[tactic(auto, unfolding(crate::specs::Nodes::make, crate::specs::Nodes::interned))]
+pub fn node(
+    heap: &[u32],
+    store: &mut [u32],
+    stack: &mut [u32],
+    c: u32,
+    top: u32,
+    n: u32,
+) -> Result<u32, Refusal>
+    ensures { (r : Reader) → (told_as (λ k. (k, r)) result leaving (store.new, stack.new))
         ≡ make heap.now c top n r store.old stack.old }
 {
     if !accepts(heap, store, stack, c, words::plus(top, 1), n) {
-        return Number::Refused(15);
+        return Err(Refusal::SortArity);
     }
     words::put(stack, top as usize, c);
-    let key = words::words_part(stack, top as usize, top as usize + 1 + n as usize);
-    let answer = requests::intern(store, limits::NODES, limits::WORDS, limits::PLACES, key);
-    match answer {
-        Answer::Found(k) => Number::Is(k),
-        Answer::Made(k) => Number::Is(k),
-        Answer::Full => Number::Refused(28),
+    let key = words::part(stack, top as usize, top as usize + 1 + n as usize);
+    match requests::intern(store, limits::STORE, key) {
+        Ok(Interned::Found(k) | Interned::Made(k)) => Ok(k),
+        Err(Full) => Err(Refusal::StoreFull),
     }
 }
 
@@ -97,54 +78,16 @@ pub fn make(
     top: u32,
     n: u32,
     reader: Reader,
-) -> Numbered
-    ensures { (numbered result leaving (store.new, stack.new))
+) -> Result<(u32, Reader), Refusal>
+    ensures { (told result leaving (store.new, stack.new))
         ≡ make heap.now c top n reader store.old stack.old }
 {
-    let a = node(heap, store, stack, c, top, n);
-    match a {
-        Number::Refused(m) => Numbered::Refused(m),
-        Number::Is(k) => Numbered::Got(k, reader),
-    }
-}
-
-// A constructor by its name.
-pub fn constructor_due(
-    text: &[u8],
-    rules: &[u8],
-    heap: &[u32],
-    s: usize,
-    t: usize,
-    reader: Reader,
-) -> Numbered
-    ensures { numbered result ≡ constructor_due text.now rules.now heap.now s t reader }
-{
-    let found = theory_reading::find_constructor(heap, rules, text, s, t);
-    let Found::At(c) = found else {
-        return Numbered::Refused(12);
-    };
-    Numbered::Got(c, reader)
-}
-
-// A predicate by its name.
-pub fn predicate_due(
-    text: &[u8],
-    rules: &[u8],
-    heap: &[u32],
-    s: usize,
-    t: usize,
-    reader: Reader,
-) -> Numbered
-    ensures { numbered result ≡ predicate_due text.now rules.now heap.now s t reader }
-{
-    let found = theory_reading::find_predicate(heap, rules, text, s, t);
-    let Found::At(c) = found else {
-        return Numbered::Refused(12);
-    };
-    Numbered::Got(c, reader)
+    let k = node(heap, store, stack, c, top, n)?;
+    Ok((k, reader))
 }
 
 // "An atom with a leading `?`, `?` alone too, is an earlier abbreviation (12). An atom or head is a constructor (12)."
+#[tactic(auto, unfolding(crate::specs::Nodes::atom_term, crate::specs::Nodes::constructor_due))]
 pub fn atom_term(
     text: &[u8],
     rules: &[u8],
@@ -156,31 +99,38 @@ pub fn atom_term(
     s: usize,
     t: usize,
     reader: Reader,
-) -> Numbered
-    ensures { (numbered result leaving (store.new, stack.new))
+) -> Result<(u32, Reader), Refusal>
+    ensures { (told result leaving (store.new, stack.new))
         ≡ atom_term text.now rules.now heap.now table.now top s t reader store.old stack.old }
 {
     if items::is_question(text, s) {
-        let known = tables::meaning(table, limits::DEF_BUCKETS, text, s, t);
-        let Kept::Is(k) = known else {
-            return Numbered::Refused(12);
-        };
-        return Numbered::Got(k, reader);
+        let meaning = tables::meaning(table, limits::DEF_BUCKETS, text, s, t);
+        return Ok((meaning.ok_or(Refusal::Unknown)?, reader));
     }
-    let h = constructor_due(text, rules, heap, s, t, reader);
-    match h {
-        Numbered::Refused(n) => Numbered::Refused(n),
-        Numbered::Got(c, q) => make(heap, store, stack, c, top, 0, q),
-    }
+    let found = theory_reading::find(heap, rules, Section::Constructors, words::part(text, s, t));
+    make(
+        heap,
+        store,
+        stack,
+        found.ok_or(Refusal::Unknown)?,
+        top,
+        0,
+        reader,
+    )
 }
 
 // The head of a term in brackets, asked for without a look ahead.
-pub fn head(text: &[u8], rules: &[u8], heap: &[u32], left: u32, reader: Reader) -> Numbered
-    ensures { numbered result ≡ head_due text.now rules.now heap.now left reader }
+#[tactic(auto, unfolding(crate::specs::Nodes::head_due, crate::specs::Nodes::constructor_due))]
+pub fn head(
+    text: &[u8],
+    rules: &[u8],
+    heap: &[u32],
+    left: u32,
+    reader: Reader,
+) -> Result<(u32, Reader), Refusal>
+    ensures { told result ≡ head_due text.now rules.now heap.now left reader }
 {
-    let a = asking::atom_due(text, left, reader);
-    let Named::Atom(s, t, q) = a else {
-        return Numbered::Refused(asking::named_refusal(a));
-    };
-    constructor_due(text, rules, heap, s, t, q)
+    let (s, t, next) = asking::atom_due(text, left, reader)?;
+    let found = theory_reading::find(heap, rules, Section::Constructors, words::part(text, s, t));
+    Ok((found.ok_or(Refusal::Unknown)?, next))
 }

@@ -3,18 +3,20 @@ use mathlib.Core.Path.{◌≡◌, refl, sym, ◌∙◌}
 use mathlib.Core.Bool.{true, false}
 use mathlib.Core.List.{List, [], ◌∷◌}
 use mathlib.Core.Option.{none, some}
-use Prim.Native.Nat.{ℕ, suc, ◌+◌, ◌*◌, ◌-◌, ◌^◌, ◌/◌, ◌≤◌, ◌<◌}
+use Prim.Native.Nat.{ℕ, ◌+◌, ◌*◌, ◌-◌, ◌^◌, ◌≤◌, ◌<◌}
 use native.Mathlib.Numerals.{add-one}
 use native.Mathlib.Omega.{arith}
-use borrow.Author.Tests.{lt-ltb, le-ltb, lt-leb, le-leb, ltb-true, ltb-false, eq-eqb, ne_eqb}
-use lib.Dec.{ltb}
-use lib.ListN.{length, drop, get_or, get_elem?, drop_of_length-le}
+use borrow.Author.Tests.{lt-ltb, le-ltb, lt-leb, le-leb, ltb-true, ltb-false}
+use lib.Dec.{eqb, ltb}
+use lib.Pointwise.{pointwise}
+use lib.ListN.{length, take, drop, get_or, get_elem?, drop_of_length-le}
 use lib.Seq.{drop-cons}
+use Rattle.std.proofs.Common.{true≢false}
 use Rattle.horn.specs.Utf8.{range, within}
 use Rattle.horn.specs.Checker.{decimal, digits, numeral}
 use Rattle.horn.proofs.Equality.{case}
 use Rattle.facts.proofs.Lists.{beyond}
-use Rattle.numerals.specs.Numbers.{digits_from, saturated}
+use Rattle.numerals.specs.Numbers.{saturated}
 
 -- A byte that is a digit, and one that is none.
 digit : (b : ℕ) → 0x30 ≤ b → b ≤ 0x39 → within (range 0x30 0x39) b ≡ true
@@ -38,13 +40,6 @@ past_limit n (b ∷ bs) h =
     (λ p. rw (p, decimal) (past_limit (n * 10 + (b - 0x30)) bs (omega arith)))
     (λ p. rw (p, decimal))
 
--- The largest number that one more digit keeps below the limit.
-too_large : (limit n d : ℕ) → d < 10 → 9 ≤ limit → (limit - d) / 10 < n → suc limit ≤ n * 10 + d
-too_large limit n d k l h = omega arith
-
-pub small_enough : (limit n d : ℕ) → d < 10 → 9 ≤ limit → n ≤ (limit - d) / 10 → n * 10 + d ≤ limit
-small_enough limit n d k l h = omega arith
-
 module _ (s : List ℕ) (i n : ℕ) where
   module _ (k : i < length s) where
     pub digit_on : 0x30 ≤ get_or s i 0 → get_or s i 0 ≤ 0x39 → decimal n (drop i s) ≡ decimal (n * 10 + (get_or s i 0 - 0x30)) (drop (i + 1) s)
@@ -59,30 +54,33 @@ module _ (s : List ℕ) (i n : ℕ) where
     unfolding decimal
     digit_high h = rw (drop-cons s i 0 k, high_digit _ h, decimal)
 
-    pub digit_over : 0x30 ≤ get_or s i 0 → get_or s i 0 ≤ 0x39 → (18446744073709551615 - (get_or s i 0 - 0x30)) / 10 < n → decimal n (drop i s) ≡ none
-    digit_over l h o = digit_on l h ∙ past_limit _ _ (too_large 18446744073709551615 n (get_or s i 0 - 0x30) (omega arith) (omega arith) o)
+    pub digit_over : 0x30 ≤ get_or s i 0 → get_or s i 0 ≤ 0x39 → 18446744073709551616 ≤ n * 10 + (get_or s i 0 - 0x30) → decimal n (drop i s) ≡ none
+    digit_over l h o = digit_on l h ∙ past_limit _ _ o
 
   pub digits_end : length s ≤ i → n ≤ 18446744073709551615 → decimal n (drop i s) ≡ some n
   unfolding decimal
   digits_end k h = rw (drop_of_length-le s k, lt-ltb n (2 ^ 64) (omega arith), decimal)
 
-pub digits_none : (s : List ℕ) (i : ℕ) → length s ≤ i → digits_from s i ≡ none
-unfolding digits_from digits
-digits_none s i h = rw (drop_of_length-le s h)
+pub digits_none : (s : List ℕ) → length s ≡ 0 → digits s ≡ none
+unfolding digits
+digits_none [] h = refl
+digits_none (b ∷ bs) h = absurd (omega arith)
 
-pub digits_some : (s : List ℕ) (i : ℕ) → i < length s → digits_from s i ≡ decimal 0 (drop i s)
-unfolding digits_from digits
-digits_some s i h = rw (drop-cons s i 0 h)
+pub digits_some : (s : List ℕ) → 0 < length s → digits s ≡ decimal 0 s
+unfolding digits
+digits_some [] h = absurd (omega arith)
+digits_some (b ∷ bs) h = refl
 
-pub with_plus : (s : List ℕ) → get_or s 0 0 ≡ 0x2B → digits_from s 1 ≡ numeral s
-unfolding digits_from numeral
-with_plus [] h = absurd (omega arith)
-with_plus (b ∷ bs) h = rw (eq-eqb b 0x2B h, numeral)
+-- A sign, and none.
+pub with_plus : (s : List ℕ) → pointwise eqb (take 1 s) (0x2B ∷ []) ≡ true → numeral s ≡ digits (drop 1 s)
+unfolding numeral
+with_plus [] h = absurd (true≢false (sym h))
+with_plus (b ∷ bs) h = case (eqb b 0x2B) (λ p. rw (p, numeral)) (λ p. absurd (true≢false (sym (rw p at h))))
 
-pub without_plus : (s : List ℕ) → (get_or s 0 0 ≡ 0x2B → ⊥) → digits_from s 0 ≡ numeral s
-unfolding digits_from numeral digits
+pub without_plus : (s : List ℕ) → pointwise eqb (take 1 s) (0x2B ∷ []) ≡ false → numeral s ≡ digits s
+unfolding numeral digits
 without_plus [] h = refl
-without_plus (b ∷ bs) h = rw (ne_eqb b 0x2B h, numeral)
+without_plus (b ∷ bs) h = case (eqb b 0x2B) (λ p. absurd (true≢false (rw p at h))) (λ p. rw (p, numeral))
 
 pub kept_small : (n : ℕ) → n < 4294967295 → n ≡ saturated n
 unfolding saturated
@@ -91,6 +89,12 @@ kept_small n h = rw (lt-ltb _ _ h, saturated)
 pub kept_large : (n : ℕ) → 4294967295 ≤ n → 4294967295 ≡ saturated n
 unfolding saturated
 kept_large n h = rw (le-ltb _ _ h, saturated)
+
+pub ruleset turns = (digit_on, digit_low, digit_high, digit_over, digits_end, digits_none, digits_some)
+
+pub ruleset signs = (with_plus, without_plus)
+
+pub ruleset saturating = (kept_small, kept_large)
 
 -- For a reader: a reference is never cut. Among fewer than 2 to the 32 steps, the saturated number has the same step, or none.
 pub never_cut : {A : Type 0} (xs : List A) (n : ℕ) → length xs ≤ 4294967295 → get_elem? xs (saturated n) ≡ get_elem? xs n

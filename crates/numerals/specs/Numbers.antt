@@ -1,18 +1,13 @@
 -- What each function answers.
-use Rattle.std.specs.Prelude.{ℕ, true, false, List, ltb, drop}
+use Rattle.std.specs.Prelude.{ℕ, true, false, ltb}
 use Rattle.std.proofs.Math.Option.{Option, none, some}
-use Rattle.horn.specs.Checker.{digits}
-use Rattle.numerals.specs.declared.Number.{Number}
-use Rattle.numerals.specs.declared.Number.TheVariants.{Is, Nothing}
+use Rattle.std.specs.declared.option.Option as code
+use Rattle.std.specs.declared.option.Option.TheVariants.{Some, None}
 
 -- What the cases of an answer say: a number, or none, which is refusal 18.
-abbrev pub read : Number → Option ℕ
-read (Is n) = some n
-read Nothing = none
-
--- The digits of a name from a place on.
-unfoldable pub digits_from : List ℕ → ℕ → Option ℕ
-digits_from name from = digits (drop from name)
+abbrev pub read : code.Option ℕ → Option ℕ
+read (Some n) = some n
+read None = none
 
 -- A number below 2 to the 32 less 1 as it is, any other as 2 to the 32 less 1.
 unfoldable pub saturated : ℕ → ℕ

@@ -4,59 +4,42 @@
 ghost use Rattle.std.specs.Prelude.{◌≡◌};
 ghost use Rattle.horn.specs.Checker as definition;
 ghost use Rattle.words.specs.Parts.{part};
-ghost use Rattle.numerals.specs.Numbers.{read, digits_from, saturated};
+ghost use Rattle.numerals.specs.Numbers.{read, saturated};
 
-// A number, or an atom that is none, which is refusal 18.
-#[derive(Drop)]
-pub enum Number {
-    Is(u64),
-    Nothing,
-}
-
-// All digits of a name from a place on. A number of 2 to the 64 or more is none, whatever follows, so that no sum overflows.
-fn digits(name: &[u8], from: usize) -> Number
-    ensures { read result ≡ digits_from name.now from }
+// The number of a text that is digits alone, of which there must be one. A number of 2 to the 64 or more is none, whatever follows.
+#[tactic(auto, using(crate::proofs::Turns::turns))]
+fn digits(text: &[u8]) -> Option<u64>
+    ensures { read result ≡ definition.digits text.now }
 {
-    if name.len() <= from {
-        return Number::Nothing;
+    if text.is_empty() {
+        return None;
     }
     let mut n: u64 = 0;
-    let mut i = from;
-    while i < name.len() {
-        let b = name[i];
-        if b < 0x30 {
-            return Number::Nothing;
+    for &b in text {
+        if !b.is_ascii_digit() {
+            return None;
         }
-        if 0x39 < b {
-            return Number::Nothing;
-        }
-        let d = b as u64 - 0x30;
-        if (18446744073709551615 - d) / 10 < n {
-            return Number::Nothing;
-        }
-        n = n * 10 + d;
-        i += 1;
+        n = n.checked_mul(10)?.checked_add(b as u64 - 0x30)?;
     }
-    Number::Is(n)
+    Some(n)
 }
 
-// The number that an atom of a text is.
-pub fn numeral(text: &[u8], s: usize, t: usize) -> Number
+// The number that an atom of a text is; None for an atom that is none, which is refusal 18.
+#[tactic(auto, using(crate::proofs::Turns::signs))]
+pub fn numeral(text: &[u8], s: usize, t: usize) -> Option<u64>
     ensures { read result ≡ definition.numeral (part s t text.now) }
 {
-    let name = words::bytes_part(text, s, t);
-    if words::byte(name, 0) == 0x2B {
-        return digits(name, 1);
+    let name = words::part(text, s, t);
+    match name.strip_prefix(b"+") {
+        Some(unsigned) => digits(unsigned),
+        None => digits(name),
     }
-    digits(name, 0)
 }
 
 // A number as a word, for what is kept of a reference: one that no step has stays one that no step has.
+#[tactic(auto, using(crate::proofs::Turns::saturating))]
 pub fn saturate(n: u64) -> u32
     ensures { result ≡ saturated n }
 {
-    if n < 4294967295 {
-        return n as u32;
-    }
-    4294967295
+    u32::try_from(n).unwrap_or(u32::MAX)
 }

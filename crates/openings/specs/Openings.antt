@@ -1,7 +1,7 @@
 -- How a term begins: what each function answers, and what it leaves of the store and of the stack.
 use Rattle.std.specs.Prelude.{ℕ, ◌-◌, Bool, true, false, List}
 use Rattle.lex.specs.declared.Reader.{Reader}
-use Rattle.outcomes.specs.Outcomes.{Outcome, ok, refused}
+use Rattle.outcomes.specs.Outcomes.{Outcome, ok}
 use Rattle.outcomes.specs.Leaving.{Did, ◌leaving◌, ◌>>=◌}
 use Rattle.nodes.specs.Below.theory_reading.specs.Storing.{Areas}
 use Rattle.asking.specs.Asking as asking
@@ -16,11 +16,11 @@ pub data Start : Type 0 where
   whole : ℕ → Start
   opened : ℕ → Start
 
-abbrev pub begins : Begun → Reader → Outcome (Start × Reader)
-begins starts.Closing r = ok (closed, r)
-begins (starts.Whole k) r = ok (whole k, r)
-begins (starts.Opened c) r = ok (opened c, r)
-begins (starts.Refused n) r = refused n
+-- What each case says, beside the reader that is lent. A refusal has none.
+abbrev pub begins : Reader → Begun → Start × Reader
+begins r starts.Closing = (closed, r)
+begins r (starts.Whole k) = (whole k, r)
+begins r (starts.Opened c) = (opened c, r)
 
 -- Whether a closing is next, asked only for a member of a list.
 abbrev pub look_for : List ℕ → Bool → Reader → Outcome asking.Ahead

@@ -20,10 +20,11 @@ pub fn goal_line(out: &mut [u8], k: u32, name: &[u8], n: u32, rule: &[u8])
     writing::put_number(out, at + 33, 8, n % 100000000);
     writing::fill(out, at + 41, 1);
     writing::put_name(out, at + 42, 22, rule);
-    words::put_byte(out, at + 64, 0x0A);
+    words::put(out, at + 64, 0x0A);
 }
 
 // "The percentage is 100 times used divided by steps, halves up"; 0 where there are no steps, which no accepted release has.
+#[tactic(auto, unfolding(crate::specs::Lines::percent, horn::specs::Page::percentage))]
 pub fn percentage(used: u32, steps: u32) -> u32
     ensures { result ≡ percent used steps }
 {
@@ -45,5 +46,5 @@ pub fn last_line(out: &mut [u8], k: u32, used: u32, steps: u32)
     writing::put_number(out, at + 5, 3, p);
     writing::put_bytes(out, at + 8, b"%");
     writing::fill(out, at + 9, 55);
-    words::put_byte(out, at + 64, 0x0A);
+    words::put(out, at + 64, 0x0A);
 }

@@ -1,8 +1,8 @@
 -- The head of a step and its references: what each function answers, and what it leaves of the stack.
 use Rattle.std.specs.Prelude.{ℕ, zero, suc, ◌+◌, List, eqb, length, set}
 use Rattle.numerals.specs.Below.horn.specs.Checker.{numeral}
-use Rattle.names.specs.Below.words.specs.Parts.{part}
-use Rattle.names.specs.Below.words.specs.Sums.{sum32}
+use Rattle.words.specs.Parts.{part}
+use Rattle.words.specs.Sums.{sum32}
 use Rattle.lex.specs.declared.Reader.{Reader}
 use Rattle.numerals.specs.Numbers.{saturated}
 use Rattle.outcomes.specs.Outcomes.{Outcome, ok, refused, need, or_else}
@@ -10,13 +10,6 @@ use Rattle.outcomes.specs.Outcomes as outcomes
 use Rattle.outcomes.specs.Leaving.{Did, ◌leaving◌, ◌>>=◌}
 use Rattle.theory_reading.specs.Reading.{rule_found, premise_count}
 use Rattle.asking.specs.Asking.{in_form, in_list, Ahead, closing, member, atom_due, list_due, closing_next}
-use Rattle.references.specs.declared.Indexed.{Indexed}
-use Rattle.references.specs.declared.Indexed.TheVariants as numbers
-
--- What a number answers: itself and the reader after it.
-abbrev pub indexed : Indexed → Outcome (ℕ × Reader)
-indexed (numbers.Got i r) = ok (i, r)
-indexed (numbers.Refused n) = refused n
 
 -- "I as a number, 18": an atom, asked for with that much depth left, and the reader after it.
 unfoldable pub number_due : List ℕ → ℕ → Reader → Outcome (ℕ × Reader)

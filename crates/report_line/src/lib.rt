@@ -16,7 +16,7 @@ fn field(out: &mut [u8], at: u32, n: u32, end: u8) -> u32
     let mut text = [0u8; 20];
     let k = io::decimal(n as u64, &mut text);
     writing::put_bytes(out, at as usize, &text[..k]);
-    words::put_byte(out, at as usize + k, end);
+    words::put(out, at as usize + k, end);
     k as u32 + 1
 }
 

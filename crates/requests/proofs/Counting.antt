@@ -14,8 +14,8 @@ use Rattle.arena.specs.Below.horn.specs.StoredTerms.{Term, Met, was_found, was_m
 use Rattle.arena.specs.Below.horn.proofs.Requests.{found_or_made}
 use Rattle.arena.specs.Store as store
 use Rattle.arena.specs.Store.{area_words, intern_answer, intern_area}
-use Rattle.arena.specs.declared.Answer.{Answer}
-use Rattle.arena.specs.declared.Answer.TheVariants.{Found, Made, Full}
+use Rattle.arena.specs.Store.{Answer}
+use Rattle.arena.specs.Store.{Found, Made, Full}
 use Rattle.arena.proofs.Limits.{Limits}
 use Rattle.arena.proofs.Trees.{Trees, tree_of, InternedTree, known, new, refuses}
 use Rattle.arena.proofs.Readings.{trees_emptied, trees_counted}

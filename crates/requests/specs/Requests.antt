@@ -3,8 +3,8 @@ use Rattle.std.specs.Prelude.{ℕ, List, get_or, set}
 use Rattle.words.specs.Sums.{sum32}
 use Rattle.arena.specs.Store as store
 use Rattle.arena.specs.Store.{area_words, count, intern_answer, intern_area}
-use Rattle.arena.specs.declared.Answer.{Answer}
-use Rattle.arena.specs.declared.Answer.TheVariants.{Found, Made, Full}
+use Rattle.arena.specs.Store.{Answer}
+use Rattle.arena.specs.Store.{Found, Made, Full}
 
 -- The word that counts them.
 abbrev pub found_of : List ℕ → ℕ → ℕ → ℕ → ℕ

@@ -9,13 +9,6 @@ use Rattle.items.specs.Items.{Met, atom, list, read_on, opened_one, item_due}
 use Rattle.items.specs.declared.Walk.{Walk}
 use Rattle.rule_names.specs.declared.RuleName.{RuleName}
 use Rattle.rule_names.specs.declared.RuleName.TheVariants as rule_names
-use Rattle.rule_names.specs.declared.Kept.{Kept}
-use Rattle.rule_names.specs.declared.Kept.TheVariants as kepts
-
--- What each case of the answer says: what stands in a rule's place for its name, and the walk after it; or a refusal.
-abbrev pub kept : Kept → Outcome (RuleName × Walk)
-kept (kepts.Got name w) = ok (name, w)
-kept (kepts.Refused n) = refused n
 
 -- How far a token goes down into lists, and 1: an opening 2, an atom 1, a closing 0.
 abbrev pub passed_from : Walk → Answer → Outcome (ℕ × Walk)

@@ -14,13 +14,6 @@ use Rattle.symbols.specs.Symbols.{entered}
 use Rattle.rule_names.specs.RuleNames.{name_kept}
 use Rattle.rule_names.specs.declared.RuleName.{RuleName}
 use Rattle.rule_names.specs.declared.RuleName.TheVariants as rule_names
-use Rattle.rules.specs.declared.Body.{Body}
-use Rattle.rules.specs.declared.Body.TheVariants as bodies
-
--- The number of a rule's premises, the place of its conclusion and the walk after it; or a refusal.
-abbrev pub body : Body → Outcome (ℕ × ℕ × Walk)
-body (bodies.Got n conclusion w) = ok (n, conclusion, w)
-body (bodies.Refused n) = refused n
 
 -- "N or S as a list is 7, with a leading `?` 11".
 abbrev pub name_judged : List ℕ → RuleName → Outcome (ℕ × ℕ)

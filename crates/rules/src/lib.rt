@@ -2,66 +2,47 @@
 #![tactic(auto)]
 
 ghost use Rattle.std.specs.Prelude.{◌≡◌};
-ghost use Rattle.outcomes.specs.Outcomes.{ok, refusal};
+ghost use Rattle.outcomes.specs.Outcomes.{ok};
 ghost use Rattle.outcomes.specs.Leaving.{◌leaving◌};
-ghost use Rattle.items.specs.Items.{walked};
-ghost use Rattle.rules.specs.Rules.{body, begun, body_read, rule_described, variables_stored, rule_entered, rule_declared};
+ghost use Rattle.outcomes.specs.Told.{told};
+ghost use Rattle.rules.specs.Rules.{begun, body_read, rule_described, variables_stored, rule_entered, rule_declared};
 
-use items::{Numbered, Walk, Walked, places};
-use rule_names::{Kept, RuleName};
-
-// The number of a rule's premises, the place of its conclusion and the walk after it.
-#[derive(Drop)]
-pub enum Body {
-    Got(u32, u32, Walk),
-    Refused(u32),
-}
-
-// The number of its refusal, 0 where there is none.
-pub fn body_refusal(r: Body) -> u32
-    ensures { result ≡ refusal (body r) }
-{
-    match r {
-        Body::Got(_, _, _) => 0,
-        Body::Refused(n) => n,
-    }
-}
+use items::{Walk, places};
+use outcomes::Refusal;
+use rule_names::RuleName;
 
 // A walk before a rule's patterns: they stand behind the words of its entry, and no variable is met yet.
+#[tactic(auto, unfolding(crate::specs::Rules::begun))]
 pub fn begin(w: Walk) -> Walk
     ensures { result ≡ begun w }
 {
-    let reader = w.reader;
     Walk {
-        reader,
-        opened: w.opened,
         top: words::plus(w.top, places::PATTERNS),
         variables: 0,
+        ..w
     }
 }
 
-// A rule's premises and its conclusion.
-pub fn read_body(text: &[u8], counts: &[u32], vars: &mut [u32], heap: &mut [u32], w: Walk) -> Body
-    ensures { (body result leaving (vars.new, heap.new))
+// A rule's premises and its conclusion: the number of premises, the place of the conclusion and the walk after it.
+#[tactic(auto, unfolding(crate::specs::Rules::body_read))]
+pub fn read_body(
+    text: &[u8],
+    counts: &[u32],
+    vars: &mut [u32],
+    heap: &mut [u32],
+    w: Walk,
+) -> Result<(u32, u32, Walk), Refusal>
+    ensures { (told result leaving (vars.new, heap.new))
         ≡ body_read text.now counts.now w vars.old heap.old }
 {
-    let l = items::next_list(text, counts, w);
-    let Numbered::Got(n, q) = l else {
-        return Body::Refused(items::numbered_refusal(l));
-    };
-    let j = patterns::judgments(text, counts, vars, heap, n, q);
-    let Walked::To(p) = j else {
-        return Body::Refused(items::walked_refusal(j));
-    };
-    let conclusion = p.top;
-    let k = patterns::judgment(text, counts, vars, heap, p);
-    let Walked::To(o) = k else {
-        return Body::Refused(items::walked_refusal(k));
-    };
-    Body::Got(n, conclusion, o)
+    let (n, q) = items::next_list(text, counts, w)?;
+    let p = patterns::judgments(text, counts, vars, heap, n, q)?;
+    let o = patterns::judgment(text, counts, vars, heap, p)?;
+    Ok((n, p.top, o))
 }
 
 // Writes the four words behind a rule's name: how many premises and variables it has, and where its conclusion and its variables stand.
+#[tactic(auto, unfolding(crate::specs::Rules::rule_described))]
 pub fn describe_rule(
     heap: &mut [u32],
     e: u32,
@@ -79,22 +60,21 @@ pub fn describe_rule(
 }
 
 // Writes the rule's variables behind its patterns.
+#[tactic(auto, unfolding(crate::specs::Rules::variables_stored))]
 pub fn store_variables(vars: &[u32], heap: &mut [u32], w: Walk) -> Walk
     ensures { (ok result leaving heap.new) ≡ variables_stored w vars.now heap.old }
 {
-    let top = w.top;
+    let top = w.top as usize;
     let end = places::VARIABLE_WORDS * w.variables as usize;
-    words::copy(heap, top as usize, vars, end);
-    let reader = w.reader;
+    words::copy(heap, top, vars, end);
     Walk {
-        reader,
-        opened: w.opened,
-        top: words::low(top as usize + end),
-        variables: w.variables,
+        top: words::low(top + end),
+        ..w
     }
 }
 
 // A rule's entry with its variables, then the closing of its declaration.
+#[tactic(auto, unfolding(crate::specs::Rules::rule_entered))]
 pub fn enter_rule(
     text: &[u8],
     vars: &[u32],
@@ -105,43 +85,34 @@ pub fn enter_rule(
     n: u32,
     conclusion: u32,
     w: Walk,
-) -> Walked
-    ensures { (walked result leaving heap.new) ≡ rule_entered text.now e s t n conclusion w vars.now heap.old }
+) -> Result<Walk, Refusal>
+    ensures { (told result leaving heap.new) ≡ rule_entered text.now e s t n conclusion w vars.now heap.old }
 {
-    let m = symbols::enter(text, heap, places::RULES, e, s, t, w);
-    let Walked::To(q) = m else {
-        return Walked::Refused(items::walked_refusal(m));
-    };
+    let q = symbols::enter(text, heap, places::RULES, e, s, t, w)?;
     describe_rule(heap, e, n, q.variables, conclusion, q.top);
     let p = store_variables(vars, heap, q);
     items::close(text, p)
 }
 
 // "`(rule N (J...) J)`: premises left to right, conclusion, N, duplicate."
+#[tactic(auto, unfolding(crate::specs::Rules::rule_declared))]
 pub fn declare_rule(
     text: &[u8],
     counts: &[u32],
     vars: &mut [u32],
     heap: &mut [u32],
     w: Walk,
-) -> Walked
-    ensures { (walked result leaving (vars.new, heap.new))
+) -> Result<Walk, Refusal>
+    ensures { (told result leaving (vars.new, heap.new))
         ≡ rule_declared text.now counts.now w vars.old heap.old }
 {
-    let e = w.top;
-    let k = rule_names::keep_name(text, counts, w);
-    let Kept::Got(name, q) = k else {
-        return Walked::Refused(rule_names::kept_refusal(k));
-    };
-    let b = read_body(text, counts, vars, heap, begin(q));
-    let Body::Got(n, conclusion, p) = b else {
-        return Walked::Refused(body_refusal(b));
-    };
+    let (name, q) = rule_names::keep_name(text, counts, w)?;
+    let (n, conclusion, p) = read_body(text, counts, vars, heap, begin(q))?;
     let RuleName::Atom(s, t) = name else {
-        return Walked::Refused(7);
+        return Err(Refusal::AtomOrList);
     };
     if items::is_question(text, s) {
-        return Walked::Refused(11);
+        return Err(Refusal::VariableName);
     }
-    enter_rule(text, vars, heap, e, s, t, n, conclusion, p)
+    enter_rule(text, vars, heap, w.top, s, t, n, conclusion, p)
 }

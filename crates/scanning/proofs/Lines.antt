@@ -12,7 +12,7 @@ use Rattle.utf8.specs.Below.horn.specs.Utf8.{Char, char}
 use Rattle.utf8.specs.Below.horn.specs.Tokens.{Stream, end, ◌▹◌, before, lines, characters}
 use Rattle.utf8.specs.Characters.{First, broken, found, first, width}
 use Rattle.scanning.specs.Scan.{line_end}
-use Rattle.scanning.specs.declared.Line.TheVariants as line
+use Rattle.std.specs.Prelude.{Some, None}
 use Rattle.utf8.specs.Below.horn.proofs.Equality.{case}
 use Rattle.utf8.specs.Below.horn.proofs.CompleteLines.{before-append}
 use Rattle.utf8.proofs.Looks.{at_drop, Sound, sound, width_zero, width_steps}
@@ -82,21 +82,21 @@ seen (found n v) d = (v, refl)
 
 -- The test of a line finds what the definition says of it.
 module _ (text : List ℕ) where
-  pub line_clean : (f q n : ℕ) → length text - q ≤ f → q ≤ length text → line_end (suc f) text q ≡ line.Good n → Clean text q n
+  pub line_clean : (f q n : ℕ) → length text - q ≤ f → q ≤ length text → line_end (suc f) text q ≡ Some n → Clean text q n
   line_clean zero q n l h e =
-      let g : line.Good q ≡ line.Good n = sym (line_over text q zero (omega arith)) ∙ e in
+      let g : Some q ≡ Some n = sym (line_over text q zero (omega arith)) ∙ e in
       let k : q ≡ n = cc in
       over k (omega arith)
   line_clean (suc f) q n l h e =
       case (ltb q (length text))
       (λ i. case (eqb (get_or text q 0) 0x0A)
       (λ t.
-      let g : line.Good (q + 1) ≡ line.Good n = sym (line_stop text q (ltb-true _ _ i) (suc f) (eqb-true _ _ t)) ∙ e in
+      let g : Some (q + 1) ≡ Some n = sym (line_stop text q (ltb-true _ _ i) (suc f) (eqb-true _ _ t)) ∙ e in
       let k : q + 1 ≡ n = cc in
       newline (ltb-true _ _ i) (eqb-true _ _ t) k)
       (λ t. case (eqb (width (first (drop q text))) 0)
       (λ z.
-      let g : line.Bad ≡ line.Good n =
+      let g : None ≡ Some n =
       sym (line_bad text q (ltb-true _ _ i) (eqb-false _ _ t) _ refl (suc f) (eqb-true _ _ z)) ∙ e in
       let k : ◌≡◌ {A = ℕ} 0 1 = cc in
       absurd (omega arith))
@@ -106,21 +106,21 @@ module _ (text : List ℕ) where
       on (width (first (drop q text))) w.0 (ltb-true _ _ i) (eqb-false _ _ t) w.1
       (line_clean f (q + width (first (drop q text))) n (omega arith) (omega arith)
       (sym (line_step text q (ltb-true _ _ i) (eqb-false _ _ t) _ refl (suc f) (eqb-false _ _ z)) ∙ e)))))
-      (λ i. let g : line.Good q ≡ line.Good n = sym (line_over text q (suc f) (ltb-false _ _ i)) ∙ e in
+      (λ i. let g : Some q ≡ Some n = sym (line_over text q (suc f) (ltb-false _ _ i)) ∙ e in
       let k : length text ≤ q = ltb-false _ _ i in
       let m : q ≡ n = cc in
       over m (omega arith))
 
-  pub line_broken : (f q : ℕ) → length text - q ≤ f → line_end (suc f) text q ≡ line.Bad → BadLine (drop q text)
+  pub line_broken : (f q : ℕ) → length text - q ≤ f → line_end (suc f) text q ≡ None → BadLine (drop q text)
   line_broken zero q l e =
-      let g : line.Good q ≡ line.Bad = sym (line_over text q zero (omega arith)) ∙ e in
+      let g : Some q ≡ None = sym (line_over text q zero (omega arith)) ∙ e in
       let k : ◌≡◌ {A = ℕ} 0 1 = cc in
       absurd (omega arith)
   line_broken (suc f) q l e =
       case (ltb q (length text))
       (λ i. case (eqb (get_or text q 0) 0x0A)
       (λ t.
-      let g : line.Good (q + 1) ≡ line.Bad = sym (line_stop text q (ltb-true _ _ i) (suc f) (eqb-true _ _ t)) ∙ e in
+      let g : Some (q + 1) ≡ None = sym (line_stop text q (ltb-true _ _ i) (suc f) (eqb-true _ _ t)) ∙ e in
       let k : ◌≡◌ {A = ℕ} 0 1 = cc in
       absurd (omega arith))
       (λ t. case (eqb (width (first (drop q text))) 0)
@@ -136,7 +136,7 @@ module _ (text : List ℕ) where
       (line_broken f (q + width (first (drop q text))) (omega arith)
       (sym (line_step text q (ltb-true _ _ i) (eqb-false _ _ t) _ refl (suc f) (eqb-false _ _ z)) ∙ e))))))
       (λ i.
-      let g : line.Good q ≡ line.Bad = sym (line_over text q (suc f) (ltb-false _ _ i)) ∙ e in
+      let g : Some q ≡ None = sym (line_over text q (suc f) (ltb-false _ _ i)) ∙ e in
       let k : ◌≡◌ {A = ℕ} 0 1 = cc in
       absurd (omega arith))
 

@@ -9,7 +9,7 @@ use Rattle.utf8.specs.Classes.{is_ordinary, is_white, is_comment}
 use Rattle.utf8.specs.Characters.{first, width, kind_at}
 use Rattle.utf8.proofs.Looks.{kind_steps, width_steps}
 use Rattle.scanning.specs.Scan.{stopped, blanks, atom_end, line_end}
-use Rattle.scanning.specs.declared.Line.TheVariants.{Good, Bad}
+use Rattle.std.specs.Prelude.{Some, None}
 
 -- The scans of white space and of an atom: a stop, and a turn over one character.
 module _ (text : List ℕ) (end q k : ℕ) (ek : k ≡ kind_at (first (drop q text))) (h : q < end) where
@@ -62,12 +62,12 @@ blank_over text end q f h = rw (le-ltb q end h, blanks)
 
 -- The scan of a line.
 module _ (text : List ℕ) (q : ℕ) (h : q < length text) where
-  pub line_stop : (f : ℕ) → get_or text q 0 ≡ 0x0A → line_end (suc f) text q ≡ Good (q + 1)
+  pub line_stop : (f : ℕ) → get_or text q 0 ≡ 0x0A → line_end (suc f) text q ≡ Some (q + 1)
   unfolding line_end
   line_stop f e = rw (lt-ltb q (length text) h, eq-eqb (get_or text q 0) 0x0A e, line_end)
 
   module _ (d : get_or text q 0 ≡ 0x0A → ⊥) (n : ℕ) (en : n ≡ width (first (drop q text))) where
-    pub line_bad : (f : ℕ) → n ≡ 0 → line_end (suc f) text q ≡ Bad
+    pub line_bad : (f : ℕ) → n ≡ 0 → line_end (suc f) text q ≡ None
     unfolding line_end
     line_bad f e = rw (lt-ltb q (length text) h, ne_eqb (get_or text q 0) 0x0A d, ← en, e, line_end)
 
@@ -83,6 +83,6 @@ module _ (text : List ℕ) (q : ℕ) (h : q < length text) where
         let s = width_steps text q n en e in
         (g, (omega arith, line_step (suc g) e))
 
-pub line_over : (text : List ℕ) (q f : ℕ) → length text ≤ q → line_end (suc f) text q ≡ Good q
+pub line_over : (text : List ℕ) (q f : ℕ) → length text ≤ q → line_end (suc f) text q ≡ Some q
 unfolding line_end
 line_over text q f h = rw (le-ltb q (length text) h, line_end)

@@ -1,10 +1,8 @@
 -- Where the parts of a text end: white space and comments, an atom, a line. A step goes over one character; `fuel` is a
 -- bound on the steps, and any that is not less than what is left of the text gives the same.
-use Rattle.std.specs.Prelude.{ℕ, zero, suc, ◌+◌, true, false, List, eqb, ltb, length, get_or, drop}
+use Rattle.std.specs.Prelude.{ℕ, zero, suc, ◌+◌, true, false, List, eqb, ltb, length, get_or, drop, Option, Some, None}
 use Rattle.utf8.specs.Classes.{is_ordinary, is_white, is_comment}
 use Rattle.utf8.specs.Characters.{first, width, kind_at}
-use Rattle.scanning.specs.declared.Line.{Line}
-use Rattle.scanning.specs.declared.Line.TheVariants.{Good, Bad}
 
 -- Where white space ends at a character of another kind: a comment runs to the end of its line.
 unfoldable pub stopped : ℕ → ℕ → ℕ → ℕ
@@ -35,15 +33,15 @@ atom_end (suc fuel) text end p =
     ]
 
 -- The end of the line that starts at a place, if it is UTF-8.
-unfoldable pub line_end : ℕ → List ℕ → ℕ → Line
-line_end zero text p = Good p
+unfoldable pub line_end : ℕ → List ℕ → ℕ → Option ℕ
+line_end zero text p = Some p
 line_end (suc fuel) text p =
     elim (ltb p (length text)) [
-      | false ↦ Good p
+      | false ↦ Some p
       | true ↦ elim (eqb (get_or text p 0) 0x0A) [
-        | true ↦ Good (p + 1)
+        | true ↦ Some (p + 1)
         | false ↦ elim (eqb (width (first (drop p text))) 0) [
-          | true ↦ Bad
+          | true ↦ None
           | false ↦ line_end fuel text (p + width (first (drop p text)))
         ]
       ]

@@ -6,13 +6,6 @@ ghost use Rattle.scanning.specs.Scan.{stopped, blanks, atom_end, line_end};
 
 use utf8::classes;
 
-// Where a line ends, if it is UTF-8.
-#[derive(Drop)]
-pub enum Line {
-    Good(usize),
-    Bad,
-}
-
 // Where white space ends at a character of another kind: a comment runs to the end of its line.
 fn stop(kind: u8, end: usize, q: usize) -> usize
     ensures { result ≡ stopped kind end q }
@@ -86,14 +79,14 @@ pub fn atom_end(text: &[u8], end: usize, p: usize) -> usize
 }
 
 // The end of the line that starts at `p`, if it is UTF-8.
-pub fn line_end(text: &[u8], p: usize) -> Line
+pub fn line_end(text: &[u8], p: usize) -> Option<usize>
     ensures { result ≡ line_end (suc (length text.now)) text.now p }
 {
     let mut q = p;
     while q < text.len() {
         let b = text[q];
         if b == 0x0A {
-            return Line::Good(q + 1);
+            return Some(q + 1);
         }
         if b < 0x80 {
             q += 1;
@@ -107,9 +100,9 @@ pub fn line_end(text: &[u8], p: usize) -> Line
         let found = utf8::first_of(&text[q..]);
         let width = found.width;
         if width == 0 {
-            return Line::Bad;
+            return None;
         }
         q += width;
     }
-    Line::Good(q)
+    Some(q)
 }

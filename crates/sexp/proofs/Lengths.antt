@@ -6,8 +6,8 @@ use Rattle.lex.specs.declared.Token.{Token}
 use Rattle.lex.specs.declared.Token.TheVariants.{Opening, Closing, Atom}
 use Rattle.lex.specs.declared.Reader.{Reader}
 use Rattle.sexp.specs.declared.Place.{Place}
-use Rattle.sexp.specs.declared.Step.{Step}
-use Rattle.sexp.specs.declared.Step.TheVariants.{On, Refused}
+use Rattle.sexp.specs.Steps.{Step}
+use Rattle.sexp.specs.Steps.{On, Refused}
 use Rattle.sexp.specs.Walk.{deepest, open_lists, turns, place, counted, member_added, list_opened}
 use Rattle.sexp.specs.Walk.{stepped, area_stepped, AnswerAndArea, goes_on, turn, walk, walked}
 

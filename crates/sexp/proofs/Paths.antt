@@ -3,7 +3,7 @@ use Rattle.std.proofs.Common.{◌≡◌, ℕ, ◌+◌, ◌-◌, ◌%◌, ◌<◌
 use Rattle.lex.specs.Below.horn.specs.Refusals.{number}
 use Rattle.lex.specs.declared.Token.TheVariants.{Opening, Closing, Atom}
 use Rattle.sexp.specs.declared.Place.{Place}
-use Rattle.sexp.specs.declared.Step.TheVariants.{On, Refused}
+use Rattle.sexp.specs.Steps.{On, Refused}
 use Rattle.sexp.specs.Walk.{deepest, open_lists, before_open, whole, refused, place, counted, member_added, list_opened, stepped, area_stepped, ended_at}
 
 pub no_member : (d : ℕ) (area : List ℕ) → d ≡ 0 → member_added d area ≡ area
@@ -78,3 +78,21 @@ module _ (p : Place) where
     pub area_atom : (s e : ℕ) → p.depth ≤ deepest → area_stepped (Atom s e) p area ≡ member_added p.depth area
     unfolding area_stepped
     area_atom s e h = rw (le-ltb deepest p.depth h, area_stepped)
+
+pub ruleset members = (no_member, a_member)
+
+pub ruleset ends = (end_top, end_open, end_deep)
+
+pub ruleset steps = (
+  closing_top,
+  closing_on,
+  opening_on,
+  opening_deep,
+  atom_on,
+  atom_deep,
+  area_closing,
+  area_opening_deep,
+  area_opening,
+  area_atom_deep,
+  area_atom,
+)

@@ -14,7 +14,7 @@ use Rattle.lex.specs.declared.Reader.{Reader}
 use Rattle.lex.proofs.Standing.{Stands}
 use Rattle.lex.proofs.Readers.{Takes, take_end, take_bad, take_opening, take_closing, take_atom, takes}
 use Rattle.sexp.specs.declared.Place.{Place}
-use Rattle.sexp.specs.declared.Step.TheVariants.{On, Refused}
+use Rattle.sexp.specs.Steps.{On, Refused}
 use Rattle.sexp.specs.Walk.{deepest, whole, refused, AnswerAndArea, answering, stepped, area_stepped, ended_at, goes_on, turn, walk}
 use Rattle.sexp.proofs.Counting.{counting, member_of}
 use Rattle.sexp.proofs.Held.{Held, member_held, opened_held, closed_held}

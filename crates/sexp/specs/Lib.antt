@@ -1,2 +1,3 @@
 pub mod Flattening
+pub mod Steps
 pub mod Walk

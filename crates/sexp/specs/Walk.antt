@@ -6,19 +6,20 @@ use Rattle.lex.specs.declared.Token.{Token}
 use Rattle.lex.specs.declared.Token.TheVariants.{Opening, Closing, Atom}
 use Rattle.lex.specs.declared.Reader.{Reader}
 use Rattle.sexp.specs.declared.Place.{Place}
-use Rattle.sexp.specs.declared.Step.{Step}
-use Rattle.sexp.specs.declared.Step.TheVariants.{On, Refused}
-use Rattle.sexp.specs.declared.Walk.{Walk}
-use Rattle.sexp.specs.declared.Walk.TheVariants as walks
+use Rattle.std.specs.declared.result.Result.{Result}
+use Rattle.std.specs.declared.result.Result.TheVariants.{Ok, Err}
+use Rattle.outcomes.specs.Told as told
+use Rattle.outcomes.specs.declared.Refusal as code
+use Rattle.sexp.specs.Steps.{Step, On, Refused}
 
 -- An answer in 01's words: a text read whole with so many openings, or a refusal by its number.
 pub data Walked : Type 0 where
   whole refused : ℕ → Walked
 
--- What each case of the enum says.
-unfoldable pub walk_answer : Walk → Walked
-walk_answer (walks.Whole n) = whole n
-walk_answer (walks.Refused n) = refused n
+-- What each case of the code's answer says.
+unfoldable pub walk_answer : Result ℕ code.Refusal → Walked
+walk_answer (Ok n) = whole n
+walk_answer (Err e) = refused (told.number e)
 
 abbrev pub place : ℕ → ℕ → Place
 place n d = record { openings = n; depth = d }

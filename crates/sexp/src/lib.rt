@@ -2,9 +2,11 @@
 #![tactic(auto)]
 
 ghost use Rattle.std.specs.Prelude.{◌≡◌};
+ghost use Rattle.sexp.specs.Steps.{step_answer};
 ghost use Rattle.sexp.specs.Walk.{member_added, list_opened, stepped, area_stepped, ended_at, walk_answer, walked};
 
 use lex::{Read, Reader, Token};
+use outcomes::Refusal;
 
 // The depth of the deepest items.
 const DEEPEST: u32 = 256;
@@ -19,27 +21,14 @@ const BEFORE_OPEN: usize = 8191;
 const TURNS: u32 = 8193;
 
 // How many lists were opened so far, and how many of them are open.
-#[derive(Drop)]
+#[derive(Clone, Copy)]
 pub struct Place {
     pub openings: u32,
     pub depth: u32,
 }
 
-// What a token does: the walk goes on, or it is refused with this number.
-#[derive(Drop)]
-pub enum Step {
-    On(Place),
-    Refused(u32),
-}
-
-// A text read whole, with so many openings; or its refusal.
-#[derive(Drop)]
-pub enum Walk {
-    Whole(u32),
-    Refused(u32),
-}
-
 // One member more of the innermost list that is open.
+#[tactic(auto, using(crate::proofs::Paths::members), unfolding(crate::specs::Walk::counted))]
 pub fn add_member(area: &mut [u32], depth: u32)
     ensures { area.new ≡ member_added depth area.old }
 {
@@ -48,10 +37,11 @@ pub fn add_member(area: &mut [u32], depth: u32)
     }
     let list = words::at(area, BEFORE_OPEN + depth as usize);
     let count = words::at(area, list as usize);
-    words::put(area, list as usize, std::num::wrapping_add_u32(count, 1));
+    words::put(area, list as usize, count.wrapping_add(1));
 }
 
 // A list is a member of the one around it, has no member yet and is open.
+#[tactic(auto, unfolding(crate::specs::Walk::list_opened))]
 pub fn open_list(area: &mut [u32], openings: u32, depth: u32)
     ensures { area.new ≡ list_opened openings depth area.old }
 {
@@ -61,58 +51,60 @@ pub fn open_list(area: &mut [u32], openings: u32, depth: u32)
 }
 
 // "Asking for an item at depth 257 is refusal 4, before its token is taken." In a list a closing is looked for first.
-pub fn take(token: Token, area: &mut [u32], place: Place) -> Step
-    ensures step { result ≡ stepped token place }
+#[tactic(auto, using(crate::proofs::Paths::steps), unfolding(crate::specs::Steps::step_answer))]
+pub fn take(token: Token, area: &mut [u32], place: Place) -> Result<Place, Refusal>
+    ensures step { step_answer result ≡ stepped token place }
     ensures area { area.new ≡ area_stepped token place area.old }
 {
-    let openings = place.openings;
-    let depth = place.depth;
+    let Place { openings, depth } = place;
     match token {
         Token::Closing => {
             if depth == 0 {
-                return Step::Refused(6);
+                return Err(Refusal::StrayClosing);
             }
-            return Step::On(Place {
+            Ok(Place {
                 openings,
                 depth: depth - 1,
-            });
+            })
         }
         Token::Opening => {
             if DEEPEST < depth {
-                return Step::Refused(4);
+                return Err(Refusal::Nesting);
             }
             open_list(area, openings, depth);
-            return Step::On(Place {
-                openings: std::num::wrapping_add_u32(openings, 1),
+            Ok(Place {
+                openings: openings.wrapping_add(1),
                 depth: depth + 1,
-            });
+            })
         }
         Token::Atom(_, _) => {
             if DEEPEST < depth {
-                return Step::Refused(4);
+                return Err(Refusal::Nesting);
             }
             add_member(area, depth);
-            return Step::On(place);
+            Ok(place)
         }
     }
 }
 
-// The end of the text. In a list an item is asked for there: "then end of text is 5".
-pub fn at_end(place: Place) -> Walk
+// The end of the text: how many openings it has. In a list an item is asked for there: "then end of text is 5".
+#[tactic(auto, using(crate::proofs::Paths::ends), unfolding(crate::specs::Walk::walk_answer))]
+pub fn at_end(place: Place) -> Result<u32, Refusal>
     ensures { walk_answer result ≡ ended_at place }
 {
     if place.depth == 0 {
-        return Walk::Whole(place.openings);
+        return Ok(place.openings);
     }
     if DEEPEST < place.depth {
-        return Walk::Refused(4);
+        return Err(Refusal::Nesting);
     }
-    Walk::Refused(5)
+    Err(Refusal::TextEnds)
 }
 
-// Reads all of a text. The count of members of each list is left in the order of the openings from word 0 on; the lists
-// that are open stand from word 8,192 on.
-pub fn count_members(text: &[u8], area: &mut [u32]) -> Walk
+// Reads all of a text and answers how many openings it has. The count of members of each list is left in the order of the openings from
+// word 0 on; the lists that are open stand from word 8,192 on.
+#[tactic(auto, using(crate::proofs::Turns::turns), unfolding(crate::specs::Walk::walk_answer, crate::specs::Walk::walked, crate::specs::Steps::step_answer))]
+pub fn count_members(text: &[u8], area: &mut [u32]) -> Result<u32, Refusal>
     ensures answer { walk_answer result ≡ (walked text.now area.old).answer }
     ensures area { area.new ≡ (walked text.now area.old).area }
 {
@@ -121,25 +113,16 @@ pub fn count_members(text: &[u8], area: &mut [u32]) -> Walk
         openings: 0,
         depth: 0,
     };
-    let mut fuel = TURNS;
-    while 0 < fuel {
-        let read = reader.token(text);
-        match read {
-            Read::Bad => return Walk::Refused(3),
+    for _ in 0..TURNS {
+        match reader.token(text) {
+            Read::Bad => return Err(Refusal::NotUtf8),
             Read::End => return at_end(place),
             Read::Got(token, next) => {
-                let step = take(token, area, place);
-                match step {
-                    Step::Refused(number) => return Walk::Refused(number),
-                    Step::On(then) => {
-                        reader = next;
-                        place = then;
-                        fuel -= 1;
-                    }
-                }
+                place = take(token, area, place)?;
+                reader = next;
             }
         }
     }
     // Out of turns: the laws show that this is never met.
-    Walk::Refused(2)
+    Err(Refusal::TextLong)
 }

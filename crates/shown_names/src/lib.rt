@@ -6,6 +6,7 @@ ghost use Rattle.names.specs.Chains.{name_at};
 ghost use Rattle.shown_names.specs.Shown.{of_two};
 
 // The name of the entry at e of an area, which has its bounds in the rulebook or in the goals text.
+#[tactic(auto, unfolding(names::specs::Chains::name_at))]
 pub fn shown<'a>(
     in_rulebook: bool,
     rulebook: &'a [u8],
@@ -18,7 +19,7 @@ pub fn shown<'a>(
     let start = words::at(area, e as usize);
     let end = words::at(area, e as usize + 1);
     if in_rulebook {
-        return words::bytes_part(rulebook, start as usize, end as usize);
+        return words::part(rulebook, start as usize, end as usize);
     }
-    words::bytes_part(goals, start as usize, end as usize)
+    words::part(goals, start as usize, end as usize)
 }

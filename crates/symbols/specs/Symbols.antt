@@ -10,13 +10,6 @@ use Rattle.outcomes.specs.Leaving.{Did, ◌leaving◌, ◌>>=◌}
 use Rattle.words.specs.Sums.{sum32}
 use Rattle.items.specs.Items.{with_top, pushed, list_due, closing_due, declared_name}
 use Rattle.items.specs.declared.Walk.{Walk}
-use Rattle.symbols.specs.declared.Signature.{Signature}
-use Rattle.symbols.specs.declared.Signature.TheVariants as signatures
-
--- What each case of the answer says: a name's bounds, the number of inputs and the walk after them; or a refusal.
-abbrev pub signed : Signature → Outcome (ℕ × ℕ × ℕ × Walk)
-signed (signatures.Got s t n w) = ok (s, t, n, w)
-signed (signatures.Refused n) = refused n
 
 -- A walk with words of the theory kept free.
 unfoldable pub reserved : Walk → ℕ → Walk

@@ -4,10 +4,8 @@ use Rattle.std.proofs.Math.Option.{Option, none, some}
 use Rattle.words.specs.Sums.{low32, sum32}
 use Rattle.names.specs.Chains.{found, added}
 use Rattle.tables.specs.declared.Tally.{Tally}
-use Rattle.tables.specs.declared.Open.{Open}
-use Rattle.tables.specs.declared.Open.TheVariants as opened
-use Rattle.tables.specs.declared.Kept.{Kept}
-use Rattle.tables.specs.declared.Kept.TheVariants as kept
+use Rattle.tables.specs.declared.StepPart.{StepPart}
+use Rattle.tables.specs.declared.StepPart.TheVariants as parts
 
 -- Buckets of goals; those of abbreviations stand behind them.
 abbrev pub goal_buckets : ℕ
@@ -27,16 +25,6 @@ step_words = 4
 -- The value of a goal that has its result: so much, and the number of the result's step.
 abbrev pub closed_from : ℕ
 closed_from = 2147483648
-
--- What the cases of an answer say: a word, or that there is none;
-abbrev pub told : Kept → Option ℕ
-told (kept.Is w) = some w
-told kept.Nothing = none
-
--- the address and the judgment's number of a goal still open, or that there is none.
-abbrev pub told_open : Open → Option (ℕ × ℕ)
-told_open (opened.At e j) = some (e, j)
-told_open opened.Nothing = none
 
 unfoldable pub none_yet : ℕ → Tally
 none_yet buckets = record { top = sum32 goal_buckets buckets; goals = 0; left = 0; steps = 0 }
@@ -100,6 +88,13 @@ step_added judgment rule place tested tally table =
 
 unfoldable pub step_counted : Tally → Tally
 step_counted tally = record { top = tally.top; goals = tally.goals; left = tally.left; steps = sum32 tally.steps 1 }
+
+-- Which of a step's words is what.
+abbrev pub offset : StepPart → ℕ
+offset parts.Judgment = 0
+offset parts.Rule = 1
+offset parts.Place = 2
+offset parts.Tested = 3
 
 -- A word of step n, which is there.
 unfoldable pub step_kept : List ℕ → ℕ → ℕ → ℕ

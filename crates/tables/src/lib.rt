@@ -8,10 +8,8 @@
 ghost use Rattle.std.specs.Prelude.{◌≡◌, ◌+◌, ◌-◌, length};
 ghost use Rattle.words.specs.Parts.{part, cleared};
 ghost use Rattle.names.specs.Chains.{answered};
-ghost use Rattle.tables.specs.Words.{goal_buckets, told, told_open, none_yet, entered, goal_found, goal_open, goal_added, goal_counted, goal_closed, goal_done, goal_at, goal_result};
-ghost use Rattle.tables.specs.Words.{def_found, def_meaning, def_added, def_counted, step_at, step_added, step_counted, step_kept, step_word};
-
-use names::Found;
+ghost use Rattle.tables.specs.Words.{goal_buckets, none_yet, entered, goal_found, goal_open, goal_added, goal_counted, goal_closed, goal_done, goal_at, goal_result};
+ghost use Rattle.tables.specs.Words.{def_found, def_meaning, def_added, def_counted, step_at, step_added, step_counted, offset, step_kept, step_word};
 
 // The first word that is free, and how many goals, goals still open and steps there are.
 #[derive(Clone, Copy)]
@@ -22,18 +20,27 @@ pub struct Tally {
     pub steps: u32,
 }
 
-// A goal still open: the address of its entry and its judgment's number.
-#[derive(Drop)]
-pub enum Open {
-    At(u32, u32),
-    Nothing,
+// What is kept of a step, a word of each.
+#[derive(Clone, Copy)]
+pub enum StepPart {
+    Judgment,
+    Rule,
+    Place,
+    Tested,
 }
 
-// A word that is kept, or none.
-#[derive(Drop)]
-pub enum Kept {
-    Is(u32),
-    Nothing,
+impl StepPart {
+    // Which of a step's words it is.
+    pub fn offset(self) -> u32
+        ensures { result ≡ offset self }
+    {
+        match self {
+            StepPart::Judgment => 0,
+            StepPart::Rule => 1,
+            StepPart::Place => 2,
+            StepPart::Tested => 3,
+        }
+    }
 }
 
 // Buckets of goals; those of abbreviations stand behind them.
@@ -51,6 +58,7 @@ const CLOSED: u32 = 2147483648;
 const STEP_WORDS: usize = 4;
 
 // No goal, no abbreviation, no step: zero buckets.
+#[tactic(auto, unfolding(crate::specs::Words::none_yet))]
 pub fn begin(table: &mut [u32], buckets: u32) -> Tally
     ensures value { result ≡ none_yet buckets }
     ensures table_after { table.new ≡ cleared (goal_buckets + buckets) table.old }
@@ -66,6 +74,7 @@ pub fn begin(table: &mut [u32], buckets: u32) -> Tally
 }
 
 // A new entry at e with its value.
+#[tactic(auto, unfolding(crate::specs::Words::entered))]
 fn enter(
     table: &mut [u32],
     buckets: u32,
@@ -82,29 +91,29 @@ fn enter(
     words::put(table, e as usize + VALUE, value);
 }
 
-// The goal, open or closed, that has a name: a part of the goals text or of the certificate.
-pub fn find_goal(table: &[u32], goals: &[u8], from: &[u8], s: usize, t: usize) -> Found
-    ensures { answered result ≡ goal_found goals.now (part s t from.now) table.now }
+// The address of the goal, open or closed, that has a name.
+#[tactic(auto, unfolding(crate::specs::Words::goal_found))]
+pub fn find_goal(table: &[u32], goals: &[u8], name: &[u8]) -> Option<u32>
+    ensures { answered result ≡ goal_found goals.now name.now table.now }
 {
-    names::find(table, 0, GOAL_BUCKETS, goals, from, s, t)
+    names::find(table, 0, GOAL_BUCKETS, goals, name)
 }
 
-// The goal still open that has a name.
-pub fn open_goal(table: &[u32], goals: &[u8], from: &[u8], s: usize, t: usize) -> Open
-    ensures { told_open result ≡ goal_open goals.now (part s t from.now) table.now }
+// The goal still open that has a name: the address of its entry and its judgment's number.
+#[tactic(auto, unfolding(crate::specs::Words::goal_open, crate::specs::Words::open_at))]
+pub fn open_goal(table: &[u32], goals: &[u8], name: &[u8]) -> Option<(u32, u32)>
+    ensures { answered result ≡ goal_open goals.now name.now table.now }
 {
-    let found = find_goal(table, goals, from, s, t);
-    let Found::At(e) = found else {
-        return Open::Nothing;
-    };
+    let e = find_goal(table, goals, name)?;
     let value = words::at(table, e as usize + VALUE);
     if CLOSED <= value {
-        return Open::Nothing;
+        return None;
     }
-    Open::At(e, value)
+    Some((e, value))
 }
 
 // One goal more, open.
+#[tactic(auto, unfolding(crate::specs::Words::goal_counted, crate::specs::Words::goal_added))]
 pub fn add_goal(
     table: &mut [u32],
     goals: &[u8],
@@ -122,29 +131,25 @@ pub fn add_goal(
         top: words::plus(e, ENTRY_WORDS),
         goals: words::plus(tally.goals, 1),
         left: words::plus(tally.left, 1),
-        steps: tally.steps,
+        ..tally
     }
 }
 
 // Closes the goal at e, which is open: step n is its result's.
+#[tactic(auto, unfolding(crate::specs::Words::goal_done, crate::specs::Words::goal_closed))]
 pub fn close_goal(table: &mut [u32], e: u32, n: u32, tally: Tally) -> Tally
     ensures value { result ≡ goal_done tally }
     ensures table_after { table.new ≡ goal_closed e n table.old }
 {
     words::put(table, e as usize + VALUE, words::plus(CLOSED, n));
-    let left = tally.left;
-    if left == 0 {
-        return tally;
-    }
     Tally {
-        top: tally.top,
-        goals: tally.goals,
-        left: left - 1,
-        steps: tally.steps,
+        left: tally.left.saturating_sub(1),
+        ..tally
     }
 }
 
 // Where the entry of goal k stands: the goals' entries come first, in their order.
+#[tactic(auto, unfolding(crate::specs::Words::goal_at))]
 pub fn goal_at(buckets: u32, k: u32) -> u32
     ensures { result ≡ goal_at buckets k }
 {
@@ -152,35 +157,33 @@ pub fn goal_at(buckets: u32, k: u32) -> u32
 }
 
 // The number of the result's step of the goal at e, which is closed.
+#[tactic(auto, unfolding(crate::specs::Words::goal_result))]
 pub fn goal_result(table: &[u32], e: u32) -> u32
     ensures { result ≡ goal_result e table.now }
 {
-    let value = words::at(table, e as usize + VALUE);
-    if value < CLOSED {
-        return 0;
-    }
-    value - CLOSED
+    words::at(table, e as usize + VALUE).saturating_sub(CLOSED)
 }
 
-// The abbreviation that has a name.
-pub fn find_def(table: &[u32], buckets: u32, certificate: &[u8], s: usize, t: usize) -> Found
+// The address of the abbreviation that has a name, a part of the certificate.
+#[tactic(auto, unfolding(crate::specs::Words::def_found))]
+pub fn find_def(table: &[u32], buckets: u32, certificate: &[u8], s: usize, t: usize) -> Option<u32>
     ensures { answered result ≡ def_found buckets certificate.now (part s t certificate.now) table.now }
 {
-    names::find(table, GOAL_BUCKETS, buckets, certificate, certificate, s, t)
+    let name = words::part(certificate, s, t);
+    names::find(table, GOAL_BUCKETS, buckets, certificate, name)
 }
 
 // The term that an abbreviation stands for.
-pub fn meaning(table: &[u32], buckets: u32, certificate: &[u8], s: usize, t: usize) -> Kept
-    ensures { told result ≡ def_meaning buckets certificate.now (part s t certificate.now) table.now }
+#[tactic(auto, unfolding(crate::specs::Words::def_meaning))]
+pub fn meaning(table: &[u32], buckets: u32, certificate: &[u8], s: usize, t: usize) -> Option<u32>
+    ensures { answered result ≡ def_meaning buckets certificate.now (part s t certificate.now) table.now }
 {
-    let found = find_def(table, buckets, certificate, s, t);
-    match found {
-        Found::At(e) => Kept::Is(words::at(table, e as usize + VALUE)),
-        Found::Nothing => Kept::Nothing,
-    }
+    let e = find_def(table, buckets, certificate, s, t)?;
+    Some(words::at(table, e as usize + VALUE))
 }
 
 // One abbreviation more.
+#[tactic(auto, unfolding(crate::specs::Words::def_counted, crate::specs::Words::def_added))]
 pub fn add_def(
     table: &mut [u32],
     buckets: u32,
@@ -197,24 +200,20 @@ pub fn add_def(
     enter(table, GOAL_BUCKETS, buckets, e, certificate, s, t, term);
     Tally {
         top: words::plus(e, ENTRY_WORDS),
-        goals: tally.goals,
-        left: tally.left,
-        steps: tally.steps,
+        ..tally
     }
 }
 
 // Where the words of step n begin in an area of so many words.
+#[tactic(auto, unfolding(crate::specs::Words::step_at))]
 pub fn step_at(words: usize, n: u32) -> usize
     ensures { result ≡ step_at words n }
 {
-    let back = STEP_WORDS * (n as usize + 1);
-    if words < back {
-        return 0;
-    }
-    words - back
+    words.saturating_sub(STEP_WORDS * (n as usize + 1))
 }
 
 // One step more.
+#[tactic(auto, unfolding(crate::specs::Words::step_counted, crate::specs::Words::step_added, crate::specs::Words::step_at))]
 pub fn add_step(
     table: &mut [u32],
     judgment: u32,
@@ -232,42 +231,28 @@ pub fn add_step(
     words::put(table, a + 2, words::low(place));
     words::put(table, a + 3, words::low(tested));
     Tally {
-        top: tally.top,
-        goals: tally.goals,
-        left: tally.left,
         steps: words::plus(tally.steps, 1),
+        ..tally
     }
 }
 
-// The address of the rule of step n.
-pub fn step_rule(table: &[u32], n: u32) -> u32
-    ensures { result ≡ step_kept table.now n 1 }
+// A part of step n, which is there: of its rule the address, of its references their place in the certificate, and up to where the
+// certificate was tested at that place.
+#[tactic(auto, unfolding(crate::specs::Words::step_kept, crate::specs::Words::step_at))]
+pub fn step_part(table: &[u32], n: u32, part: StepPart) -> u32
+    ensures { result ≡ step_kept table.now n (offset part) }
 {
-    words::at(table, step_at(table.len(), n) + 1)
+    words::at(table, step_at(table.len(), n) + part.offset() as usize)
 }
 
-// The place of the references of step n in the certificate.
-pub fn step_place(table: &[u32], n: u32) -> u32
-    ensures { result ≡ step_kept table.now n 2 }
-{
-    words::at(table, step_at(table.len(), n) + 2)
-}
-
-// Up to where the certificate was tested at that place.
-pub fn step_tested(table: &[u32], n: u32) -> u32
-    ensures { result ≡ step_kept table.now n 3 }
-{
-    words::at(table, step_at(table.len(), n) + 3)
-}
-
-// A word of step n: 0 is its judgment, 1 its rule, 2 the place of its references, 3 up to where the certificate was tested there. None where
-// there is no such step yet.
-pub fn step_word(table: &[u32], n: u64, which: u32, tally: Tally) -> Kept
-    ensures { told result ≡ step_word n which tally table.now }
+// A word of step n, by its number as `StepPart::offset` has it. None where there is no such step yet.
+#[tactic(auto, unfolding(crate::specs::Words::step_word, crate::specs::Words::step_at))]
+pub fn step_word(table: &[u32], n: u64, which: u32, tally: Tally) -> Option<u32>
+    ensures { answered result ≡ step_word n which tally table.now }
 {
     if tally.steps as u64 <= n {
-        return Kept::Nothing;
+        return None;
     }
     let a = step_at(table.len(), n as u32);
-    Kept::Is(words::at(table, a + which as usize))
+    Some(words::at(table, a + which as usize))
 }

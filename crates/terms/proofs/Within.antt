@@ -5,23 +5,17 @@ use mathlib.Core.Bool.{Bool, true, false, not}
 use mathlib.Core.List.{List}
 use native.Mathlib.Omega.{arith}
 use lib.Dec.{eqb}
-use lib.ListN.{length, set}
+use lib.ListN.{set}
 use Rattle.lex.specs.declared.Reader.{Reader}
 use Rattle.outcomes.specs.Outcomes.{Outcome, ok, refused, need}
 use Rattle.outcomes.specs.Leaving.{Did, ◌leaving◌, ◌>>=◌}
 use Rattle.words.specs.Sums.{sum32}
 use Rattle.nodes.specs.Below.theory_reading.specs.Storing.{Areas}
 use Rattle.nodes.specs.Below.asking.specs.Asking.{Met, atom, list, Ahead, closing, member, item_due, closing_next}
-use Rattle.nodes.specs.Nodes.{given, make, atom_term, head_due}
-use Rattle.nodes.specs.declared.Number.{Number}
-use Rattle.nodes.specs.declared.Number.TheVariants.{Is, Refused}
+use Rattle.nodes.specs.Nodes.{make, atom_term, head_due}
 use Rattle.terms.specs.Terms.{one_more, arguments_from, term_of, term, arguments}
-use Rattle.terms.specs.declared.Argument.{Argument}
-use Rattle.terms.specs.declared.Argument.TheVariants.{Term}
-use Rattle.openings.specs.declared.Begun.{Begun}
-use Rattle.openings.specs.declared.Begun.TheVariants.{Opened}
-use Rattle.terms.specs.Levels.{argues, Next, none, one, argument_at, argument}
-use Rattle.openings.specs.Openings.{begins, Start, closed, whole, opened, look_for, begun_by, begun_at, begun}
+use Rattle.terms.specs.Levels.{Next, none, one, argument_at, argument}
+use Rattle.openings.specs.Openings.{Start, closed, whole, opened, look_for, begun_by, begun_at, begun}
 
 -- What follows the arguments of a term in brackets.
 abbrev compounded : List ℕ → ℕ → ℕ → Did Areas (ℕ × Reader) → Did Areas (ℕ × Reader)
@@ -127,12 +121,11 @@ list_within zero text rules heap table top store stack (ok (closing q)) e = let 
 list_within zero text rules heap table top store stack (ok (member q)) e = let x : ◌≡◌ {A = ℕ} 0 1 = ap openings e in absurd (omega arith)
 list_within zero text rules heap table top store stack (refused m) e = let x : ◌≡◌ {A = ℕ} 0 1 = ap openings e in absurd (omega arith)
 
-pub opened_within : (m : Bool) (left : ℕ) (text rules heap table : List ℕ) (top : ℕ) (r : Reader) (store stack : List ℕ)
-    (b : Begun) {c : ℕ} (q : Reader) (s : Areas)
-    → (begins b q leaving s) ≡ begun m left text rules heap table top r store stack → b ≡ Opened c → 0 < left
+pub opened_within : (m : Bool) (left : ℕ) (text rules heap table : List ℕ) (top : ℕ) (r : Reader) (store stack : List ℕ) {c : ℕ} {q : Reader} {s : Areas}
+    → (ok (opened c, q) leaving s) ≡ begun m left text rules heap table top r store stack → 0 < left
 unfolding begun
-opened_within m left text rules heap table top r store stack b q s e h =
-    list_within left text rules heap table top store stack (look_for text m r) (sym e ∙ ap (λ (x : Begun). begins x q leaving s) h)
+opened_within m left text rules heap table top r store stack e =
+    list_within left text rules heap table top store stack (look_for text m r) (sym e)
 
 module _ (left : ℕ) (text rules heap table : List ℕ) (top n fuel : ℕ) where
   -- What follows an argument, or the closing behind the last.
@@ -160,42 +153,19 @@ module _ (left : ℕ) (text rules heap table : List ℕ) (top n fuel : ℕ) wher
   look_then (ok (member q)) store stack = one_then (term left text rules heap table (sum32 top n) q store stack)
   look_then (refused m) store stack = refl
 
--- One turn.
-pub arguments_then : (left fuel : ℕ) (text rules heap table : List ℕ) (top n : ℕ) (r : Reader) (store stack : List ℕ) → 0 < fuel
-    → arguments_from (term left text rules heap table) fuel text top n r store stack
-    ≡ argument_then left text rules heap table top n (fuel - 1) (argument left text rules heap table (sum32 top n) r store stack)
+-- One turn of so many,
+pub arguments_turn : (left : ℕ) (text rules heap table : List ℕ) (top n : ℕ) (e t : ℕ) (r : Reader) (store stack : List ℕ) → t < e
+    → arguments_from (term left text rules heap table) (e - t) text top n r store stack
+    ≡ argument_then left text rules heap table top n (e - (t + 1)) (argument left text rules heap table (sum32 top n) r store stack)
 unfolding arguments_from argument
-arguments_then left zero text rules heap table top n r store stack l = absurd (omega arith)
-arguments_then left (suc fuel) text rules heap table top n r store stack l =
-    let e : suc fuel - 1 ≡ fuel = omega arith in
-    rw e (look_then left text rules heap table top n fuel (closing_next text r) store stack)
+arguments_turn left text rules heap table top n e t r store stack l =
+    let z : e - t ≡ suc (e - (t + 1)) = omega arith in
+    rw z (look_then left text rules heap table top n (e - (t + 1)) (closing_next text r) store stack)
 
-pub arguments_on : (left fuel : ℕ) (text rules heap table : List ℕ) (top n : ℕ) (r : Reader) (store stack : List ℕ)
-    (a : Argument) (q : Reader) {place next k : ℕ} {store' stack' stack'' : List ℕ}
-    → 0 < fuel → place ≡ sum32 top n → next ≡ sum32 n 1
-    → (argues a q leaving (store', stack')) ≡ argument left text rules heap table place r store stack → a ≡ Term k → stack'' ≡ set stack' place k
-    → arguments_from (term left text rules heap table) fuel text top n r store stack
-    ≡ arguments_from (term left text rules heap table) (fuel - 1) text top next q store' stack''
-arguments_on left fuel text rules heap table top n r store stack a q l e f g h i =
-    arguments_then left fuel text rules heap table top n r store stack l ∙ rw (← e, ← g, h, ← e, ← i, ← f)
-
-pub arguments_none : (left fuel : ℕ) (text rules heap table : List ℕ) (top n : ℕ) (r : Reader) (store stack : List ℕ) → fuel ≤ 0
-    → arguments_from (term left text rules heap table) fuel text top n r store stack ≡ (refused 2 leaving (store, stack))
+-- and none behind the last.
+pub arguments_over : (left : ℕ) (text rules heap table : List ℕ) (top n : ℕ) (e t : ℕ) (r : Reader) (store stack : List ℕ) → e ≤ t
+    → arguments_from (term left text rules heap table) (e - t) text top n r store stack ≡ (refused 2 leaving (store, stack))
 unfolding arguments_from
-arguments_none left zero text rules heap table top n r store stack l = refl
-arguments_none left (suc fuel) text rules heap table top n r store stack l = absurd (omega arith)
+arguments_over left text rules heap table top n e t r store stack l = let z : e - t ≡ 0 = omega arith in rw z
 
--- Their number is bounded by the text's bytes and one.
-pub arguments_bound : (left most : ℕ) (text rules heap table : List ℕ) (top : ℕ) (r : Reader) (store stack : List ℕ) → most ≡ length text + 1
-    → arguments left text rules heap table top r store stack ≡ arguments_from (term left text rules heap table) most text top 0 r store stack
-unfolding arguments
-arguments_bound left most text rules heap table top r store stack e = rw e
-
--- A node that is made, or refused, is the argument, or refused.
-pub made : (a : Number) (q : Reader) (s : Areas) (d : Did Areas (ℕ × Reader)) {k : ℕ} → (given a q leaving s) ≡ d → a ≡ Is k
-    → ◌≡◌ {A = Did Areas (Next × Reader)} (ok (one k, q) leaving s) (d >>= λ x. ok (one x.0.0, x.0.1) leaving (x.1.0, x.1.1))
-made a q s d e h = rw (← e, h)
-
-pub unmade : (a : Number) (q : Reader) (s : Areas) (d : Did Areas (ℕ × Reader)) {n : ℕ} → (given a q leaving s) ≡ d → a ≡ Refused n
-    → ◌≡◌ {A = Did Areas (Next × Reader)} (refused n leaving s) (d >>= λ x. ok (one x.0.0, x.0.1) leaving (x.1.0, x.1.1))
-unmade a q s d e h = rw (← e, h)
+pub ruleset within = (term-begun, argument-begun, opened_within, arguments_turn, arguments_over)

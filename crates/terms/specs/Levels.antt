@@ -1,24 +1,22 @@
--- One level of a term within terms, with the reader lent as words: what each function of the cycle answers.
-use Rattle.std.specs.Prelude.{ℕ, List}
+-- One level of a term within terms, with the reader lent: what each function of the cycle answers.
+use Rattle.std.specs.Prelude.{ℕ, List, Option, Some, None}
 use Rattle.lex.specs.declared.Reader.{Reader}
-use Rattle.outcomes.specs.Outcomes.{Outcome, ok, refused}
+use Rattle.outcomes.specs.Outcomes.{ok}
 use Rattle.outcomes.specs.Leaving.{Did, ◌leaving◌, ◌>>=◌}
 use Rattle.nodes.specs.Below.theory_reading.specs.Storing.{Areas}
 use Rattle.nodes.specs.Below.asking.specs.Asking as asking
 use Rattle.nodes.specs.Below.asking.specs.Asking.{closing_next}
 use Rattle.terms.specs.Terms.{term}
-use Rattle.terms.specs.declared.Argument.{Argument}
-use Rattle.terms.specs.declared.Argument.TheVariants as arguing
 
 -- What an argument may be: none where a closing is next.
 pub data Next : Type 0 where
   none : Next
   one : ℕ → Next
 
-abbrev pub argues : Argument → Reader → Outcome (Next × Reader)
-argues arguing.Closing r = ok (none, r)
-argues (arguing.Term k) r = ok (one k, r)
-argues (arguing.Refused n) r = refused n
+-- What the code's answer says, beside the reader that is lent. A refusal has none.
+abbrev pub argues : Reader → Option ℕ → Next × Reader
+argues r None = (none, r)
+argues r (Some k) = (one k, r)
 
 module _ (left : ℕ) (text rules heap table : List ℕ) (top : ℕ) where
   -- An argument is a term; a closing ends them.

@@ -1,5 +1,7 @@
 -- All declarations of a rulebook: what each function answers, and what it leaves of the variables and of the theory.
 use Rattle.std.specs.Prelude.{ℕ, zero, suc, ◌+◌, ◌/◌, Bool, true, false, List, [], ◌∷◌, eqb, length}
+use Rattle.std.specs.declared.option.Option as code
+use Rattle.std.specs.declared.option.Option.TheVariants.{Some, None}
 use Rattle.lex.specs.Answers as lex
 use Rattle.lex.specs.Answers.{Answer, peeked, start}
 use Rattle.words.specs.Parts.{part, same_bytes}
@@ -15,32 +17,16 @@ use Rattle.rules.specs.Rules.{rule_declared}
 use Rattle.theory.specs.declared.Form.{Form}
 use Rattle.theory.specs.declared.Form.TheVariants.{Sort, Constructor, Predicate, Rule, Other}
 use Rattle.theory.specs.declared.Counts.{Counts}
-use Rattle.theory.specs.declared.Declared.{Declared}
-use Rattle.theory.specs.declared.Declared.TheVariants as declareds
-use Rattle.theory.specs.declared.More.{More}
-use Rattle.theory.specs.declared.More.TheVariants as mores
-use Rattle.theory.specs.declared.Judged.{Judged}
-use Rattle.theory.specs.declared.Judged.TheVariants as judgeds
 
--- What each case of an answer says: the form of a declaration and the walk after it,
-abbrev pub declared_as : Declared → Outcome (Form × Walk)
-declared_as (declareds.As form w) = ok (form, w)
-declared_as (declareds.Refused n) = refused n
-
--- whether a declaration follows,
+-- Whether a declaration follows,
 pub data Next : Type 0 where
   another : Walk → Next
   nothing : Next
 
-abbrev pub next : More → Outcome Next
-next (mores.Another w) = ok (another w)
-next mores.Nothing = ok nothing
-next (mores.Refused n) = refused n
-
--- and the counts of an accepted rulebook.
-abbrev pub judged : Judged → Outcome Counts
-judged (judgeds.Accepted c) = ok c
-judged (judgeds.Refused n) = refused n
+-- as the code answers it.
+abbrev pub next : code.Option Walk → Next
+next (Some w) = another w
+next None = nothing
 
 -- The four heads.
 abbrev pub sort_word : List ℕ

@@ -3,15 +3,15 @@
 #![tactic(auto)]
 
 ghost use Rattle.std.specs.Prelude.{◌≡◌};
-ghost use Rattle.outcomes.specs.Outcomes.{refusal};
 ghost use Rattle.outcomes.specs.Leaving.{◌leaving◌};
-ghost use Rattle.items.specs.Items.{walked};
-ghost use Rattle.theory.specs.Declarations.{declared_as, next, judged, form_of, declared_by, declaration, counted, more_due};
+ghost use Rattle.outcomes.specs.Told.{told, told_as};
+ghost use Rattle.theory.specs.Declarations.{next, sized, form_of, declared_by, declaration, counted, more_due};
 ghost use Rattle.theory.specs.Declarations.{start_walk, no_counts, declarations};
 ghost use Rattle.theory.specs.Walks.{theory};
 
-use items::{Named, Numbered, Walk, Walked, places};
+use items::{Walk, places};
 use lex::{Read, Reader};
+use outcomes::Refusal;
 
 #[derive(Clone, Copy)]
 pub enum Form {
@@ -22,21 +22,8 @@ pub enum Form {
     Other,
 }
 
-#[derive(Drop)]
-pub enum Declared {
-    As(Form, Walk),
-    Refused(u32),
-}
-
-#[derive(Drop)]
-pub enum More {
-    Another(Walk),
-    Nothing,
-    Refused(u32),
-}
-
 // How many are declared.
-#[derive(Drop)]
+#[derive(Clone, Copy)]
 pub struct Counts {
     pub sorts: u32,
     pub constructors: u32,
@@ -44,48 +31,33 @@ pub struct Counts {
     pub rules: u32,
 }
 
-#[derive(Drop)]
-pub enum Judged {
-    Accepted(Counts),
-    Refused(u32),
-}
-
-// The number of its refusal, 0 where there is none.
-fn declared_refusal(r: Declared) -> u32
-    ensures { result ≡ refusal (declared_as r) }
+// A form if its length is right.
+fn sized(right: bool, form: Form) -> Form
+    ensures { result ≡ sized right form }
 {
-    match r {
-        Declared::As(_, _) => 0,
-        Declared::Refused(n) => n,
+    if right {
+        return form;
     }
+    Form::Other
 }
 
 // The form that a head and a length say.
+#[tactic(auto, using(words::proofs::Laws::same_pointwise), unfolding(crate::specs::Declarations::form_of, crate::specs::Declarations::form_named))]
 fn form_of(text: &[u8], s: usize, t: usize, members: u32) -> Form
     ensures { result ≡ form_of text.now s t members }
 {
-    if words::same_bytes(text, s, t, b"sort", 0, 4) {
-        if members == 2 {
-            return Form::Sort;
-        }
-        return Form::Other;
+    let head = words::part(text, s, t);
+    if head == b"sort".as_slice() {
+        return sized(members == 2, Form::Sort);
     }
-    if words::same_bytes(text, s, t, b"ctor", 0, 4) {
-        if members == 4 {
-            return Form::Constructor;
-        }
-        return Form::Other;
+    if head == b"ctor".as_slice() {
+        return sized(members == 4, Form::Constructor);
     }
-    if words::same_bytes(text, s, t, b"pred", 0, 4) {
-        if members == 3 {
-            return Form::Predicate;
-        }
-        return Form::Other;
+    if head == b"pred".as_slice() {
+        return sized(members == 3, Form::Predicate);
     }
-    if words::same_bytes(text, s, t, b"rule", 0, 4) {
-        if members == 4 {
-            return Form::Rule;
-        }
+    if head == b"rule".as_slice() {
+        return sized(members == 4, Form::Rule);
     }
     Form::Other
 }
@@ -98,8 +70,8 @@ fn declare(
     vars: &mut [u32],
     heap: &mut [u32],
     w: Walk,
-) -> Walked
-    ensures { (walked result leaving (vars.new, heap.new))
+) -> Result<Walk, Refusal>
+    ensures { (told result leaving (vars.new, heap.new))
         ≡ declared_by form text.now counts.now w vars.old heap.old }
 {
     match form {
@@ -107,29 +79,27 @@ fn declare(
         Form::Constructor => symbols::declare_constructor(text, counts, heap, w),
         Form::Predicate => symbols::declare_predicate(text, counts, heap, w),
         Form::Rule => rules::declare_rule(text, counts, vars, heap, w),
-        Form::Other => Walked::Refused(9),
+        Form::Other => Err(Refusal::Form),
     }
 }
 
-// One declaration.
-fn judge(text: &[u8], counts: &[u32], vars: &mut [u32], heap: &mut [u32], w: Walk) -> Declared
-    ensures { (declared_as result leaving (vars.new, heap.new))
+// One declaration: its form and the walk after it.
+#[tactic(auto, unfolding(crate::specs::Declarations::declaration))]
+fn judge(
+    text: &[u8],
+    counts: &[u32],
+    vars: &mut [u32],
+    heap: &mut [u32],
+    w: Walk,
+) -> Result<(Form, Walk), Refusal>
+    ensures { (told result leaving (vars.new, heap.new))
         ≡ declaration text.now counts.now w vars.old heap.old }
 {
-    let l = items::next_list(text, counts, w);
-    let Numbered::Got(members, q) = l else {
-        return Declared::Refused(items::numbered_refusal(l));
-    };
-    let h = items::head(text, counts, members, q);
-    let Named::Atom(s, t, p) = h else {
-        return Declared::Refused(items::named_refusal(h));
-    };
+    let (members, q) = items::next_list(text, counts, w)?;
+    let (s, t, p) = items::head(text, counts, members, q)?;
     let form = form_of(text, s, t, members);
-    let d = declare(form, text, counts, vars, heap, p);
-    let Walked::To(o) = d else {
-        return Declared::Refused(items::walked_refusal(d));
-    };
-    Declared::As(form, o)
+    let o = declare(form, text, counts, vars, heap, p)?;
+    Ok((form, o))
 }
 
 // One declaration more of a form.
@@ -139,51 +109,38 @@ fn count(c: Counts, form: Form) -> Counts
     match form {
         Form::Sort => Counts {
             sorts: words::plus(c.sorts, 1),
-            constructors: c.constructors,
-            predicates: c.predicates,
-            rules: c.rules,
+            ..c
         },
         Form::Constructor => Counts {
-            sorts: c.sorts,
             constructors: words::plus(c.constructors, 1),
-            predicates: c.predicates,
-            rules: c.rules,
+            ..c
         },
         Form::Predicate => Counts {
-            sorts: c.sorts,
-            constructors: c.constructors,
             predicates: words::plus(c.predicates, 1),
-            rules: c.rules,
+            ..c
         },
         Form::Rule => Counts {
-            sorts: c.sorts,
-            constructors: c.constructors,
-            predicates: c.predicates,
             rules: words::plus(c.rules, 1),
+            ..c
         },
         Form::Other => c,
     }
 }
 
-// Whether another declaration follows.
-fn look(text: &[u8], w: Walk) -> More
-    ensures { next result ≡ more_due text.now w }
+// The walk before the next declaration, None where none follows.
+#[tactic(auto, using(outcomes::proofs::BadLines::bad_line), unfolding(crate::specs::Declarations::more_due, lex::specs::Answers::answer))]
+fn look(text: &[u8], w: Walk) -> Result<Option<Walk>, Refusal>
+    ensures { told_as next result ≡ more_due text.now w }
 {
-    let reader = w.reader;
-    let read = reader.peek(text);
-    match read {
-        Read::End => More::Nothing,
-        Read::Bad => More::Refused(3),
-        Read::Got(_, r) => More::Another(Walk {
-            reader: r,
-            opened: w.opened,
-            top: w.top,
-            variables: w.variables,
-        }),
+    match w.reader.peek(text) {
+        Read::End => Ok(None),
+        Read::Bad => Err(Refusal::NotUtf8),
+        Read::Got(_, reader) => Ok(Some(Walk { reader, ..w })),
     }
 }
 
 // A walk before the first declaration.
+#[tactic(auto, unfolding(crate::specs::Declarations::start_walk))]
 fn begin_walk() -> Walk
     ensures { result ≡ start_walk }
 {
@@ -197,6 +154,7 @@ fn begin_walk() -> Walk
 }
 
 // Nothing declared.
+#[tactic(auto, unfolding(crate::specs::Declarations::no_counts))]
 fn no_counts() -> Counts
     ensures { result ≡ no_counts }
 {
@@ -209,43 +167,42 @@ fn no_counts() -> Counts
 }
 
 // The second walk, over a text that the first walk read whole and whose member counts stand in `counts`.
-pub fn declarations(text: &[u8], vars: &mut [u32], counts: &[u32], heap: &mut [u32]) -> Judged
-    ensures { (judged result leaving (vars.new, heap.new))
+#[tactic(auto, using(crate::proofs::Turns::turns), unfolding(crate::specs::Declarations::declarations))]
+pub fn declarations(
+    text: &[u8],
+    vars: &mut [u32],
+    counts: &[u32],
+    heap: &mut [u32],
+) -> Result<Counts, Refusal>
+    ensures { (told result leaving (vars.new, heap.new))
         ≡ declarations text.now counts.now vars.old heap.old }
 {
     let mut w = begin_walk();
     let mut c = no_counts();
-    let mut fuel = text.len() / 2 + 1;
-    while 0 < fuel {
-        let m = look(text, w);
-        match m {
-            More::Refused(n) => return Judged::Refused(n),
-            More::Nothing => return Judged::Accepted(c),
-            More::Another(v) => {
-                let d = judge(text, counts, vars, heap, v);
-                let Declared::As(form, q) = d else {
-                    return Judged::Refused(declared_refusal(d));
-                };
-                w = q;
-                c = count(c, form);
-            }
-        }
-        fuel -= 1;
+    let turns = text.len() / 2 + 1;
+    for _ in 0..turns {
+        let Some(v) = look(text, w)? else {
+            return Ok(c);
+        };
+        let (form, q) = judge(text, counts, vars, heap, v)?;
+        w = q;
+        c = count(c, form);
     }
-    Judged::Refused(4)
+    Err(Refusal::Nesting)
 }
 
 // Both walks over a rulebook: the member counts are left in `counts`, the theory in `heap`, whose buckets are cleared first.
-pub fn theory(text: &[u8], vars: &mut [u32], counts: &mut [u32], heap: &mut [u32]) -> Judged
-    ensures { (judged result leaving (vars.new, counts.new, heap.new))
+#[tactic(auto, using(crate::proofs::Turns::walks), unfolding(sexp::specs::Walk::walk_answer))]
+pub fn theory(
+    text: &[u8],
+    vars: &mut [u32],
+    counts: &mut [u32],
+    heap: &mut [u32],
+) -> Result<Counts, Refusal>
+    ensures { (told result leaving (vars.new, counts.new, heap.new))
         ≡ theory text.now vars.old counts.old heap.old }
 {
-    let first = sexp::count_members(text, counts);
-    match first {
-        sexp::Walk::Refused(n) => Judged::Refused(n),
-        sexp::Walk::Whole(_) => {
-            words::clear(heap, places::ALL_BUCKETS);
-            declarations(text, vars, counts, heap)
-        }
-    }
+    sexp::count_members(text, counts)?;
+    words::clear(heap, places::ALL_BUCKETS);
+    declarations(text, vars, counts, heap)
 }

@@ -6,6 +6,8 @@ use Rattle.items.specs.Places as places
 use Rattle.items.specs.Below.outcomes.specs.Outcomes.{pick}
 use Rattle.words.specs.Sums.{sum32}
 use Rattle.variables.specs.Variables.{variable_from}
+use Rattle.theory_reading.specs.declared.Section.{Section}
+use Rattle.theory_reading.specs.declared.Section.TheVariants as sections
 
 -- The address of the symbol or rule that has the name `key`; names of the rulebook stand in `text`.
 unfoldable pub constructor_found : List ℕ → List ℕ → List ℕ → Option ℕ
@@ -16,6 +18,17 @@ predicate_found heap text key = found heap places.predicates places.buckets text
 
 unfoldable pub rule_found : List ℕ → List ℕ → List ℕ → Option ℕ
 rule_found heap text key = found heap places.rules places.buckets text key
+
+-- The same by what is looked for, and where its buckets begin.
+abbrev pub section_found : Section → List ℕ → List ℕ → List ℕ → Option ℕ
+section_found sections.Constructors heap text key = constructor_found heap text key
+section_found sections.Predicates heap text key = predicate_found heap text key
+section_found sections.Rules heap text key = rule_found heap text key
+
+abbrev pub buckets_of : Section → ℕ
+buckets_of sections.Constructors = places.constructors
+buckets_of sections.Predicates = places.predicates
+buckets_of sections.Rules = places.rules
 
 -- The words of a symbol's entry.
 unfoldable pub output_of : List ℕ → ℕ → ℕ

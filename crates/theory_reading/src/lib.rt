@@ -3,53 +3,44 @@
 #![tactic(auto)]
 
 ghost use Rattle.std.specs.Prelude.{◌≡◌};
-ghost use Rattle.words.specs.Parts.{part};
 ghost use Rattle.names.specs.Chains.{answered};
-ghost use Rattle.theory_reading.specs.Reading.{constructor_found, predicate_found, rule_found, output_of, arity_of, input_of, fits_input};
+ghost use Rattle.theory_reading.specs.Reading.{buckets_of, section_found, output_of, arity_of, input_of, fits_input};
 ghost use Rattle.theory_reading.specs.Reading.{premise_count, variable_count, premises_place, conclusion_place, variables_place};
 ghost use Rattle.theory_reading.specs.Reading.{sort_of_variable, variable_found};
 
 use items::places;
-use names::Found;
 
-// A constructor of the rulebook `text` that has the name from `start` to `end` in `from`.
-pub fn find_constructor(heap: &[u32], text: &[u8], from: &[u8], start: usize, end: usize) -> Found
-    ensures { answered result ≡ constructor_found heap.now text.now (part start end from.now) }
-{
-    names::find(
-        heap,
-        places::CONSTRUCTORS,
-        places::BUCKETS,
-        text,
-        from,
-        start,
-        end,
-    )
+// What is looked for by its name, each kind among its own names.
+#[derive(Clone, Copy)]
+pub enum Section {
+    Constructors,
+    Predicates,
+    Rules,
 }
 
-// The predicate that has a name.
-pub fn find_predicate(heap: &[u32], text: &[u8], from: &[u8], start: usize, end: usize) -> Found
-    ensures { answered result ≡ predicate_found heap.now text.now (part start end from.now) }
-{
-    names::find(
-        heap,
-        places::PREDICATES,
-        places::BUCKETS,
-        text,
-        from,
-        start,
-        end,
-    )
+impl Section {
+    // Where its buckets begin.
+    pub fn buckets(self) -> u32
+        ensures { result ≡ buckets_of self }
+    {
+        match self {
+            Section::Constructors => places::CONSTRUCTORS,
+            Section::Predicates => places::PREDICATES,
+            Section::Rules => places::RULES,
+        }
+    }
 }
 
-// The rule that has a name.
-pub fn find_rule(heap: &[u32], text: &[u8], from: &[u8], start: usize, end: usize) -> Found
-    ensures { answered result ≡ rule_found heap.now text.now (part start end from.now) }
+// The constructor, predicate or rule of the rulebook `text` that has a name.
+#[tactic(auto, unfolding(crate::specs::Reading::constructor_found, crate::specs::Reading::predicate_found, crate::specs::Reading::rule_found))]
+pub fn find(heap: &[u32], text: &[u8], section: Section, name: &[u8]) -> Option<u32>
+    ensures { answered result ≡ section_found section heap.now text.now name.now }
 {
-    names::find(heap, places::RULES, places::BUCKETS, text, from, start, end)
+    names::find(heap, section.buckets(), places::BUCKETS, text, name)
 }
 
 // What the symbol at c gives: the address of a sort, or 0 for a judgment.
+#[tactic(auto, unfolding(crate::specs::Reading::output_of))]
 pub fn output(heap: &[u32], c: u32) -> u32
     ensures { result ≡ output_of heap.now c }
 {
@@ -57,6 +48,7 @@ pub fn output(heap: &[u32], c: u32) -> u32
 }
 
 // How many inputs it has.
+#[tactic(auto, unfolding(crate::specs::Reading::arity_of))]
 pub fn arity(heap: &[u32], c: u32) -> u32
     ensures { result ≡ arity_of heap.now c }
 {
@@ -64,6 +56,7 @@ pub fn arity(heap: &[u32], c: u32) -> u32
 }
 
 // The address of its k-th input's sort.
+#[tactic(auto, unfolding(crate::specs::Reading::input_of))]
 pub fn input(heap: &[u32], c: u32, k: u32) -> u32
     ensures { result ≡ input_of heap.now c k }
 {
@@ -71,6 +64,7 @@ pub fn input(heap: &[u32], c: u32, k: u32) -> u32
 }
 
 // Whether a term whose head is the symbol at `head` has the sort of the k-th input of the symbol at c.
+#[tactic(auto, unfolding(crate::specs::Reading::fits_input))]
 pub fn fits_input(heap: &[u32], head: u32, c: u32, k: u32) -> bool
     ensures { result ≡ fits_input heap.now head c k }
 {
@@ -78,6 +72,7 @@ pub fn fits_input(heap: &[u32], head: u32, c: u32, k: u32) -> bool
 }
 
 // How many premises the rule at r has.
+#[tactic(auto, unfolding(crate::specs::Reading::premise_count))]
 pub fn premise_count(heap: &[u32], r: u32) -> u32
     ensures { result ≡ premise_count heap.now r }
 {
@@ -85,6 +80,7 @@ pub fn premise_count(heap: &[u32], r: u32) -> u32
 }
 
 // How many variables it has.
+#[tactic(auto, unfolding(crate::specs::Reading::variable_count))]
 pub fn variable_count(heap: &[u32], r: u32) -> u32
     ensures { result ≡ variable_count heap.now r }
 {
@@ -92,6 +88,7 @@ pub fn variable_count(heap: &[u32], r: u32) -> u32
 }
 
 // Where the words of its premises begin; they stand one behind the other.
+#[tactic(auto, unfolding(crate::specs::Reading::premises_place))]
 pub fn premises(r: u32) -> u32
     ensures { result ≡ premises_place r }
 {
@@ -99,6 +96,7 @@ pub fn premises(r: u32) -> u32
 }
 
 // Where the words of its conclusion begin.
+#[tactic(auto, unfolding(crate::specs::Reading::conclusion_place))]
 pub fn conclusion(heap: &[u32], r: u32) -> u32
     ensures { result ≡ conclusion_place heap.now r }
 {
@@ -106,6 +104,7 @@ pub fn conclusion(heap: &[u32], r: u32) -> u32
 }
 
 // Where its variables stand.
+#[tactic(auto, unfolding(crate::specs::Reading::variables_place))]
 pub fn variables(heap: &[u32], r: u32) -> u32
     ensures { result ≡ variables_place heap.now r }
 {
@@ -113,6 +112,7 @@ pub fn variables(heap: &[u32], r: u32) -> u32
 }
 
 // The address of the sort of its variable v.
+#[tactic(auto, unfolding(crate::specs::Reading::sort_of_variable))]
 pub fn variable_sort(heap: &[u32], r: u32, v: u32) -> u32
     ensures { result ≡ sort_of_variable heap.now r v }
 {
@@ -123,18 +123,12 @@ pub fn variable_sort(heap: &[u32], r: u32, v: u32) -> u32
     )
 }
 
-// The number of its variable that has the name from `start` to `end` in `from`, as the Rust looks for it.
-pub fn find_variable(
-    heap: &[u32],
-    r: u32,
-    text: &[u8],
-    from: &[u8],
-    start: usize,
-    end: usize,
-) -> Found
-    ensures { answered result ≡ variable_found heap.now text.now r (part start end from.now) }
+// The number of its variable that has a name, as the Rust looks for it.
+#[tactic(auto, unfolding(crate::specs::Reading::variable_found))]
+pub fn find_variable(heap: &[u32], r: u32, text: &[u8], name: &[u8]) -> Option<u32>
+    ensures { answered result ≡ variable_found heap.now text.now r name.now }
 {
     let count = variable_count(heap, r);
     let place = variables(heap, r);
-    variables::find_variable(heap, place, count, text, from, start, end)
+    variables::find_variable(heap, place, count, text, name)
 }

@@ -118,7 +118,7 @@ fn longer(s: &[u8], b: u8, c: u8) -> Character
     ensures wide { result.width ≡ width (longer_by c b s.now) }
     ensures valued { result.value ≡ value (longer_by c b s.now) }
 {
-    let second = words::byte(s, 1);
+    let second = words::at(s, 1);
     if c == classes::LEADS_TWO {
         if second / 64 != 2 {
             return Character { width: 0, value: 0 };
@@ -134,7 +134,7 @@ fn longer(s: &[u8], b: u8, c: u8) -> Character
     if classes::high(c) < second {
         return Character { width: 0, value: 0 };
     }
-    let third = words::byte(s, 2);
+    let third = words::at(s, 2);
     if third / 64 != 2 {
         return Character { width: 0, value: 0 };
     }
@@ -144,7 +144,7 @@ fn longer(s: &[u8], b: u8, c: u8) -> Character
             value: three(b, second, third) as u16,
         };
     }
-    let fourth = words::byte(s, 3);
+    let fourth = words::at(s, 3);
     if fourth / 64 != 2 {
         return Character { width: 0, value: 0 };
     }

@@ -1,5 +1,5 @@
 -- Lists after words are copied into them or cleared, place by place. Assumes nothing.
-use Rattle.std.proofs.Common.{◌≡◌, ℕ, zero, suc, ◌+◌, ◌-◌, ◌<◌, ◌≤◌, List, [], ◌∷◌, length, get_or, set, refl, ap, ◌∙◌, arith, length-set, get_or-set_other, get_or-set_same}
+use Rattle.std.proofs.Common.{◌≡◌, ℕ, zero, suc, ◌+◌, ◌-◌, ◌<◌, ◌≤◌, List, [], ◌∷◌, length, get_or, set, refl, ap, ◌∙◌, add_assoc, arith, length-set, get_or-set_other, get_or-set_same}
 use lib.Seq.{set_out}
 use Rattle.words.specs.Parts.{copied, cleared}
 
@@ -39,9 +39,10 @@ module _ (n : ℕ) (s : List ℕ) where
   pub copy_first : (a : List ℕ) (p : ℕ) → copied a p s 0 n ≡ copied a p s 0 (n - 0)
   copy_first a p = let e : n - 0 ≡ n = omega arith in rw e
 
-  pub copy_on : (a : List ℕ) (p j : ℕ) → j < n → copied a p s j (n - j) ≡ copied (set a p (get_or s j 0)) (p + 1) s (j + 1) (n - (j + 1))
+  pub copy_on : (a : List ℕ) (i j w : ℕ) → j < n → w ≡ get_or s j 0
+      → copied (set a (i + j) w) (i + (j + 1)) s (j + 1) (n - (j + 1)) ≡ copied a (i + j) s j (n - j)
   unfolding copied
-  copy_on a p j h = let e : n - j ≡ suc (n - (j + 1)) = omega arith in rw e
+  copy_on a i j w h is = let e : n - j ≡ suc (n - (j + 1)) = omega arith in rw (e, is, ← add_assoc i j 1)
 
   pub copy_end : (a : List ℕ) (p j : ℕ) → n ≤ j → copied a p s j (n - j) ≡ a
   unfolding copied
@@ -51,6 +52,8 @@ pub copied_out : (n : ℕ) (a : List ℕ) (i : ℕ) (s : List ℕ) (j : ℕ) →
 unfolding copied
 copied_out zero a i s j h = refl
 copied_out (suc n) a i s j h = rw (set_out a i (get_or s j 0) h) (copied_out n a (i + 1) s (j + 1) (omega arith))
+
+pub ruleset copying = (copy_first, copy_on, copy_end, copied_out)
 
 pub length-cleared : (n : ℕ) (s : List ℕ) → length (cleared n s) ≡ length s
 unfolding cleared

@@ -2,7 +2,7 @@
 use Rattle.std.specs.Prelude.{ℕ, zero, suc, ◌+◌, Bool, true, false, List, [], ◌∷◌, ◌==◌, slice_index, slice_range, slice_set}
 
 -- What stands from `start` up to `end`, as far as it is there.
-unfoldable pub part : ℕ → ℕ → List ℕ → List ℕ
+unfoldable pub part : {A : Type 0} → ℕ → ℕ → List A → List A
 part start end s = slice_range s start end
 
 -- Whether two byte strings are equal, or two lists of words.

@@ -3,13 +3,16 @@ use Prim.Native.Nat.{ℕ, suc, ◌+◌, ◌≤◌, ◌<◌, min}
 use native.Mathlib.Omega.{arith}
 use native.Mathlib.Nat.{min-eq_left, min-eq_right}
 use mathlib.Core.Path.{◌≡◌, refl, sym, ap, ap₂, ◌∙◌}
-use mathlib.Core.List.{List, [], ◌∷◌, ◌++◌}
+use mathlib.Core.List.{List, [], ◌∷◌, ◌++◌, append_assoc}
 use lib.Dec.{leb}
 use lib.ListN.{length, get_or, set, take, drop}
 use lib.Seq.{sets, length-sets, sets-eq, set_out, get_or-set_other}
 use borrow.Author.Tests.{leb-true, leb-false}
 use Rattle.horn.proofs.Equality.{case}
-use Rattle.horn.specs.Output.{written}
+use Rattle.std.proofs.Common.{◌-◌, length-take, length-drop, replicate}
+use Rattle.std.proofs.lemmas.List.{take-append-drop, take-replicate, length-replicate}
+use borrow.Rule.Slice.PartMut.{put_mid, Post-is}
+use Rattle.horn.specs.Output.{written, spaces}
 use Rattle.writing.specs.Buffer.{placed}
 
 -- Nothing grows or shrinks.
@@ -86,3 +89,38 @@ unfolding placed
 placed_behind start [] out i h = refl
 placed_behind start (b ∷ bytes) out i h =
     placed_behind (suc start) bytes (set out start b) i (omega arith) ∙ get_or-set_other out start i b 0 (λ e. omega arith)
+
+-- As many of the bytes as there is room for, written over the buffer.
+pub placed_cut : (start n : ℕ) (bytes out : List ℕ) → start ≤ length out → n ≡ min (length bytes) (length out - start)
+    → take start out ++ take n bytes ++ drop (start + n) out ≡ placed start bytes out
+placed_cut start n bytes out h e =
+    ap (λ m. take start out ++ take n bytes ++ drop (start + m) out) (sym l)
+    ∙ sym (placed_parts start (take n bytes) out (omega (arith, l)))
+    ∙ sym (nothing_behind (drop n bytes) refl)
+    ∙ placed-append start (take n bytes) (drop n bytes) out
+    ∙ ap (λ (t : List ℕ). placed start t out) (take-append-drop n bytes) where
+      l : length (take n bytes) ≡ n
+      l = length-take n bytes ∙ omega (arith, e, h)
+
+      nothing_behind : (more : List ℕ) → more ≡ drop n bytes
+          → placed (start + length (take n bytes)) more (placed start (take n bytes) out) ≡ placed start (take n bytes) out
+      nothing_behind [] d = placed_none _ _
+      nothing_behind (b ∷ more) d =
+          let left : suc (length more) ≡ length bytes - n = ap length d ∙ length-drop n bytes in
+          placed_out _ (b ∷ more) _ (rw (length-placed start (take n bytes) out, l) (omega arith))
+
+-- The same as the code writes it, into the part that has room.
+pub placed_mid : (start n : ℕ) (bytes out new : List ℕ) → start ≤ length out → n ≡ min (length bytes) (length out - start) → new ≡ take n bytes
+    → put_mid start (start + n - start) out new ≡ placed start bytes out
+placed_mid start n bytes out new h e i =
+    ap₂ (λ (t u : List ℕ). take start out ++ (t ++ u)) i (Post-is start (start + n) out (omega arith))
+    ∙ sym (append_assoc (take start out) (take n bytes) (drop (start + n) out))
+    ∙ placed_cut start n bytes out h e
+
+-- The same where all bytes are spaces.
+pub spaces_mid : (start n m count : ℕ) (out new : List ℕ) → start ≤ length out → n ≡ min count (length out - start) → m ≡ n → new ≡ replicate m 0x20
+    → put_mid start (start + n - start) out new ≡ placed start (spaces count) out
+unfolding spaces
+spaces_mid start n m count out new h e k i =
+    placed_mid start n (replicate count 0x20) out new h (rw (length-replicate {A = ℕ} count 0x20) e)
+    (i ∙ ap (λ (j : ℕ). replicate j 0x20) k ∙ sym (take-replicate n count 0x20 (omega arith)))

@@ -1,39 +1,17 @@
 -- One turn of each loop of this crate. Assumes nothing.
 use Prim.Native.Nat.{ℕ, zero, suc, ◌+◌, ◌-◌, ◌/◌, ◌%◌, ◌≤◌, ◌<◌, min}
-use native.Mathlib.Numerals.{add-one}
 use native.Mathlib.Omega.{arith}
 use mathlib.Core.Path.{◌≡◌, refl, sym, ap, ap₂, ◌∙◌}
 use mathlib.Core.Bool.{true, false}
 use mathlib.Core.List.{List, [], ◌∷◌, ◌++◌, append_assoc, append-nil}
-use lib.ListN.{length, get_or, set, drop, length-set, length-take, drop_of_length-le}
+use lib.ListN.{length, set, drop, length-set, length-take, drop_of_length-le}
 use lib.Seq.{drop-cons, drop-set-lt, get_or-set_same}
 use Rattle.horn.specs.Layout.{plain}
-use Rattle.horn.specs.Output.{spaces, goes_on, cut}
+use Rattle.horn.specs.Output.{goes_on, cut}
 use Rattle.horn.proofs.Output.{cut_inside, cut_here, plain_one, plain_more, plain_long}
-use Rattle.writing.specs.Buffer.{placed}
-use Rattle.writing.proofs.Placed.{placed_none, placed-cons}
 
 one_less : (n : ℕ) → suc n - 1 ≡ n
 one_less n = omega arith
-
--- One byte more, and the last.
-pub bytes_on : (bytes : List ℕ) (p i : ℕ) (out : List ℕ) → i < length bytes
-    → placed p (drop i bytes) out ≡ placed (p + 1) (drop (i + 1) bytes) (set out p (get_or bytes i 0))
-bytes_on bytes p i out h = rw (drop-cons bytes i 0 h, add-one i, add-one p) (placed-cons p (get_or bytes i 0) (drop (suc i) bytes) out)
-
-pub bytes_end : (bytes : List ℕ) (p i : ℕ) (out : List ℕ) → length bytes ≤ i → placed p (drop i bytes) out ≡ out
-bytes_end bytes p i out h = rw (drop_of_length-le bytes h) (placed_none p out)
-
--- One space more, and the last.
-pub spaces_on : (p left : ℕ) (out : List ℕ) → 0 < left → placed p (spaces left) out ≡ placed (p + 1) (spaces (left - 1)) (set out p 0x20)
-unfolding spaces
-spaces_on p zero out h = absurd (omega arith)
-spaces_on p (suc left) out h = rw (add-one p, one_less left) (placed-cons p 0x20 (spaces left) out)
-
-pub spaces_end : (p left : ℕ) (out : List ℕ) → left ≤ 0 → placed p (spaces left) out ≡ out
-unfolding spaces
-spaces_end p zero out h = placed_none p out
-spaces_end p (suc left) out h = absurd (omega arith)
 
 -- One byte back, and where a cut is.
 pub cut_back : (k : ℕ) (name : List ℕ) → 0 < k → goes_on k name ≡ true → cut k name ≡ cut (k - 1) name
@@ -48,6 +26,8 @@ pub cut_nothing : (k : ℕ) (name : List ℕ) → k ≤ 0 → length (cut k name
 unfolding cut
 cut_nothing zero name h = refl
 cut_nothing (suc k) name h = absurd (omega arith)
+
+pub ruleset cutting = (cut_back, cut-length, cut_nothing)
 
 -- A text with one byte more at its end.
 drop-set : (text : List ℕ) (i b : ℕ) → 0 < i → i ≤ length text → drop (i - 1) (set text (i - 1) b) ≡ b ∷ drop i text

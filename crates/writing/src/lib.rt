@@ -1,5 +1,5 @@
 // Texts in a lent buffer, piece by piece. Each writer says what the whole buffer holds afterwards; a byte outside the buffer is not
-// written, so no caller owes room. A single byte is written by `words::put_byte`.
+// written, so no caller owes room. A single byte is written by `words::put`.
 #![tactic(auto)]
 
 ghost use Rattle.std.specs.Prelude.{◌+◌, ◌-◌, ◌≤◌, min, ◌≡◌, length, drop};
@@ -23,65 +23,42 @@ pub fn refused(number: u32) -> Written
 }
 
 // Writes bytes from a place on.
+#[tactic(auto, using(crate::proofs::Placed::placed_out))]
 pub fn put_bytes(out: &mut [u8], at: usize, bytes: &[u8])
     ensures { out.new ≡ placed at bytes.now out.old }
 {
-    let mut p = at;
-    let mut i: usize = 0;
-    while i < bytes.len() {
-        if out.len() <= p {
-            return;
-        }
-        out[p] = bytes[i];
-        p += 1;
-        i += 1;
+    if out.len() <= at {
+        return;
     }
+    let n = bytes.len().min(out.len() - at);
+    out[at..at + n].copy_from_slice(&bytes[..n]);
 }
 
 // Writes spaces from a place on: "all filling is with spaces".
+#[tactic(auto, using(crate::proofs::Placed::placed_out))]
 pub fn fill(out: &mut [u8], at: usize, count: usize)
     ensures { out.new ≡ placed at (output.spaces count) out.old }
 {
-    let mut p = at;
-    let mut left = count;
-    while 0 < left {
-        if out.len() <= p {
-            return;
-        }
-        out[p] = 0x20;
-        p += 1;
-        left -= 1;
+    if out.len() <= at {
+        return;
     }
-}
-
-// What a field has left behind so many bytes of it.
-fn rest(width: usize, bytes: usize) -> usize
-    ensures { result ≡ width - bytes }
-{
-    if width <= bytes {
-        return 0;
-    }
-    width - bytes
+    let n = count.min(out.len() - at);
+    out[at..at + n].fill(0x20);
 }
 
 // The place behind so many bytes, and the buffer's end where it is farther off: so the sum does not wrap, and nothing is written there.
 fn behind(at: usize, bytes: usize, end: usize) -> usize
     ensures { result ≡ min (at + bytes) end }
 {
-    if end < at {
-        return end;
-    }
-    if end - at < bytes {
-        return end;
-    }
-    at + bytes
+    at.saturating_add(bytes).min(end)
 }
 
 // Whether the character before a place of a name goes on there.
+#[tactic(auto, unfolding(horn::specs::Output::goes_on, horn::specs::Utf8::within, horn::specs::Utf8::tail))]
 fn goes_on(name: &[u8], k: usize) -> bool
     ensures { result ≡ output.goes_on k name.now }
 {
-    let b = words::byte(name, k);
+    let b = words::at(name, k);
     if b < 0x80 {
         return false;
     }
@@ -89,18 +66,14 @@ fn goes_on(name: &[u8], k: usize) -> bool
 }
 
 // How many bytes of a name a field shows: it "is cut after the last whole character that fits".
+#[tactic(auto, using(crate::proofs::Turns::cutting))]
 pub fn cut(name: &[u8], width: usize) -> usize
     ensures { result ≡ length (output.cut width name.now) }
 {
-    let mut k = width;
-    while 0 < k {
+    for k in (1..=width).rev() {
         if !goes_on(name, k) {
-            if name.len() < k {
-                return name.len();
-            }
-            return k;
+            return k.min(name.len());
         }
-        k -= 1;
     }
     0
 }
@@ -110,14 +83,15 @@ pub fn put_name(out: &mut [u8], at: usize, width: usize, name: &[u8])
     ensures { out.new ≡ placed at (output.name_field width name.now) out.old }
 {
     let k = cut(name, width);
-    let shown = words::bytes_part(name, 0, k);
+    let shown = words::part(name, 0, k);
     put_bytes(out, at, shown);
     let p = behind(at, k, out.len());
-    let left = rest(width, k);
+    let left = width.saturating_sub(k);
     fill(out, p, left);
 }
 
-// The digits of a number at the end of ten bytes. Answers where they start.
+// The digits of a number at the end of ten bytes, from the last on. Answers where they start. `io` has the same for programs; the library that C links
+// does not name it.
 fn decimal(n: u32, text: &mut [u8]) -> usize
     requires { length text.old ≡ 10 }
     ensures within { result ≤ 10 }
@@ -141,7 +115,7 @@ pub fn put_number(out: &mut [u8], at: usize, width: usize, n: u32)
 {
     let mut text = [0u8; 10];
     let start = decimal(n, &mut text);
-    let left = rest(width, 10 - start);
+    let left = width.saturating_sub(10 - start);
     fill(out, at, left);
     let p = behind(at, left, out.len());
     put_bytes(out, p, &text[start..]);

@@ -18,10 +18,10 @@ unfolding found
 returns-in_default c = sym (c.loop-e.invariant.1.1 ∙ scan_bad c.args.text.now c.loop-e.e c.loop-e.q c.loop-e.invariant.0 c.loop-e-test.true c.if-text-q.false (sym c.line_end-line.ensures ∙ c.in_default.is))
 
 pub loop-e-smaller : goal.loop-e-smaller
-loop-e-smaller c = let s = line_bounds c.args.text.now (length c.args.text.now) c.loop-e.q c.in-Good.next (omega arith) c.if-text-q.false (sym c.line_end-line.ensures ∙ c.in-Good.is) in omega arith
+loop-e-smaller c = let s = line_bounds c.args.text.now (length c.args.text.now) c.loop-e.q c.in-Some.next (omega arith) c.if-text-q.false (sym c.line_end-line.ensures ∙ c.in-Some.is) in omega arith
 
 pub loop-e-preserved : goal.loop-e-preserved
-loop-e-preserved c = let t = scan_on c.args.text.now c.loop-e.e c.loop-e.q c.loop-e.invariant.0 c.in-Good.next c.loop-e.invariant.1.0 c.loop-e-test.true c.if-text-q.false (sym c.line_end-line.ensures ∙ c.in-Good.is) in (t.0, (t.1.0, c.loop-e.invariant.1.1 ∙ t.1.1 ∙ rw (← c.skip_blanks-q-in-loop-e.ensures)))
+loop-e-preserved c = let t = scan_on c.args.text.now c.loop-e.e c.loop-e.q c.loop-e.invariant.0 c.in-Some.next c.loop-e.invariant.1.0 c.loop-e-test.true c.if-text-q.false (sym c.line_end-line.ensures ∙ c.in-Some.is) in (t.0, (t.1.0, c.loop-e.invariant.1.1 ∙ t.1.1 ∙ rw (← c.skip_blanks-q-in-loop-e.ensures)))
 
 pub returns : goal.returns
 returns c = c.token_at.ensures ∙ sym (c.loop-e.invariant.1.1 ∙ scan_token c.args.text.now c.loop-e.e c.loop-e.q c.loop-e.invariant.0 c.loop-e-test.false)

@@ -1,12 +1,8 @@
+use Prim.Native.Nat.{◌≤◌}
 use mathlib.Core.Path.{◌≡◌}
-use Prim.Native.Nat.{◌≤◌, ◌-◌}
-use lib.ListN.{length, drop}
-use Rattle.horn.specs.Checker.{decimal}
-use Rattle.numerals.specs.Numbers.{digits_from}
+use lib.ListN.{drop}
+use Rattle.horn.specs.Checker.{decimal, digits}
 use Rattle.numerals.proofs.digits.Given as goal
 
-abbrev pub invariant-loop-i : goal.invariant-loop-i
-invariant-loop-i l = (digits_from l.name l.from ≡ decimal l.n (drop l.i l.name)) × (l.i ≤ length l.name) × (l.n ≤ 18446744073709551615)
-
-abbrev pub decreases-loop-i : goal.decreases-loop-i
-decreases-loop-i l = length l.name - l.i
+abbrev pub invariant-loop-b : goal.invariant-loop-b
+invariant-loop-b l = (digits l.text ≡ decimal l.n (drop l.b-index l.text)) × (l.n ≤ 18446744073709551615)

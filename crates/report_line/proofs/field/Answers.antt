@@ -10,4 +10,4 @@ pub overflow_add-result : goal.overflow_add-result
 overflow_add-result c = search (rules, at_most_ten _ _ (search rules) c.decimal-k.ensures.len)
 
 pub returns : goal.returns
-returns c = record { text = field-text _ _ _ _ c.decimal-k.ensures.in_bounds.1 c.decimal-k.ensures.len c.decimal-k.ensures.digits _ _ c.put_bytes.ensures c.put_byte.ensures; long = field_long _ _ _ _ c.decimal-k.ensures.in_bounds.1 c.decimal-k.ensures.len c.decimal-k.ensures.digits; few = search (rules, at_most_ten _ _ (search rules) c.decimal-k.ensures.len) }
+returns c = record { text = field-text _ _ _ _ c.decimal-k.ensures.in_bounds.1 c.decimal-k.ensures.len c.decimal-k.ensures.digits _ _ c.put_bytes.ensures c.put.ensures; long = field_long _ _ _ _ c.decimal-k.ensures.in_bounds.1 c.decimal-k.ensures.len c.decimal-k.ensures.digits; few = search (rules, at_most_ten _ _ (search rules) c.decimal-k.ensures.len) }

@@ -1,6 +1,0 @@
-use Rattle.tables.specs.Words.{entered}
-use Rattle.tables.proofs.enter.Goals as goal
-
-pub returns : goal.returns
-unfolding entered
-returns c = rw (c.put.ensures, c.add.ensures)

@@ -1,6 +1,0 @@
-use Rattle.std.proofs.Common.{sym, rules}
-use lib.Seq.{set_out}
-use Rattle.words.proofs.put.Goals as goal
-
-pub returns-else-i-s : goal.returns-else-i-s
-returns-else-i-s c = sym (set_out c.args.s.now c.args.i c.args.v (search rules))
