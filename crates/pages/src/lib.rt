@@ -6,6 +6,7 @@ ghost use Rattle.std.specs.Prelude.{◌*◌, ◌≡◌};
 ghost use Rattle.pages.specs.Pages.{line_at, lines_to, page_from};
 
 use nodes::limits;
+use tables::StepPart;
 
 // The line of goal k: its name, its result's step, and the name of the rule of that step.
 #[tactic(auto, unfolding(crate::specs::Pages::line_at))]
@@ -22,7 +23,7 @@ pub fn goal_line<'a>(
 {
     let e = tables::goal_at(limits::DEF_BUCKETS, k);
     let n = tables::goal_result(table, e);
-    let rule = tables::step_rule(table, n);
+    let rule = tables::step_part(table, n, StepPart::Rule);
     let name = shown_names::shown(false, rulebook, goals, table, e);
     let by = shown_names::shown(true, rulebook, goals, heap, rule);
     page_lines::goal_line(out, k, name, n, by);

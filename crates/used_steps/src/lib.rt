@@ -5,7 +5,8 @@ ghost use Rattle.std.specs.Prelude.{◌≡◌};
 ghost use Rattle.used_steps.specs.Marks.{marked, results_marked, leaned, counted, used_count};
 
 use lex::Reader;
-use nodes::{Numbered, limits};
+use nodes::limits;
+use tables::StepPart;
 
 // Marks the first n steps that an area names.
 #[tactic(auto, using(crate::proofs::Turns::turns))]
@@ -35,14 +36,10 @@ pub fn mark_results(marks: &mut [u32], table: &[u32], n: u32)
 pub fn lean(certificate: &[u8], table: &[u32], refs: &mut [u32], marks: &mut [u32], n: u32)
     ensures { (refs.new, marks.new) ≡ leaned certificate.now table.now n (refs.old, marks.old) }
 {
-    let place = tables::step_place(table, n);
-    let tested = tables::step_tested(table, n);
-    let read = references::references(
-        certificate,
-        refs,
-        Reader::bare(place as usize, tested as usize),
-    );
-    let Numbered::Got(count, _) = read else {
+    let place = tables::step_part(table, n, StepPart::Place);
+    let tested = tables::step_part(table, n, StepPart::Tested);
+    let listed = Reader::bare(place as usize, tested as usize);
+    let Ok((count, _)) = references::references(certificate, refs, listed) else {
         return;
     };
     mark(marks, refs, count);
