@@ -12,3 +12,5 @@ too_long out goals h = lt-ltb _ _ h
 
 pub long_enough_lem : (out : List ℕ) (goals : ℕ) → 65 * (goals + 1) ≤ length out → ltb (length out) (65 * (goals + 1)) ≡ false
 long_enough_lem out goals h = le-ltb _ _ h
+
+pub ruleset room = (too_long, long_enough_lem)

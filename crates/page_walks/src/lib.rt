@@ -2,16 +2,19 @@
 #![tactic(auto)]
 
 ghost use Rattle.std.specs.Prelude.{◌≡◌, length, replicate};
+ghost use Rattle.checker.specs.Below.outcomes.specs.Told.{told};
 ghost use Rattle.checker.specs.Checker as checking;
-ghost use Rattle.writing.specs.Answers.{told};
+ghost use Rattle.writing.specs.Answers.{told as written};
 ghost use Rattle.page_walks.specs.Walks.{answered, page_by};
 
-use checker::Checked;
+use checker::Counts;
+use outcomes::Refusal;
 use writing::Written;
 
 // What is answered of what the walks answer: L2: "31, output longer than the lent buffer, after all of 1 to 29, nothing written".
+#[tactic(auto, using(crate::proofs::Room::room), unfolding(crate::specs::Walks::answered))]
 pub fn answer<'a>(
-    checked: Checked,
+    checked: Result<Counts, Refusal>,
     rulebook: &'a [u8],
     text: &'a [u8],
     certificate: &[u8],
@@ -21,16 +24,16 @@ pub fn answer<'a>(
     heap: &[u32],
     out: &mut [u8],
 ) -> Written
-    ensures { (told result out.new, store.new, stack.new)
-        ≡ answered (checking.checked checked) rulebook.now text.now certificate.now table.now heap.now
+    ensures { (written result out.new, store.new, stack.new)
+        ≡ answered (told checked) rulebook.now text.now certificate.now table.now heap.now
         store.old stack.old out.old }
 {
     match checked {
-        Checked::Refused(n) => writing::refused(n),
-        Checked::Accepted(c) => {
+        Err(refusal) => writing::refused(refusal.number()),
+        Ok(c) => {
             let bytes = page_lines::LINE * (c.goals as usize + 1);
             if out.len() < bytes {
-                return writing::refused(31);
+                return writing::refused(Refusal::OutputLong.number());
             }
             pages::page(
                 rulebook,
@@ -63,7 +66,7 @@ pub fn page<'a>(
     d: &mut [u32],
     out: &mut [u8],
 ) -> Written
-    ensures output { told result out.new
+    ensures output { written result out.new
         ≡ page_by rulebook.now goals.now certificate.now
         (checking.check rulebook.now goals.now certificate.now
         a.old b.old c.old d.old) out.old }

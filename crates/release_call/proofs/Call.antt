@@ -1,11 +1,12 @@
 -- The call with three texts, case by case as the code goes, demand 3 of it, and request L4 of document 02. Assumes nothing.
-use Prim.Native.Nat.{ℕ, ◌≤◌}
+use Prim.Native.Nat.{ℕ}
 use mathlib.Core.Path.{◌≡◌, sym, ap, ◌∙◌}
-use mathlib.Core.Bool.{true}
+use mathlib.Core.Bool.{Bool, true, false}
 use mathlib.Core.List.{List, ◌++◌}
 use lib.ListN.{length, take, drop, replicate}
 use lib.Seq.{length-take-le}
-use Rattle.horn.specs.Refusals.{Result, refused, number, area_short, text_long, ◌>>=◌}
+use Rattle.std.proofs.Common.{true≢false}
+use Rattle.horn.specs.Refusals.{Result, number, ◌>>=◌}
 use Rattle.horn.specs.Setting.{document01}
 use Rattle.horn.specs.Calls as calls
 use Rattle.horn.specs.Calls.{report, Release, release_read, release_judged, release_answer, release_call, called, leaving, release_left}
@@ -15,12 +16,13 @@ use Rattle.horn.proofs.Soundness.{sound}
 use Rattle.horn.proofs.Complete.{complete_01}
 use Rattle.horn.proofs.Longer.{longer_kept}
 use Rattle.reports.specs.Below.checker.specs.Checker as walk
-use Rattle.reports.specs.Below.checker_laws.proofs.Lengths.{read_judged}
+use Rattle.reports.specs.Below.checker.specs.Below.outcomes.specs.Outcomes as outcomes
 use Rattle.reports.proofs.ReleaseReported.{reported, release_reported}
-use Rattle.clearing.specs.Lengths.{area_words, long_enough}
+use Rattle.reports.proofs.Lengths.{Tested, by_area, by_text, passed, call_tested, tested, passed_of}
+use Rattle.clearing.specs.Lengths.{area_words}
 use Rattle.reports.specs.Release.{released_by, told}
 use Rattle.reports.specs.declared.Report.{Report}
-use Rattle.clearing.proofs.Areas.{Long, untouched_short, untouched_long, all_cleared}
+use Rattle.clearing.proofs.Areas.{untouched_short, untouched_long, all_cleared}
 
 -- What the call ensures: it is the definition's call, report and areas; demand 3; and that an old release is kept under a longer rulebook.
 abbrev Ensured : calls.Report → List ℕ → List ℕ → List ℕ → List ℕ → List ℕ → List ℕ → List ℕ → List ℕ → List ℕ → List ℕ → List ℕ → Type 0
@@ -61,31 +63,36 @@ module _ (rulebook goals certificate a b c d : List ℕ) where
   read_reported e = ap (λ (m : Result Release). reported (length certificate) m) e
 
   -- 1, by the areas, and 2, by a text.
-  pub area_short_lem : (r : Report) → call_read ≡ refused area_short → Refused 1 r → Ensured (told r) rulebook goals certificate a b c d a b c d
+  by_length : (r : Report) {n : ℕ} → Refused n r → Tested (length a) (length b) (length c) (length d) rulebook goals certificate
+      → call_tested (length a) (length b) (length c) (length d) rulebook goals certificate ≡ outcomes.refused n
+      → Ensured (told r) rulebook goals certificate a b c d a b c d
   unfolding ◌>>=◌ release_answer number
-  area_short_lem r e is = rw is (is_called (report 1 0 0 0 0 0) a b c d (read_reported e) (untouched_short _ a b c d))
+  by_length r {n} is (by_area t m) e = let z : n ≡ 1 = cc in rw (is, z) (is_called (report 1 0 0 0 0 0) a b c d (read_reported m) (untouched_short _ a b c d))
+  by_length r {n} is (by_text t m) e = let z : n ≡ 2 = cc in rw (is, z) (is_called (report 2 0 0 0 0 0) a b c d (read_reported m) (untouched_long _ a b c d))
+  by_length r is (passed t p) e = let z : ◌≡◌ {A = Bool} true false = cc in absurd (true≢false z)
 
-  pub text_long_lem : (r : Report) → call_read ≡ refused text_long → Refused 2 r → Ensured (told r) rulebook goals certificate a b c d a b c d
-  unfolding ◌>>=◌ release_answer number
-  text_long_lem r e is = rw is (is_called (report 2 0 0 0 0 0) a b c d (read_reported e) (untouched_long _ a b c d))
+  pub refused_by_length : (r : Report) {n : ℕ} → Refused n r
+      → call_tested (length a) (length b) (length c) (length d) rulebook goals certificate ≡ outcomes.refused n
+      → Ensured (told r) rulebook goals certificate a b c d a b c d
+  refused_by_length r is e = by_length r is (tested (length a) (length b) (length c) (length d) rulebook goals certificate) e
 
 -- Every other answer: the first 16,384 words of each area were lent to the walks, then cleared.
 pub release_judged_lem : (rulebook goals certificate a b c d : List ℕ) (r : Report) (a' b' c' d' : List ℕ)
-    → long_enough (length a) (length b) (length c) (length d) ≡ true → Long (length a) (length b) (length c) (length d)
-    → length rulebook ≤ 8192 → length goals ≤ 8192 → length certificate ≤ 32768
+    → call_tested (length a) (length b) (length c) (length d) rulebook goals certificate ≡ outcomes.ok tt
     → r ≡ released_by (length certificate) (walk.check rulebook goals certificate (take area_words a) (take area_words b) (take area_words c) (take area_words d))
     → a' ≡ replicate (length (take area_words a)) 0
     → b' ≡ replicate (length (take area_words b)) 0
     → c' ≡ replicate (length (take area_words c)) 0
     → d' ≡ replicate (length (take area_words d)) 0
     → Ensured (told r) rulebook goals certificate a b c d (a' ++ drop area_words a) (b' ++ drop area_words b) (c' ++ drop area_words c) (d' ++ drop area_words d)
-release_judged_lem rulebook goals certificate a b c d r a' b' c' d' enough l short_rulebook short_goals short is ea eb ec ed =
+release_judged_lem rulebook goals certificate a b c d r a' b' c' d' e is ea eb ec ed =
+    let p = passed_of (length a) (length b) (length c) (length d) rulebook goals certificate e in
+    let l = p.areas in
     let z =
-    release_reported rulebook goals certificate short_rulebook short_goals short (take area_words a) (take area_words b) (take area_words c) (take area_words d)
+    release_reported rulebook goals certificate p.short_rulebook p.short_goals p.short (take area_words a) (take area_words b) (take area_words c) (take area_words d)
     (length-take-le area_words a l.first) (length-take-le area_words b l.second)
     (length-take-le area_words c l.third) (length-take-le area_words d l.fourth) in
     let n = ap (λ (q : Report). q.number) is in
     is_called rulebook goals certificate a b c d (told r) (a' ++ drop area_words a) (b' ++ drop area_words b) (c' ++ drop area_words c) (d' ++ drop area_words d)
-    (read_reported rulebook goals certificate a b c d (read_judged (length a) (length b) (length c) (length d) rulebook goals certificate enough short_rulebook short_goals short)
-    ∙ z.same ∙ ap (λ (q : Report). told q) (sym is))
+    (read_reported rulebook goals certificate a b c d p.read ∙ z.same ∙ ap (λ (q : Report). told q) (sym is))
     (all_cleared (told r) r.number a b c d a' b' c' d' (λ h. z.not_1 (sym n ∙ h)) (λ h. z.not_2 (sym n ∙ h)) l ea eb ec ed)

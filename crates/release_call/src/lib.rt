@@ -11,6 +11,7 @@ ghost use Rattle.reports.specs.Release.{told};
 use reports::Report;
 
 // "The other takes three texts and answers a number, steps, goals, terms, bytes." L1: "a fifth count, nodes requested".
+#[tactic(auto, using(reports::proofs::Lengths::lengths_right))]
 pub fn release(
     rulebook: &[u8],
     goals: &[u8],
@@ -29,26 +30,25 @@ pub fn release(
     ensures kept { Kept document01 (length a.old) (length b.old) (length c.old) (length d.old)
         rulebook.now goals.now certificate.now (told result) }
 {
-    if !clearing::long_enough(a.len(), b.len(), c.len(), d.len()) {
-        return reports::unreleased(1);
-    }
-    if clearing::TEXT_BYTES < rulebook.len() {
-        return reports::unreleased(2);
-    }
-    if clearing::TEXT_BYTES < goals.len() {
-        return reports::unreleased(2);
-    }
-    if clearing::CERTIFICATE_BYTES < certificate.len() {
-        return reports::unreleased(2);
-    }
-    walks::check(
+    match reports::check_lengths(
         rulebook,
         goals,
         certificate,
-        certificate.len() as u32,
-        &mut a[..clearing::AREA_WORDS],
-        &mut b[..clearing::AREA_WORDS],
-        &mut c[..clearing::AREA_WORDS],
-        &mut d[..clearing::AREA_WORDS],
-    )
+        a.len(),
+        b.len(),
+        c.len(),
+        d.len(),
+    ) {
+        Err(refusal) => Report::from(refusal),
+        Ok(()) => walks::check(
+            rulebook,
+            goals,
+            certificate,
+            certificate.len() as u32,
+            &mut a[..clearing::AREA_WORDS],
+            &mut b[..clearing::AREA_WORDS],
+            &mut c[..clearing::AREA_WORDS],
+            &mut d[..clearing::AREA_WORDS],
+        ),
+    }
 }

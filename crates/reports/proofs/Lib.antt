@@ -1,1 +1,2 @@
 pub mod ReleaseReported
+pub mod Lengths

@@ -1,2 +1,3 @@
 pub mod Below
 pub mod Release
+pub mod Lengths

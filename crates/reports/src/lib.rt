@@ -1,11 +1,13 @@
-// What the call with three texts reports of what the walks answer.
+// What the call with three texts reports of what the walks answer, and the lengths that the calls with three texts ask for.
 #![tactic(auto)]
 
-ghost use Rattle.std.specs.Prelude.{◌≡◌};
-ghost use Rattle.checker.specs.Checker as checking;
+ghost use Rattle.std.specs.Prelude.{◌≡◌, length};
+ghost use Rattle.outcomes.specs.Told.{number, told};
+ghost use Rattle.reports.specs.Lengths.{lengths_tested};
 ghost use Rattle.reports.specs.Release.{released};
 
-use checker::Checked;
+use checker::Counts;
+use outcomes::Refusal;
 
 // A number, the counts of a release, and the certificate's length.
 #[repr(C)]
@@ -20,26 +22,29 @@ pub struct Report {
 }
 
 // "A refusal has zero counts."
-pub fn unreleased(number: u32) -> Report
-    ensures { result ≡ record { number = number; steps = 0; goals = 0; terms = 0; bytes = 0; requested = 0 } }
-{
-    Report {
-        number,
-        steps: 0,
-        goals: 0,
-        terms: 0,
-        bytes: 0,
-        requested: 0,
+impl From<Refusal> for Report {
+    ghost from_gives = { λ refusal report. report
+        ≡ record { number = number refusal; steps = 0; goals = 0; terms = 0; bytes = 0; requested = 0 } };
+
+    fn from(refusal: Refusal) -> Report {
+        Report {
+            number: refusal.number(),
+            steps: 0,
+            goals: 0,
+            terms: 0,
+            bytes: 0,
+            requested: 0,
+        }
     }
 }
 
 // What is reported of what the walks over three texts answer.
-pub fn accepted(checked: Checked, bytes: u32) -> Report
-    ensures { result ≡ released bytes (checking.checked checked) }
+pub fn accepted(checked: Result<Counts, Refusal>, bytes: u32) -> Report
+    ensures { result ≡ released bytes (told checked) }
 {
     match checked {
-        Checked::Refused(number) => unreleased(number),
-        Checked::Accepted(c) => Report {
+        Err(refusal) => Report::from(refusal),
+        Ok(c) => Report {
             number: 0,
             steps: c.steps,
             goals: c.goals,
@@ -48,4 +53,33 @@ pub fn accepted(checked: Checked, bytes: u32) -> Report
             requested: c.requested,
         },
     }
+}
+
+// "Order: area lengths, text lengths": 1 where one of four areas is too short, 2 where one of three texts is too long.
+#[tactic(auto, unfolding(crate::specs::Lengths::lengths_tested))]
+pub fn check_lengths(
+    rulebook: &[u8],
+    goals: &[u8],
+    certificate: &[u8],
+    a: usize,
+    b: usize,
+    c: usize,
+    d: usize,
+) -> Result<(), Refusal>
+    ensures { told result
+        ≡ lengths_tested a b c d (length rulebook.now) (length goals.now) (length certificate.now) }
+{
+    if !clearing::long_enough(a, b, c, d) {
+        return Err(Refusal::AreaShort);
+    }
+    if clearing::TEXT_BYTES < rulebook.len() {
+        return Err(Refusal::TextLong);
+    }
+    if clearing::TEXT_BYTES < goals.len() {
+        return Err(Refusal::TextLong);
+    }
+    if clearing::CERTIFICATE_BYTES < certificate.len() {
+        return Err(Refusal::TextLong);
+    }
+    Ok(())
 }

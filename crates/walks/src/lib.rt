@@ -1,4 +1,5 @@
-// The walks over three texts, with the areas cleared behind them.
+// The walks over three texts, with the areas cleared behind them. Crate `page_walks` does the same with a page: it has two calls of this in
+// common, and writes between them from what the areas hold.
 #![tactic(auto)]
 
 ghost use Rattle.std.specs.Prelude.{◌≡◌, length, replicate};
