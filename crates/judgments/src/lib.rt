@@ -37,7 +37,7 @@ pub fn headed_judgment(
 }
 
 // A judgment, asked for with that much depth left.
-#[tactic(auto, using(crate::proofs::Turns::judgment_within), unfolding(crate::specs::Judgments::judgment))]
+#[tactic(auto, unfolding(crate::specs::Judgments::judgment))]
 pub fn judgment(
     text: &[u8],
     rules: &[u8],
