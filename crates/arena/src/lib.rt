@@ -1,4 +1,5 @@
-// Nodes, each stored once and named by its number, in one lent area. The limits are a parameter, and any area is survived.
+// Nodes, each stored once and named by its number, in one lent area. The limits are a parameter, and any area is survived. Memory is fixed, so all that
+// the index and the nodes have are words of the area, with 0 for a free place.
 #![tactic(auto)]
 
 ghost use Rattle.std.specs.Prelude.{◌≡◌, ℕ, ◌+◌, ◌%◌, ◌^◌, ◌<◌, get_or};

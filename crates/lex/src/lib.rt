@@ -61,7 +61,7 @@ fn token_at(text: &[u8], end: usize, p: usize) -> Scanned
     Scanned::Bad
 }
 
-// The next token; a line is tested when it is first needed.
+// The next token; a line is tested when it is first needed. A turn goes over a line, as wide as it is, so that no `for` can count it.
 fn scan(text: &[u8], end: usize, p: usize) -> Scanned
     ensures { found result ≡ scanned (suc (length text.now)) text.now end p }
 {

@@ -1,4 +1,6 @@
-// Where the parts of a line end: white space and comments, an atom, the line itself.
+// Where the parts of a line end: white space and comments, an atom, the line itself. No loop counts an index: a character is one to four bytes wide.
+// The three stay apart, since each ends in its own way (a comment runs to its line's end, an atom goes by three bytes where it can, a line is tested):
+// one loop over a closure would have the cases of all.
 #![tactic(auto)]
 
 ghost use Rattle.std.specs.Prelude.{◌≡◌, suc, length};

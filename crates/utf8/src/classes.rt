@@ -1,4 +1,5 @@
-// The table of byte classes.
+// The table of byte classes. They are numbers, no enum: they are the digits of the table of 256 that the paper asks for, and one comparison with
+// `NEVER` parts the characters of one byte from all else.
 ghost use Rattle.std.specs.Prelude.{◌≡◌, get_or};
 ghost use Rattle.utf8.specs.Classes.{rows, class_of, low_of, high_of};
 

@@ -10,14 +10,14 @@ ghost use Rattle.utf8.specs.Characters.{first, longer_by, by_class, plain_value,
 pub mod classes;
 
 // A character's width in bytes, 0 where there is none, and its value in 16 bits: 0 for one of four bytes, which lies above FFFF and is
-// not put together.
+// not put together. Width 0 says that there is none, as in the model: an Option would have to promise beside it that no width is 0.
 #[derive(Drop)]
 pub struct Character {
     pub width: usize,
     pub value: u16,
 }
 
-// The number of a character's kind, and its width.
+// The number of a character's kind, and its width. `NEVER` is a class of bytes and, as a kind, no character: an Option would say it a second time.
 #[derive(Drop)]
 pub struct Seen {
     pub kind: u8,
@@ -210,6 +210,7 @@ pub const LAST_WHITE: u32 = 0x3000;
 
 // The value of the first character where its first byte, of class c, is one of E1 to EC, EE and EF; 0 for any other, and where there is none.
 // Their second and third bytes are of one range, so that these few tests pass over most characters of three bytes.
+// A number, no Option: one comparison with `LAST_WHITE` tells both that there is such a character and that it is no white space.
 pub fn plain_three(s: &[u8], c: u8) -> u32
     ensures { result ≡ plain_value c s.now }
 {

@@ -100,7 +100,8 @@ pub fn same_bytes(a: &[u8], start: usize, end: usize, b: &[u8], from: usize, to:
     part(a, start, end) == part(b, from, to)
 }
 
-// Copies the first n words of `from` to place i of `to`, as far as that goes on.
+// Copies the first n words of `from` to place i of `to`, as far as that goes on: 0 where `from` has ended, which the library's copy between equal
+// lengths, as `writing` uses it, has not.
 #[tactic(auto, using(crate::proofs::Writing::copying))]
 pub fn copy(to: &mut [u32], i: usize, from: &[u32], n: usize)
     ensures { to.new ≡ copied to.old i from.now 0 n }
@@ -122,7 +123,7 @@ pub fn clear(s: &mut [u32], n: usize)
     s[..end].fill(0);
 }
 
-// A sum in 32 bits. Those that a text asks for never wrap.
+// A sum in 32 bits. Those that a text asks for never wrap. In place of the method, since its promise is the model's sum, which stays shut above.
 #[tactic(auto, unfolding(crate::specs::Sums::sum32))]
 pub fn plus(a: u32, b: u32) -> u32
     ensures { result ≡ sum32 a b }

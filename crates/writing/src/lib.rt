@@ -91,7 +91,7 @@ pub fn put_name(out: &mut [u8], at: usize, width: usize, name: &[u8])
 }
 
 // The digits of a number at the end of ten bytes, from the last on. Answers where they start. `io` has the same for programs; the library that C links
-// does not name it.
+// does not name it. A turn takes a digit off the number, however many it has.
 fn decimal(n: u32, text: &mut [u8]) -> usize
     requires { length text.old ≡ 10 }
     ensures within { result ≤ 10 }
