@@ -13,7 +13,7 @@ use release_files::{Buffers, Three};
 use std::rt::Files;
 use writing::Written;
 
-// The call over areas just long enough.
+// The call over areas just long enough. One for both programs would take a closure over four areas, which is no plainer than these lines.
 fn call(texts: Three<&[u8]>, out: &mut [u8]) -> Written
     ensures { told result out.new
         ≡ page_call document01 16384 16384 16384 16384 texts.entry.rulebook.now texts.entry.goals.now texts.entry.certificate.now out.old }

@@ -111,7 +111,7 @@ pub fn read<'a>(rt: &(impl Files + Eprint), name: &[u8], buffer: &'a mut [u8]) -
     }
 }
 
-// The call over areas just long enough.
+// The call over areas just long enough. One for both programs would take a closure over four areas, which is no plainer than these lines.
 fn call(texts: Three<&[u8]>) -> Report
     ensures { told result
         ≡ release_call document01 16384 16384 16384 16384 texts.entry.rulebook.now texts.entry.goals.now texts.entry.certificate.now }

@@ -65,7 +65,7 @@ fn missing(rt: &(impl Files + Print + Eprint)) -> io::Result<()> {
     rulebook(rt, "no rulebook.txt", b"none/rulebook.txt")?;
     goals(rt, "no goals.txt", b"none/goals.txt")?;
     proof(rt, "no proof.txt", b"none/proof.txt")?;
-    let none = Three {
+    let none: Names = Three {
         rulebook: b"none/rulebook.txt",
         goals: b"none/goals.txt",
         certificate: b"none/proof.txt",
@@ -75,13 +75,13 @@ fn missing(rt: &(impl Files + Print + Eprint)) -> io::Result<()> {
 
 // 30 comes before all else.
 fn missing_first(rt: &(impl Files + Print + Eprint)) -> io::Result<()> {
-    let refused = Three {
+    let refused: Names = Three {
         rulebook: b"refused/rulebook.txt",
         certificate: b"none/proof.txt",
         ..BENCH
     };
     show(rt, "no proof.txt, rulebook refused", refused)?;
-    let long = Three {
+    let long: Names = Three {
         rulebook: b"long/rulebook.txt",
         goals: b"none/goals.txt",
         ..BENCH
@@ -101,7 +101,7 @@ fn at_limits(rt: &(impl Files + Print + Eprint)) -> io::Result<()> {
     rulebook(rt, "rulebook of 8,192 bytes", b"limit/rulebook.txt")?;
     goals(rt, "goals of 8,192 bytes", b"limit/goals.txt")?;
     proof(rt, "certificate of 32,768 bytes", b"limit/proof.txt")?;
-    let limit = Three {
+    let limit: Names = Three {
         rulebook: b"limit/rulebook.txt",
         goals: b"limit/goals.txt",
         certificate: b"limit/proof.txt",
@@ -115,7 +115,7 @@ fn too_long(rt: &(impl Files + Print + Eprint)) -> io::Result<()> {
     goals(rt, "goals of 8,193 bytes", b"long/goals.txt")?;
     proof(rt, "certificate of 32,769 bytes", b"long/proof.txt")?;
     proof(rt, "certificate of 100,000 bytes", b"longer/proof.txt")?;
-    let refused = Three {
+    let refused: Names = Three {
         rulebook: b"refused/rulebook.txt",
         certificate: b"long/proof.txt",
         ..BENCH
@@ -128,7 +128,7 @@ fn folders(rt: &(impl Files + Print + Eprint)) -> io::Result<()> {
     rulebook(rt, "rulebook.txt a folder", b"folder/rulebook.txt")?;
     goals(rt, "goals.txt a folder", b"folder/goals.txt")?;
     proof(rt, "proof.txt a folder", b"folder/proof.txt")?;
-    let long = Three {
+    let long: Names = Three {
         rulebook: b"long/rulebook.txt",
         certificate: b"folder/proof.txt",
         ..BENCH
