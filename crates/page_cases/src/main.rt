@@ -28,7 +28,8 @@ fn lend(case: &Case, room: u32, out: &mut [u8]) -> Result<Answer, Fault> {
     )
 }
 
-// What a case answers over a buffer of so many bytes. "A release that is refused writes no byte."
+// What a case answers over a buffer of so many bytes. "A release that is refused writes no byte." The buffer is an array, so that no memory can be
+// missing.
 fn answered(case: &Case, room: u32) -> Result<Answer, Fault> {
     let mut out = [0u8; 48640];
     buffers::fill(&mut out);

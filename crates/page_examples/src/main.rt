@@ -22,7 +22,7 @@ fn lend(room: usize, texts: Texts<'_>, out: &mut [u8]) -> Result<Answer, Fault> 
     )
 }
 
-// Writes what the call answers over so many bytes of a buffer, and the page.
+// Writes what the call answers over so many bytes of a buffer, and the page. The buffer is an array, so that no memory can be missing.
 fn show<R: Print>(rt: &R, label: &str, room: usize, texts: Texts<'_>) -> io::Result<()> {
     let mut out = [0u8; 512];
     buffers::fill(&mut out);
