@@ -1,6 +1,8 @@
 // Answers of the calls, what was wrong with one, and how programs write and compare them.
 #![tactic(auto)]
 
+ghost use Rattle.std.specs.Prelude.{◌<◌, ◌≡◌, IfErr, IfOk};
+
 use std::fmt;
 
 // Which call an answer is of.
@@ -51,21 +53,52 @@ pub fn cleared(number: u32) -> usize {
     }
 }
 
-// What was wrong: a case lends more than there is, or the areas, or the buffer, are not as they must be after the answer.
+// What was wrong: a case lends more than there is, so that no call is made; or the areas, the buffer or both are not as they must be after the
+// answer.
 #[derive(Clone, Copy, PartialEq, Eq)]
 pub enum Fault {
-    TooLong,
+    TooLong(Call),
     Areas(Answer),
     Buffer(Answer),
+    Both(Answer),
 }
 
+// A line for each thing that is wrong, which programs write above the answer. A case that lends too much has none.
 impl fmt::Display for Fault {
     fn fmt<W: fmt::Write>(&self, f: &mut fmt::Formatter<W>) -> fmt::Result {
         match self {
-            Fault::TooLong => write!(f, " nothing, since it lends too much"),
-            Fault::Areas(answer) => write!(f, "{answer}, areas wrong"),
-            Fault::Buffer(answer) => write!(f, "{answer}, buffer wrong"),
+            Fault::TooLong(_) => write!(f, ""),
+            Fault::Areas(_) => write!(f, "areas wrong\n"),
+            Fault::Buffer(_) => write!(f, "buffer wrong\n"),
+            Fault::Both(_) => write!(f, "areas wrong\nbuffer wrong\n"),
         }
+    }
+}
+
+// What programs write for an answer: itself, or for a fault a number that no call gives, with the counts as they came.
+pub fn written(seen: Result<Answer, Fault>) -> Answer
+    ensures answer { IfOk seen (λ answer. result ≡ answer) }
+    ensures fault { IfErr seen (λ fault. 96 < result.number) }
+{
+    match seen {
+        Ok(answer) => answer,
+        Err(Fault::TooLong(call)) => Answer {
+            call,
+            number: 98,
+            counts: [0; 5],
+        },
+        Err(Fault::Areas(answer)) => Answer {
+            number: 99,
+            ..answer
+        },
+        Err(Fault::Buffer(answer)) => Answer {
+            number: 97,
+            ..answer
+        },
+        Err(Fault::Both(answer)) => Answer {
+            number: 97,
+            ..answer
+        },
     }
 }
 
@@ -81,10 +114,8 @@ impl<'a> fmt::Display for Difference<'a> {
     fn fmt<W: fmt::Write>(&self, f: &mut fmt::Formatter<W>) -> fmt::Result {
         let word = self.word;
         let due = self.due;
-        match self.seen {
-            Ok(answer) => write!(f, ": {word}{due}, answered{answer}"),
-            Err(fault) => write!(f, ": {word}{due}, answered{fault}"),
-        }
+        let seen = written(self.seen);
+        write!(f, ": {word}{due}, answered{seen}")
     }
 }
 

@@ -66,7 +66,7 @@ fn word_due(i: usize, n: usize, w: u32) -> u32
     if i < n { 0 } else { w }
 }
 
-// Whether the first n words are 0 and every later one is as `fill` left it.
+// Whether the first n words are 0 and every later one is as `fill` left it. Not one with `buffers::holds`, for the same reason as `fill`.
 #[tactic(auto, using(crate::proofs::Turns::holds), unfolding(crate::specs::Filling::area_held))]
 pub fn holds(s: &[u32], n: usize, first: u32, step: u32) -> bool
     ensures { result ≡ area_held n first step s.now }

@@ -38,7 +38,7 @@ fn byte_due(i: usize, from: usize, text: &[u8]) -> u8
     byte_before(i)
 }
 
-// Whether the text stands from that place on and every other byte is as `fill` left it.
+// Whether the text stands from that place on and every other byte is as `fill` left it. Not one with `areas::holds`, for the same reason as `fill`.
 #[tactic(auto, using(crate::proofs::Turns::holds), unfolding(crate::specs::Filling::buffer_held))]
 pub fn holds(out: &[u8], from: usize, text: &[u8]) -> bool
     ensures { result ≡ buffer_held from text.now out.now }
@@ -51,11 +51,20 @@ pub fn holds(out: &[u8], from: usize, text: &[u8]) -> bool
     true
 }
 
-// The answer of a call that writes, or a fault where it has not written this text, or another length, or another byte of the buffer.
-pub fn with_buffer(answer: Answer, out: &[u8], from: usize, text: &[u8]) -> Result<Answer, Fault> {
-    if answer.counts[0] as usize == text.len() && holds(out, from, text) {
-        Ok(answer)
-    } else {
-        Err(Fault::Buffer(answer))
+// What came of a call that writes; a fault too where it has not written this text, or another length, or another byte of the buffer.
+pub fn with_buffer(
+    seen: Result<Answer, Fault>,
+    out: &[u8],
+    from: usize,
+    text: &[u8],
+) -> Result<Answer, Fault> {
+    let length = answers::written(seen).counts[0] as usize;
+    if length == text.len() && holds(out, from, text) {
+        return seen;
+    }
+    match seen {
+        Ok(answer) => Err(Fault::Buffer(answer)),
+        Err(Fault::Areas(answer)) => Err(Fault::Both(answer)),
+        Err(fault) => Err(fault),
     }
 }

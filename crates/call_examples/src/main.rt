@@ -41,12 +41,14 @@ fn judge(case: Case<'_>) -> Result<Answer, Fault> {
 
 // Writes what a case answers, and what it did to the areas.
 fn show<R: Print>(rt: &R, label: &str, seen: Result<Answer, Fault>) -> io::Result<()> {
-    match seen {
-        Ok(answer) if answers::cleared(answer.number) == 0 => {
-            println!(rt; "{label}:{answer} untouched")
-        }
-        Ok(answer) => println!(rt; "{label}:{answer} cleared"),
-        Err(fault) => println!(rt; "{label}:{fault}"),
+    if let Err(fault) = seen {
+        print!(rt; "{fault}")?;
+    }
+    let answer = answers::written(seen);
+    if answers::cleared(answer.number) == 0 {
+        println!(rt; "{label}:{answer} untouched")
+    } else {
+        println!(rt; "{label}:{answer} cleared")
     }
 }
 

@@ -63,6 +63,9 @@ fn main(rt: HostRuntime) -> io::Result<()> {
         let difference = judge(case);
         if let Some(difference) = difference {
             let label = case.label;
+            if let Err(fault) = difference.seen {
+                print!(rt; "{fault}")?;
+            }
             println!(rt; "{label}{difference}")?;
         }
         tally = tally.and(difference.is_some());

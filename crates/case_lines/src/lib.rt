@@ -6,7 +6,7 @@ use answers::{Answer, Call};
 use areas::Lengths;
 use arrayvec::ArrayVec;
 use case_text::make;
-use std::fmt;
+use std::{fmt, io};
 
 // The case at hand: its three texts, its page and the lengths of its four areas.
 #[derive(Drop)]
@@ -67,34 +67,42 @@ pub fn counted(tally: Tally, as_stated: bool) -> Tally {
     }
 }
 
-// The numbers of a line, a space between them. Where they are left out they are 0.
-fn numbers<const N: usize>(rest: &str) -> [u32; N] {
+// A line that is none of a list. No program goes on behind it, so that no error in writing a list is passed over.
+fn no_line() -> io::Error {
+    io::Error::new(io::ErrorKind::InvalidData, "a line that is none of a list")
+}
+
+// The numbers of a line, a space between them. Where they are left out behind the first they are 0.
+fn numbers<const N: usize>(rest: &str) -> io::Result<[u32; N]> {
     let mut numbers = [0; N];
     for (number, digits) in numbers.iter_mut().zip(rest.split(' ')) {
-        *number = digits.parse().unwrap_or(0);
+        let Ok(value) = digits.parse() else {
+            return Err(no_line());
+        };
+        *number = value;
     }
-    numbers
+    Ok(numbers)
 }
 
 // A number, and the counts behind it: five for three texts, four for a rulebook alone, one for a page.
-pub fn stated(call: Call, rest: &str) -> Answer {
-    let [number, first, second, third, fourth, fifth] = numbers::<6>(rest);
-    Answer {
+pub fn stated(call: Call, rest: &str) -> io::Result<Answer> {
+    let [number, first, second, third, fourth, fifth] = numbers::<6>(rest)?;
+    Ok(Answer {
         call,
         number,
         counts: [first, second, third, fourth, fifth],
-    }
+    })
 }
 
 // The lengths of the four areas.
-fn lengths(rest: &str) -> Lengths {
-    let [first, second, third, fourth] = numbers::<4>(rest);
-    Lengths {
+fn lengths(rest: &str) -> io::Result<Lengths> {
+    let [first, second, third, fourth] = numbers::<4>(rest)?;
+    Ok(Lengths {
         first,
         second,
         third,
         fourth,
-    }
+    })
 }
 
 // A text in place of the one that is there.
@@ -103,20 +111,34 @@ fn replace<const N: usize>(rest: &str, out: &mut ArrayVec<u8, N>) {
     make(rest, out);
 }
 
-// The case at hand after a line that states no answer, by its word and what stands behind that. A new case is counted; false where its number is
-// not the next one, which is counted as a difference.
-pub fn line(case: &mut Case, tally: &mut Tally, word: &str, rest: &str) -> bool {
+// A new case is counted. Where its number is not the next one it says so, and counts a difference.
+fn next<R: Print>(rt: &R, tally: &mut Tally, rest: &str) -> io::Result<()> {
+    tally.cases = tally.cases.wrapping_add(1);
+    let [number] = numbers::<1>(rest)?;
+    if number != tally.cases {
+        tally.differences = tally.differences.wrapping_add(1);
+        println!(rt; "a case out of order")?;
+    }
+    Ok(())
+}
+
+// The case at hand after a line that states no answer, by its word and what stands behind that. Another word is an error.
+pub fn line<R: Print>(
+    rt: &R,
+    case: &mut Case,
+    tally: &mut Tally,
+    word: &str,
+    rest: &str,
+) -> io::Result<()> {
+    if !rest.is_ascii() {
+        return Err(no_line());
+    }
     match word {
         "case" => {
             *case = Case::default();
-            tally.cases = tally.cases.wrapping_add(1);
-            let [number] = numbers::<1>(rest);
-            if number != tally.cases {
-                tally.differences = tally.differences.wrapping_add(1);
-                return false;
-            }
+            next(rt, tally, rest)?;
         }
-        "areas" => case.lengths = lengths(rest),
+        "areas" => case.lengths = lengths(rest)?,
         "R" => replace(rest, &mut case.rulebook),
         "R+" => make(rest, &mut case.rulebook),
         "G" => replace(rest, &mut case.goals),
@@ -124,8 +146,10 @@ pub fn line(case: &mut Case, tally: &mut Tally, word: &str, rest: &str) -> bool 
         "C" => replace(rest, &mut case.certificate),
         "C+" => make(rest, &mut case.certificate),
         "P+" => make(rest, &mut case.page),
-        // A comment, or no word at all.
-        _ => {}
+        // An empty line, or a comment.
+        "" if rest.is_empty() => {}
+        _ if word.starts_with('#') => {}
+        _ => return Err(no_line()),
     }
-    true
+    Ok(())
 }

@@ -43,18 +43,14 @@ fn repetition<'a>(text: &'a str) -> Option<(Sign<'a>, &'a str)>
 {
     let (count, rest) = text.split_once('*')?;
     let (signs, rest) = rest.split_once('}')?;
-    Some((Sign::Repeated(count.parse().unwrap_or(0), signs), rest))
+    Some((Sign::Repeated(count.parse().ok()?, signs), rest))
 }
 
-// The first sign of a text, and what stands behind it.
-fn first_sign<'a>(text: &'a str) -> Option<(Sign<'a>, &'a str)>
+// The sign that a backslash is with what follows it, and what stands behind that.
+fn escape<'a>(text: &'a str) -> Option<(Sign<'a>, &'a str)>
     ensures { IfSome result (λ p. length p.1.now < length text.now) }
 {
     let mut rest = text.chars();
-    let first = rest.next()?;
-    if first != '\\' {
-        return Some((Sign::Byte(ascii(first)), rest.as_str()));
-    }
     let sign = match rest.next()? {
         '{' => return repetition(rest.as_str()),
         '#' => Sign::Turns(1),
@@ -68,6 +64,21 @@ fn first_sign<'a>(text: &'a str) -> Option<(Sign<'a>, &'a str)>
         c => Sign::Byte(ascii(c)),
     };
     Some((sign, rest.as_str()))
+}
+
+// The first sign of a text, and what stands behind it. A backslash that is no sign with what follows it stands for itself.
+fn first_sign<'a>(text: &'a str) -> Option<(Sign<'a>, &'a str)>
+    ensures { IfSome result (λ p. length p.1.now < length text.now) }
+{
+    let mut rest = text.chars();
+    let first = rest.next()?;
+    if first != '\\' {
+        return Some((Sign::Byte(ascii(first)), rest.as_str()));
+    }
+    match escape(rest.as_str()) {
+        Some(sign) => Some(sign),
+        None => Some((Sign::Byte(b'\\'), rest.as_str())),
+    }
 }
 
 // The signs of a text, one after the other.

@@ -22,7 +22,8 @@ fn listed(line: &str) -> anyhow::Result<RangeInclusive<u32>> {
     Ok(u32::from_str_radix(low, 16)?..=u32::from_str_radix(high, 16)?)
 }
 
-// The kind that a character has, by whether the list has it.
+// The kind that a character has, by whether the list has it. That is a fact that is compared, here and below, and no choice between two ways: so it
+// is a bool.
 fn kind_due(c: char, white: bool) -> u8 {
     match c {
         _ if white => classes::WHITE,

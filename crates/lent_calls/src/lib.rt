@@ -4,7 +4,8 @@
 use answers::{Answer, Call, Fault};
 use areas::{Areas, Before, Lengths};
 
-// The texts of a case. The call with the rulebook alone takes the first of them.
+// The texts of a case. The call with the rulebook alone takes the first of them. Not `release_files::Three`: that crate reads files and writes
+// lines, and would stand below every test of the calls for this one struct.
 #[derive(Clone, Copy)]
 pub struct Texts<'a> {
     pub rulebook: &'a [u8],
@@ -93,16 +94,16 @@ pub fn answered(
     let mut areas = Areas {
         first: first
             .get_mut(..lengths.first as usize)
-            .ok_or(Fault::TooLong)?,
+            .ok_or(Fault::TooLong(call))?,
         second: second
             .get_mut(..lengths.second as usize)
-            .ok_or(Fault::TooLong)?,
+            .ok_or(Fault::TooLong(call))?,
         third: third
             .get_mut(..lengths.third as usize)
-            .ok_or(Fault::TooLong)?,
+            .ok_or(Fault::TooLong(call))?,
         fourth: fourth
             .get_mut(..lengths.fourth as usize)
-            .ok_or(Fault::TooLong)?,
+            .ok_or(Fault::TooLong(call))?,
     };
     areas.fill(before);
     let answer = match call {

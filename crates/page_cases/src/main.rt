@@ -17,7 +17,7 @@ fn lend(case: &Case, room: u32, out: &mut [u8]) -> Result<Answer, Fault> {
     };
     let end = 64 + room as usize;
     if out.len() < end + 64 {
-        return Err(Fault::TooLong);
+        return Err(Fault::TooLong(Call::Page));
     }
     lent_calls::answered(
         Call::Page,
@@ -28,25 +28,31 @@ fn lend(case: &Case, room: u32, out: &mut [u8]) -> Result<Answer, Fault> {
     )
 }
 
-// What a case answers over a buffer of so many bytes. "A release that is refused writes no byte."
+// What a case answers over a buffer of so many bytes. "A release that is refused writes no byte." The buffer is an array, so that no memory can be
+// missing.
 fn answered(case: &Case, room: u32) -> Result<Answer, Fault> {
     let mut out = [0u8; 48640];
     buffers::fill(&mut out);
-    let answer = lend(case, room, &mut out)?;
-    if answer.number == 0 {
-        buffers::with_buffer(answer, &out, 64, case.page.as_slice())
-    } else {
-        buffers::with_buffer(answer, &out, 64, b"")
-    }
+    let seen = lend(case, room, &mut out);
+    let page = match seen {
+        Ok(answer) if answer.number == 0 => case.page.as_slice(),
+        _ => b"",
+    };
+    buffers::with_buffer(seen, &out, 64, page)
 }
 
 // A call of the case at hand against the answer that is stated, counted: `BUFFER NUMBER LENGTH`.
 fn compare<R: Print>(rt: &R, case: &Case, tally: Tally, stated: &str) -> io::Result<Tally> {
     let (room, stated) = stated.split_once(' ').unwrap_or((stated, ""));
-    let room = room.parse().unwrap_or(0);
-    let due = case_lines::stated(Call::Page, stated);
+    let Ok(room) = room.parse() else {
+        return Err(io::Error::from(io::ErrorKind::InvalidData));
+    };
+    let due = case_lines::stated(Call::Page, stated)?;
     let seen = answered(case, room);
     let as_stated = seen == Ok(due);
+    if let Err(fault) = seen {
+        print!(rt; "{fault}")?;
+    }
     if !as_stated {
         let number = tally.cases;
         let difference = Difference {
@@ -59,7 +65,7 @@ fn compare<R: Print>(rt: &R, case: &Case, tally: Tally, stated: &str) -> io::Res
     Ok(case_lines::counted(tally, as_stated))
 }
 
-// All lines: one that states an answer, or one that changes the case at hand.
+// All lines: one that states an answer, or one that changes the case at hand. Crate `paper_cases` says why it has a loop of its own.
 fn all<R: Print>(rt: &R, list: &str) -> io::Result<Tally> {
     let mut case = Case::default();
     let mut tally = Tally::default();
@@ -67,8 +73,8 @@ fn all<R: Print>(rt: &R, list: &str) -> io::Result<Tally> {
         let (word, rest) = line.split_once(' ').unwrap_or((line, ""));
         if word == "page" {
             tally = compare(rt, &case, tally, rest)?;
-        } else if !case_lines::line(&mut case, &mut tally, word, rest) {
-            println!(rt; "a case out of order")?;
+        } else {
+            case_lines::line(rt, &mut case, &mut tally, word, rest)?;
         }
     }
     Ok(tally)

@@ -12,7 +12,7 @@ use std::rt::Files;
 
 // The call over so many bytes of the buffer.
 fn lend(room: usize, texts: Texts<'_>, out: &mut [u8]) -> Result<Answer, Fault> {
-    let lent = out.get_mut(..room).ok_or(Fault::TooLong)?;
+    let lent = out.get_mut(..room).ok_or(Fault::TooLong(Call::Page))?;
     lent_calls::answered(
         Call::Page,
         areas::garbage(),
@@ -22,14 +22,15 @@ fn lend(room: usize, texts: Texts<'_>, out: &mut [u8]) -> Result<Answer, Fault> 
     )
 }
 
-// Writes what the call answers over so many bytes of a buffer, and the page.
+// Writes what the call answers over so many bytes of a buffer, and the page. The buffer is an array, so that no memory can be missing.
 fn show<R: Print>(rt: &R, label: &str, room: usize, texts: Texts<'_>) -> io::Result<()> {
     let mut out = [0u8; 512];
     buffers::fill(&mut out);
-    let answer = match lend(room, texts, &mut out) {
-        Ok(answer) => answer,
-        Err(fault) => return println!(rt; "{label}:{fault}"),
-    };
+    let seen = lend(room, texts, &mut out);
+    if let Err(fault) = seen {
+        print!(rt; "{fault}")?;
+    }
+    let answer = answers::written(seen);
     let page = out.get(..answer.counts[0] as usize).unwrap_or(&[]);
     let left = if buffers::holds(&out, 0, page) {
         "all else untouched"
@@ -75,9 +76,12 @@ fn names<R: Print>(rt: &R) -> io::Result<()> {
         "names of 31, 32 and 33 bytes, of rules 21, 22 and 23",
         512,
         Texts {
-            rulebook: b"(sort t)(ctor z () t)(pred hold (t))(rule x23456789012345678901 () (hold z))(rule y234567890123456789012 () (hold z))(rule w2345678901234567890123 () (hold z))",
-            goals: b"(goal a234567890123456789012345678901 (hold z))(goal b2345678901234567890123456789012 (hold z))(goal c23456789012345678901234567890123 (hold z))",
-            certificate: b"(step 0 x23456789012345678901 ())(step 1 y234567890123456789012 ())(step 2 w2345678901234567890123 ())(result a234567890123456789012345678901 0)(result b2345678901234567890123456789012 1)(result c23456789012345678901234567890123 2)",
+            rulebook: b"(sort t)(ctor z () t)(pred hold (t))(rule x23456789012345678901 () (hold z))(rule y234567890123456789012 () (hold z))\
+                (rule w2345678901234567890123 () (hold z))",
+            goals: b"(goal a234567890123456789012345678901 (hold z))(goal b2345678901234567890123456789012 (hold z))\
+                (goal c23456789012345678901234567890123 (hold z))",
+            certificate: b"(step 0 x23456789012345678901 ())(step 1 y234567890123456789012 ())(step 2 w2345678901234567890123 ())\
+                (result a234567890123456789012345678901 0)(result b2345678901234567890123456789012 1)(result c23456789012345678901234567890123 2)",
         },
     )
 }
@@ -89,9 +93,13 @@ fn characters<R: Print>(rt: &R) -> io::Result<()> {
         "a character up to the 32nd byte and across it, of rules the 22nd",
         512,
         Texts {
-            rulebook: b"(sort t)(ctor z () t)(pred hold (t))(rule x234567890123456789\xe2\x82\xac () (hold z))(rule y2345678901234567890\xe2\x82\xac () (hold z))(rule w23456789012345678901\xe2\x82\xac () (hold z))",
-            goals: b"(goal a2345678901234567890123456789\xe2\x82\xac (hold z))(goal b23456789012345678901234567890\xe2\x82\xac (hold z))(goal c234567890123456789012345678901\xe2\x82\xac (hold z))",
-            certificate: b"(step 0 x234567890123456789\xe2\x82\xac ())(step 1 y2345678901234567890\xe2\x82\xac ())(step 2 w23456789012345678901\xe2\x82\xac ())(result a2345678901234567890123456789\xe2\x82\xac 0)(result b23456789012345678901234567890\xe2\x82\xac 1)(result c234567890123456789012345678901\xe2\x82\xac 2)",
+            rulebook: b"(sort t)(ctor z () t)(pred hold (t))(rule x234567890123456789\xe2\x82\xac () (hold z))\
+                (rule y2345678901234567890\xe2\x82\xac () (hold z))(rule w23456789012345678901\xe2\x82\xac () (hold z))",
+            goals: b"(goal a2345678901234567890123456789\xe2\x82\xac (hold z))(goal b23456789012345678901234567890\xe2\x82\xac (hold z))\
+                (goal c234567890123456789012345678901\xe2\x82\xac (hold z))",
+            certificate: b"(step 0 x234567890123456789\xe2\x82\xac ())(step 1 y2345678901234567890\xe2\x82\xac ())(step 2 w23456789012345678901\xe2\x82\xac ())\
+                (result a2345678901234567890123456789\xe2\x82\xac 0)(result b23456789012345678901234567890\xe2\x82\xac 1)\
+                (result c234567890123456789012345678901\xe2\x82\xac 2)",
         },
     )
 }
@@ -105,7 +113,8 @@ fn percentage<R: Print>(rt: &R) -> io::Result<()> {
         Texts {
             rulebook: b"(sort t)(ctor z () t)(pred hold (t))(rule base () (hold z))",
             goals: b"(goal g (hold z))",
-            certificate: b"(step 0 base ())(step 1 base ())(step 2 base ())(step 3 base ())(step 4 base ())(step 5 base ())(step 6 base ())(step 7 base ())(result g 7)",
+            certificate: b"(step 0 base ())(step 1 base ())(step 2 base ())(step 3 base ())(step 4 base ())(step 5 base ())(step 6 base ())(step 7 base ())\
+                (result g 7)",
         },
     )
 }

@@ -34,7 +34,8 @@ fn call(texts: Three<&[u8]>, out: &mut [u8]) -> Written
     )
 }
 
-// The page of three texts, of which a file that was not opened gives none: "30 comes only from the program, before all else".
+// The page of three texts, of which a file that was not opened gives none: "30 comes only from the program, before all else". `Written` has the
+// number beside the length, since it is what `kernel::page` hands to C.
 #[tactic(auto, unfolding(crate::specs::Answers::answered, horn::specs::Output::output_of, horn::specs::Refusals::number))]
 pub fn answer(texts: Three<Option<&[u8]>>, out: &mut [u8]) -> Written
     ensures { told result out.new
@@ -64,7 +65,7 @@ fn print(rt: &(impl Print + Eprint), w: Written, out: &[u8]) {
 }
 
 // The page of three files to standard output. A goal takes 11 bytes of the goals' 8,192, so that there are 744 of them at most, and 745 lines
-// of 65 bytes.
+// of 65 bytes. The buffer is an array, so that no memory can be missing.
 pub fn show(rt: &(impl Files + Print + Eprint), names: Three<&[u8]>) {
     let mut out = [0u8; 48425];
     let w = page(rt, names, &mut out);

@@ -16,7 +16,7 @@ fn compare<R: Print>(
     tally: Tally,
     stated: &str,
 ) -> io::Result<Tally> {
-    let due = case_lines::stated(call, stated);
+    let due = case_lines::stated(call, stated)?;
     let texts = Texts {
         rulebook: case.rulebook.as_slice(),
         goals: case.goals.as_slice(),
@@ -24,6 +24,9 @@ fn compare<R: Print>(
     };
     let seen = lent_calls::answered(call, areas::garbage(), case.lengths, texts, &mut []);
     let as_stated = seen == Ok(due);
+    if let Err(fault) = seen {
+        print!(rt; "{fault}")?;
+    }
     if !as_stated {
         let number = tally.cases;
         let difference = Difference {
@@ -36,7 +39,8 @@ fn compare<R: Print>(
     Ok(case_lines::counted(tally, as_stated))
 }
 
-// All lines: one that states an answer, or one that changes the case at hand.
+// All lines: one that states an answer, or one that changes the case at hand. One loop for this and crate `page_cases` would take a closure that
+// says of each word whether it is the program's own, which is no plainer than this match; what else the two share is in crate `case_lines`.
 fn all<R: Print>(rt: &R, list: &str) -> io::Result<Tally> {
     let mut case = Case::default();
     let mut tally = Tally::default();
@@ -49,11 +53,7 @@ fn all<R: Print>(rt: &R, list: &str) -> io::Result<Tally> {
                 tally = compare(rt, Call::Release, &case, tally, rest)?;
                 tally = compare(rt, Call::Rulebook, &case, tally, rest)?;
             }
-            _ => {
-                if !case_lines::line(&mut case, &mut tally, word, rest) {
-                    println!(rt; "a case out of order")?;
-                }
-            }
+            _ => case_lines::line(rt, &mut case, &mut tally, word, rest)?,
         }
     }
     Ok(tally)

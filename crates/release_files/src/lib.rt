@@ -131,7 +131,8 @@ fn call(texts: Three<&[u8]>) -> Report
     )
 }
 
-// The report on three texts, of which a file that was not opened gives none: "30 comes only from the program, before all else".
+// The report on three texts, of which a file that was not opened gives none: "30 comes only from the program, before all else". `Report` has the
+// number beside the counts, since it is what `kernel::release` hands to C.
 #[tactic(auto, unfolding(crate::specs::Answers::answered, horn::specs::Refusals::number))]
 pub fn answer(texts: Three<Option<&[u8]>>) -> Report
     ensures { told result ≡ answered (text texts.entry.rulebook) (text texts.entry.goals) (text texts.entry.certificate) }
@@ -150,14 +151,14 @@ pub fn release(rt: &(impl Files + Eprint), names: Three<&[u8]>) -> Report
     answer(buffers.read(rt, names))
 }
 
-// Writes bytes to standard output.
+// Writes bytes to standard output, as they are: the contracts of the page and of crate `report_line` say which, so that nothing is formatted here.
 pub fn write(rt: &(impl Print + Eprint), bytes: &[u8]) {
     if let Err(why) = rt.write_all(bytes) {
         tell(rt, "standard output", why);
     }
 }
 
-// Writes the line of a report to standard output.
+// Writes the line of a report to standard output. No line is longer than 66 bytes; an array, so that no memory can be missing.
 pub fn print(rt: &(impl Print + Eprint), r: Report) {
     let mut line = [0u8; 66];
     let n = report_line::line(

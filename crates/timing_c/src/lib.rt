@@ -1,4 +1,5 @@
-// For bench/: functions that another language calls to time what the crates below them do.
+// For bench/: functions that another language calls to time what the crates below them do. A crate of its own, since no crate can name a
+// static library: so the C interface needs each function of `timing` again.
 #![tactic(auto)]
 
 ghost use Rattle.std.specs.Prelude.{◌≡◌, length};
