@@ -2,15 +2,16 @@
 // at the index's last places and walk on at its first. What it writes is that of a list searched from its start.
 #![tactic(auto)]
 
-use arena::Answer;
+use arena::{Full, Interned, Setting};
 use std::alloc::{AllocError, Global};
 use std::{fmt, io};
 
-const NODES: u32 = 2048;
-
-const LIMIT: u32 = 8192;
-
-const PLACES: u32 = 4096;
+// The limits of document 01.
+const STORE: Setting = Setting {
+    nodes: 2048,
+    words: 8192,
+    places: 4096,
+};
 
 // A store at document 01's limits, in an area of 16,384 words.
 #[derive(Drop)]
@@ -30,13 +31,13 @@ impl Store {
     // No node: the store empties itself, over a word that stands everywhere.
     fn emptied(alloc: Global, garbage: u32) -> Result<Store, AllocError> {
         let mut area = vec![in alloc; garbage; 16384]?;
-        arena::empty(&mut area, NODES, PLACES);
+        arena::empty(&mut area, STORE);
         Ok(Store { area })
     }
 
     // A request.
-    fn ask(&mut self, key: &[u32]) -> Answer {
-        arena::intern(&mut self.area, NODES, LIMIT, PLACES, key)
+    fn ask(&mut self, key: &[u32]) -> Result<Interned, Full> {
+        arena::intern(&mut self.area, STORE, key)
     }
 
     // A word of the area.
@@ -56,17 +57,17 @@ struct Tally {
 
 impl Tally {
     // One answer more.
-    fn and(mut self, answer: Answer) -> Tally {
+    fn and(mut self, answer: Result<Interned, Full>) -> Tally {
         match answer {
-            Answer::Found(k) => {
+            Ok(Interned::Found(k)) => {
                 self.found = self.found.wrapping_add(1);
                 self.sum = self.sum.wrapping_add(k);
             }
-            Answer::Made(k) => {
+            Ok(Interned::Made(k)) => {
                 self.made = self.made.wrapping_add(1);
                 self.sum = self.sum.wrapping_add(k);
             }
-            Answer::Full => self.full = self.full.wrapping_add(1),
+            Err(_) => self.full = self.full.wrapping_add(1),
         }
         self
     }
@@ -101,9 +102,9 @@ fn wide(w: u32) -> [u32; 8] {
 // A request, its answer shown as a line.
 fn show(rt: &impl Print, store: &mut Store, key: &[u32]) -> io::Result<()> {
     match store.ask(key) {
-        Answer::Found(k) => println!(rt; "found {k}"),
-        Answer::Made(k) => println!(rt; "made {k}"),
-        Answer::Full => println!(rt; "refused 28"),
+        Ok(Interned::Found(k)) => println!(rt; "found {k}"),
+        Ok(Interned::Made(k)) => println!(rt; "made {k}"),
+        Err(_) => println!(rt; "refused 28"),
     }
 }
 
@@ -116,17 +117,17 @@ fn each(rt: &impl Print, store: &mut Store, first: u32, n: u8) -> io::Result<()>
 }
 
 // A request for the node of one word.
-fn ask_narrow(store: &mut Store, w: u32) -> Answer {
+fn ask_narrow(store: &mut Store, w: u32) -> Result<Interned, Full> {
     store.ask(&narrow(w))
 }
 
 // A request for the node of eight words.
-fn ask_wide(store: &mut Store, w: u32) -> Answer {
+fn ask_wide(store: &mut Store, w: u32) -> Result<Interned, Full> {
     store.ask(&wide(w))
 }
 
 // n requests, each by the next word, the answers counted.
-fn many<A: Fn(&mut Store, u32) -> Answer>(
+fn many<A: Fn(&mut Store, u32) -> Result<Interned, Full>>(
     rt: &impl Print,
     store: &mut Store,
     ask: A,
@@ -154,10 +155,10 @@ fn totals(rt: &impl Print, store: &Store) -> io::Result<()> {
 fn node(rt: &impl Print, store: &Store, k: u32) -> io::Result<()> {
     let area = &store.area;
     println!(rt; "size {}", arena::node_size(area, k))?;
-    println!(rt; "head {}", arena::node_head(area, NODES, PLACES, k))?;
+    println!(rt; "head {}", arena::node_head(area, STORE, k))?;
     println!(rt;
         "argument {}",
-        arena::node_argument(area, NODES, PLACES, k, 0)
+        arena::node_argument(area, STORE, k, 0)
     )
 }
 
