@@ -24,11 +24,7 @@ pub fn number_due(text: &[u8], left: u32, reader: Reader) -> Result<(u64, Reader
 
 // "List of references", behind its opening: their number. Each is kept as a word of the stack.
 #[tactic(auto, using(crate::proofs::Turns::turns), unfolding(crate::specs::References::references))]
-pub fn references(
-    text: &[u8],
-    stack: &mut [u32],
-    reader: Reader,
-) -> Result<(u32, Reader), Refusal>
+pub fn references(text: &[u8], stack: &mut [u32], reader: Reader) -> Result<(u32, Reader), Refusal>
     ensures { (told result leaving stack.new) ≡ models.references text.now reader stack.old }
 {
     let mut r = reader;
