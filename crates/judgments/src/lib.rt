@@ -25,8 +25,7 @@ pub fn headed_judgment(
 ) -> Result<(u32, Reader), Refusal>
     ensures { (told result leaving (store.new, stack.new))
         ≡ headed_judgment left scope.now.text.now scope.now.rules.now scope.now.heap.now scope.now.table.now
-        top s t reader store.old
-        stack.old }
+        top s t reader store.old stack.old }
 {
     let name = words::part(scope.text, s, t);
     let found = theory_reading::find(scope.heap, scope.rules, Section::Predicates, name);
@@ -48,8 +47,7 @@ pub fn judgment(
 ) -> Result<(u32, Reader), Refusal>
     ensures { (told result leaving (store.new, stack.new))
         ≡ judgment left scope.now.text.now scope.now.rules.now scope.now.heap.now scope.now.table.now
-        top reader store.old
-        stack.old }
+        top reader store.old stack.old }
 {
     if left == 0 {
         return Err(Refusal::Nesting);

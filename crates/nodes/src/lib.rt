@@ -117,15 +117,8 @@ pub fn atom_term(
     }
     let name = words::part(scope.text, s, t);
     let found = theory_reading::find(scope.heap, scope.rules, Section::Constructors, name);
-    make(
-        scope.heap,
-        store,
-        stack,
-        found.ok_or(Refusal::Unknown)?,
-        top,
-        0,
-        reader,
-    )
+    let c = found.ok_or(Refusal::Unknown)?;
+    make(scope.heap, store, stack, c, top, 0, reader)
 }
 
 // The head of a term in brackets, asked for without a look ahead.

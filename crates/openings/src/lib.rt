@@ -45,8 +45,7 @@ pub fn item(
 ) -> Result<Begun, Refusal>
     ensures { (told_as (begins r.new) result leaving (store.new, stack.new))
         ≡ begun_at left scope.now.text.now scope.now.rules.now scope.now.heap.now scope.now.table.now
-        top (asked.member reader) store.old
-        stack.old }
+        top (asked.member reader) store.old stack.old }
 {
     if left == 0 {
         return Err(Refusal::Nesting);

@@ -54,8 +54,7 @@ pub fn args(
 ) -> Result<(u32, Reader), Refusal>
     ensures { (told result leaving (store.new, stack.new))
         ≡ arguments left scope.now.text.now scope.now.rules.now scope.now.heap.now scope.now.table.now
-        top reader store.old
-        stack.old }
+        top reader store.old stack.old }
 {
     let mut r = reader;
     let n = levels::args(scope, store, stack, &mut r, top, left)?;
