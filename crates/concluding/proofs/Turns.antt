@@ -46,3 +46,7 @@ pub unbound_end : (n : ℕ) (heap : List ℕ) → n ≤ 0 → unbound n heap ≡
 unfolding unbound
 unbound_end zero heap l = refl
 unbound_end (suc n) heap l = absurd (omega arith)
+
+pub ruleset premising = (premises_first, premises_on, premise_differs, no_step, premises_end)
+
+pub ruleset unbinding = (unbound_on, unbound_end)

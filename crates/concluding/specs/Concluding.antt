@@ -1,28 +1,15 @@
 -- The judgment of a step by its rule: what each function answers, and what it leaves of the bindings, the store and the stack.
 use Rattle.std.specs.Prelude.{ℕ, zero, suc, ◌+◌, ◌-◌, List, eqb, ltb, length, get_or, set}
-use Rattle.outcomes.specs.Outcomes.{Outcome, ok, refused, pick, need, or_else}
+use Rattle.outcomes.specs.Outcomes.{ok, pick, need, or_else}
 use Rattle.outcomes.specs.Leaving.{Did, ◌leaving◌, ◌>>=◌, beside}
 use Rattle.theory_reading.specs.Reading.{premise_count, premises_place, conclusion_place}
 use Rattle.theory_reading.specs.Storing.{Areas, before}
 use Rattle.tables.specs.Words.{step_at}
 use Rattle.matching.specs.Matching.{Tried, ◌keeping◌, binding_at, matched, term_built}
-use Rattle.concluding.specs.declared.Premises.{Premises}
-use Rattle.concluding.specs.declared.Premises.TheVariants as premises
-use Rattle.concluding.specs.declared.Concluded.{Concluded}
-use Rattle.concluding.specs.declared.Concluded.TheVariants as conclusions
 
 -- The levels that a pattern may have: the words of the theory's area.
 abbrev pub levels : ℕ
 levels = 16384
-
--- 01's numbers for what the functions answer.
-abbrev pub ended : Premises → Outcome ℕ
-ended (premises.To o) = ok o
-ended (premises.Refused n) = refused n
-
-abbrev pub concluded : Concluded → Outcome ℕ
-concluded (conclusions.Judgment k) = ok k
-concluded (conclusions.Refused n) = refused n
 
 -- What a mismatch is to the caller: a refusal by 01's number.
 abbrev pub or_refused : {A : Type 0} → Tried A → ℕ → Did (List ℕ) A

@@ -113,7 +113,7 @@ pub fn close(text: &[u8], w: Walk) -> Result<Walk, Refusal>
 pub fn is_question(text: &[u8], s: usize) -> bool
     ensures { result ≡ question text.now s }
 {
-    words::byte(text, s) == b'?'
+    words::at(text, s) == b'?'
 }
 
 // The next item, which must be an atom without a leading `?`.

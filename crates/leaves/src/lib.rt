@@ -23,7 +23,7 @@ pub fn apply(
 ) -> Result<(u32, Walk), Refusal>
     ensures { (told result leaving heap.new) ≡ applied text.now buckets sort members s t w heap.old }
 {
-    let name = words::bytes_part(text, s, t);
+    let name = words::part(text, s, t);
     let c = names::find(heap, buckets, places::BUCKETS, text, name).ok_or(Refusal::Unknown)?;
     if words::at(heap, c as usize + places::OUTPUT) != sort {
         return Err(Refusal::SortArity);

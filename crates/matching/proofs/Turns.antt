@@ -7,18 +7,20 @@ use native.Mathlib.Omega.{arith}
 use lib.Dec.{leb}
 use lib.ListN.{get_or, set}
 use Rattle.arena.specs.Store.{argument_of}
-use Rattle.outcomes.specs.Outcomes.{refused, pick}
+use Rattle.outcomes.specs.Outcomes.{ok, refused, pick}
 use Rattle.outcomes.specs.Leaving.{Did, ◌leaving◌}
 use Rattle.words.specs.Sums.{sum32}
 use Rattle.theory_reading.specs.Reading.{arity_of}
 use Rattle.theory_reading.specs.Storing.{Areas, before}
 use Rattle.matching.specs.Matching.{Tried, ◌keeping◌, variable_matched, arguments_matched, symbol_matched, matched}
-use Rattle.matching.specs.declared.Built.{Built}
-use Rattle.matching.specs.declared.Built.TheVariants.{Term}
-use Rattle.matching.specs.Matching.{built, bound_term, node_made, arguments_built, term_built}
+use Rattle.matching.specs.Matching.{bound_term, node_made, arguments_built, term_built}
 use Rattle.items.specs.Places as layout
 
 module _ (nodes places : ℕ) (store : List ℕ) where
+  pub matched_none : (left o t : ℕ) (heap : List ℕ) → left ≡ 0 → (none keeping heap) ≡ matched nodes places store left o t heap
+  unfolding matched
+  matched_none left o t heap e = rw e
+
   pub matched_within : (left o t : ℕ) (heap : List ℕ) → (left ≡ 0 → ⊥) → matched nodes places store left o t heap ≡
       pick (leb layout.variable (get_or heap o 0))
       (λ _. variable_matched heap (get_or heap o 0 - layout.variable) t o)
@@ -46,6 +48,11 @@ module _ (nodes places : ℕ) (store : List ℕ) where
     arguments_end j l = let e : n - j ≡ 0 = omega arith in rw e
 
 module _ (nodes limit places : ℕ) where
+  pub built_none : (heap : List ℕ) (left o p : ℕ) (stack store : List ℕ) → left ≡ 0
+      → (refused 26 leaving (store, stack)) ≡ term_built nodes limit places heap left o p stack store
+  unfolding term_built
+  built_none heap left o p stack store e = rw e
+
   pub built_within : (heap : List ℕ) (left o p : ℕ) (stack store : List ℕ) → (left ≡ 0 → ⊥) → term_built nodes limit places heap left o p stack store ≡
       pick (leb layout.variable (get_or heap o 0))
       (λ _. bound_term heap (get_or heap o 0 - layout.variable) o leaving (store, stack))
@@ -59,13 +66,12 @@ module _ (nodes limit places : ℕ) where
     pub building_first : arguments_built nodes limit places one n from o p stack store ≡ arguments_built nodes limit places one (n - 0) from o p stack store
     building_first = let e : n - 0 ≡ n = omega arith in rw e
 
-    pub building_on : (j : ℕ) {r : Built} {k o' p' : ℕ} {stack' stack'' store' : List ℕ} → j < n → (built r leaving (store', stack')) ≡ one o p stack store
-        → r ≡ Term k o'
+    pub building_on : (j : ℕ) {k o' p' : ℕ} {stack' stack'' store' : List ℕ} → j < n → (ok (k, o') leaving (store', stack')) ≡ one o p stack store
         → p' ≡ sum32 p 1
         → stack'' ≡ set stack' p k
         → arguments_built nodes limit places one (n - j) from o p stack store ≡ arguments_built nodes limit places one (n - (j + 1)) from o' p' stack'' store'
     unfolding arguments_built
-    building_on j l h g q s = let e : n - j ≡ suc (n - (j + 1)) = omega arith in rw (e, ← h, g, q, s)
+    building_on j l h q s = let e : n - j ≡ suc (n - (j + 1)) = omega arith in rw (e, ← h, q, s)
 
     pub building_refused : (j : ℕ) {m : ℕ} {left : Areas} → j < n → one o p stack store ≡ (refused m leaving left)
         → arguments_built nodes limit places one (n - j) from o p stack store ≡ (refused m leaving left)
@@ -76,3 +82,7 @@ module _ (nodes limit places : ℕ) where
         → arguments_built nodes limit places one (n - j) from o p stack store ≡ before stack (node_made nodes limit places from p o stack store)
     unfolding arguments_built
     building_end j l = let e : n - j ≡ 0 = omega arith in rw e
+
+pub ruleset matching = (matched_none, matched_within, arguments_first, arguments_on, argument_differs, arguments_end)
+
+pub ruleset building = (built_none, built_within, building_first, building_on, building_refused, building_end)

@@ -11,10 +11,8 @@ use Rattle.words.specs.Sums.{sum32}
 use Rattle.items.specs.Places as layout
 use Rattle.theory_reading.specs.Reading.{arity_of}
 use Rattle.theory_reading.specs.Storing.{numbered, Areas, before}
-use Rattle.matching.specs.declared.Matched.{Matched}
-use Rattle.matching.specs.declared.Matched.TheVariants as matches
-use Rattle.matching.specs.declared.Built.{Built}
-use Rattle.matching.specs.declared.Built.TheVariants as builds
+use Rattle.std.specs.declared.option.Option as code
+use Rattle.std.specs.declared.option.Option.TheVariants.{Some, None}
 
 -- What a match answers, with the bindings that it leaves: nothing is refused yet, since 01's number for a mismatch, 23 or 25, is its caller's.
 pub data Tried (A : Type 0) : Type 0 where
@@ -26,14 +24,10 @@ abbrev pub ◌>>=◌ : {A B : Type 0} → Tried A → (A × List ℕ → Tried B
 (some a keeping heap) >>= f = f (a, heap)
 (none keeping heap) >>= f = none keeping heap
 
-abbrev pub tried : Matched → List ℕ → Tried ℕ
-tried (matches.To o) heap = some o keeping heap
-tried matches.Differs heap = none keeping heap
-
--- 01's numbers for what building answers.
-abbrev pub built : Built → Outcome (ℕ × ℕ)
-built (builds.Term n o) = ok (n, o)
-built (builds.Refused n) = refused n
+-- What the code's answer says: where a pattern that matched ends, or that it differs.
+abbrev pub tried : code.Option ℕ → List ℕ → Tried ℕ
+tried (Some o) heap = some o keeping heap
+tried None heap = none keeping heap
 
 -- The word of a variable's binding: 0, or a term's number plus 1.
 abbrev pub binding_at : ℕ → ℕ

@@ -5,36 +5,13 @@
 
 ghost use Rattle.std.specs.Prelude.{◌≡◌, set};
 ghost use Rattle.words.specs.Sums.{sum32};
-ghost use Rattle.outcomes.specs.Outcomes.{refusal};
+ghost use Rattle.outcomes.specs.Told.{told};
 ghost use Rattle.outcomes.specs.Leaving.{◌leaving◌};
 ghost use Rattle.matching.specs.Matching as models;
 
-use arena::Answer;
+use arena::{Interned, Setting};
 use items::places;
-
-// Where a pattern that matched ends.
-#[derive(Drop)]
-pub enum Matched {
-    To(u32),
-    Differs,
-}
-
-// The number of a term that was built and where its pattern ends, or 26 or 28.
-#[derive(Drop)]
-pub enum Built {
-    Term(u32, u32),
-    Refused(u32),
-}
-
-// The number of its refusal, 0 where there is none.
-pub fn built_refusal(r: Built) -> u32
-    ensures { result ≡ refusal (models.built r) }
-{
-    match r {
-        Built::Term(_, _) => 0,
-        Built::Refused(n) => n,
-    }
-}
+use outcomes::Refusal;
 
 // Writes the word of a variable's binding.
 pub fn set_binding(heap: &mut [u32], v: u32, word: u32)
@@ -53,6 +30,7 @@ pub fn push(stack: &mut [u32], p: u32, word: u32) -> u32
 }
 
 // A variable binds first and must be equal later.
+#[tactic(auto, unfolding(crate::specs::Matching::agrees, crate::specs::Matching::with_binding, crate::specs::Matching::binding_of))]
 pub fn match_variable(heap: &mut [u32], v: u32, t: u32) -> bool
     ensures value { result ≡ models.agrees heap.old v t }
     ensures heap_after { heap.new ≡ models.with_binding heap.old v t }
@@ -66,97 +44,91 @@ pub fn match_variable(heap: &mut [u32], v: u32, t: u32) -> bool
     bound == wanted
 }
 
-// The pattern at o against term t, one level of the pattern at a time.
+// The pattern at o against term t, one level of the pattern at a time. Answers where a pattern that matches ends.
+#[tactic(auto, using(crate::proofs::Turns::matching), unfolding(crate::specs::Matching::variable_matched))]
 pub fn matches(
     store: &[u32],
     heap: &mut [u32],
-    nodes: u32,
-    places: u32,
+    limits: Setting,
     o: u32,
     t: u32,
     left: u32,
-) -> Matched
-    ensures { models.tried result heap.new ≡ models.matched nodes places store.now left o t heap.old }
+) -> Option<u32>
+    ensures { models.tried result heap.new ≡ models.matched limits.nodes limits.places store.now left o t heap.old }
 {
     if left == 0 {
-        return Matched::Differs;
+        return None;
     }
     let word = words::at(heap, o as usize);
     if places::VARIABLE <= word {
         if match_variable(heap, word - places::VARIABLE, t) {
-            return Matched::To(words::plus(o, 1));
+            return Some(words::plus(o, 1));
         }
-        return Matched::Differs;
+        return None;
     }
-    let head = arena::node_head(store, nodes, places, t);
+    let head = arena::node_head(store, limits, t);
     if word != head {
-        return Matched::Differs;
+        return None;
     }
     let inputs = theory_reading::arity(heap, word);
     let mut place = words::plus(o, 1);
-    let mut j: u32 = 0;
-    while j < inputs {
-        let argument = arena::node_argument(store, nodes, places, t, j);
-        let m = matches(store, heap, nodes, places, place, argument, left - 1);
-        let Matched::To(next) = m else {
-            return Matched::Differs;
-        };
-        place = next;
-        j += 1;
+    for j in 0..inputs {
+        let argument = arena::node_argument(store, limits, t, j);
+        place = matches(store, heap, limits, place, argument, left - 1)?;
     }
-    Matched::To(place)
+    Some(place)
 }
 
-// The term that a variable is bound to.
-pub fn bound_term(heap: &[u32], v: u32, o: u32) -> Built
-    ensures { models.built result ≡ models.bound_term heap.now v o }
+// The term that a variable is bound to, and where its pattern ends.
+#[tactic(auto, unfolding(crate::specs::Matching::bound_term, crate::specs::Matching::binding_of))]
+pub fn bound_term(heap: &[u32], v: u32, o: u32) -> Result<(u32, u32), Refusal>
+    ensures { told result ≡ models.bound_term heap.now v o }
 {
     let bound = words::at(heap, places::BINDINGS + v as usize);
     if bound == 0 {
-        return Built::Refused(26);
+        return Err(Refusal::Unbound);
     }
-    Built::Term(bound - 1, words::plus(o, 1))
+    Ok((bound - 1, words::plus(o, 1)))
 }
 
 // The node whose words stand on the stack, stored.
+#[tactic(auto, unfolding(crate::specs::Matching::node_made))]
 pub fn make_node(
     store: &mut [u32],
     stack: &[u32],
-    nodes: u32,
-    limit: u32,
-    places: u32,
+    limits: Setting,
     from: u32,
     to: u32,
     o: u32,
-) -> Built
-    ensures { (models.built result leaving store.new) ≡ models.node_made nodes limit places from to o stack.now store.old }
+) -> Result<(u32, u32), Refusal>
+    ensures { (told result leaving store.new)
+        ≡ models.node_made limits.nodes limits.words limits.places from to o stack.now store.old }
 {
-    let key = words::words_part(stack, from as usize, to as usize);
-    let a = requests::intern(store, nodes, limit, places, key);
-    match a {
-        Answer::Found(k) => Built::Term(k, o),
-        Answer::Made(k) => Built::Term(k, o),
-        Answer::Full => Built::Refused(28),
+    let key = words::part(stack, from as usize, to as usize);
+    match requests::intern(store, limits, key) {
+        Ok(Interned::Found(k)) => Ok((k, o)),
+        Ok(Interned::Made(k)) => Ok((k, o)),
+        Err(_) => Err(Refusal::StoreFull),
     }
 }
 
 // The term of the pattern at o under the bindings, left to right, each node stored after its arguments. They stand on the stack from p on.
+// Answers its number and where its pattern ends.
+#[tactic(auto, using(crate::proofs::Turns::building))]
 pub fn build(
     store: &mut [u32],
     stack: &mut [u32],
     heap: &[u32],
-    nodes: u32,
-    limit: u32,
-    places: u32,
+    limits: Setting,
     o: u32,
     p: u32,
     left: u32,
-) -> Built
-    ensures { (models.built result leaving (store.new, stack.new))
-        ≡ models.term_built nodes limit places heap.now left o p stack.old store.old }
+) -> Result<(u32, u32), Refusal>
+    ensures { (told result leaving (store.new, stack.new))
+        ≡ models.term_built limits.nodes limits.words limits.places heap.now left o p stack.old store.old }
 {
     if left == 0 {
-        return Built::Refused(26);
+        return Err(Refusal::Unbound);
     }
     let word = words::at(heap, o as usize);
     if places::VARIABLE <= word {
@@ -165,25 +137,10 @@ pub fn build(
     let inputs = theory_reading::arity(heap, word);
     let mut end = push(stack, p, word);
     let mut place = words::plus(o, 1);
-    let mut j: u32 = 0;
-    while j < inputs {
-        let b = build(
-            store,
-            stack,
-            heap,
-            nodes,
-            limit,
-            places,
-            place,
-            end,
-            left - 1,
-        );
-        let Built::Term(k, next) = b else {
-            return Built::Refused(built_refusal(b));
-        };
+    for _ in 0..inputs {
+        let (k, next) = build(store, stack, heap, limits, place, end, left - 1)?;
         end = push(stack, end, k);
         place = next;
-        j += 1;
     }
-    make_node(store, stack, nodes, limit, places, p, end, place)
+    make_node(store, stack, limits, p, end, place)
 }

@@ -92,7 +92,7 @@ pub fn add(
 )
     ensures { area.new ≡ added area.old buckets count e text.now start end }
 {
-    let name = words::bytes_part(text, start, end);
+    let name = words::part(text, start, end);
     let place = bucket(buckets, count, name);
     let last = words::at(area, place);
     words::put(area, e as usize, words::low(start));

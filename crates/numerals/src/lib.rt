@@ -29,7 +29,7 @@ fn digits(text: &[u8]) -> Option<u64>
 pub fn numeral(text: &[u8], s: usize, t: usize) -> Option<u64>
     ensures { read result ≡ definition.numeral (part s t text.now) }
 {
-    let name = words::bytes_part(text, s, t);
+    let name = words::part(text, s, t);
     match name.strip_prefix(b"+") {
         Some(unsigned) => digits(unsigned),
         None => digits(name),

@@ -4,11 +4,12 @@
 ghost use Rattle.std.specs.Prelude.{◌≡◌, length, replicate};
 ghost use Rattle.horn.specs.Setting.{document01};
 ghost use Rattle.horn.specs.Calls.{called, rulebook_left};
-ghost use Rattle.theory.specs.Declarations.{judged as outcome};
+ghost use Rattle.theory.specs.Below.outcomes.specs.Told.{told, number};
 ghost use Rattle.theory.specs.Walks.{theory};
 ghost use Rattle.rulebook_call.specs.Reports.{reported, reported_by, answered};
 
-use theory::Judged;
+use outcomes::Refusal;
+use theory::Counts;
 
 // A number, and the counts of what the rulebook declares.
 #[repr(C)]
@@ -22,31 +23,35 @@ pub struct RulebookReport {
 }
 
 // "A refusal has zero counts."
-fn refused(number: u32) -> RulebookReport
-    ensures { result ≡ record { number = number; sorts = 0; constructors = 0; predicates = 0; rules = 0 } }
-{
-    RulebookReport {
-        number,
-        sorts: 0,
-        constructors: 0,
-        predicates: 0,
-        rules: 0,
+impl From<Refusal> for RulebookReport {
+    ghost from_gives = { λ refusal report. report ≡ record { number = number refusal; sorts = 0; constructors = 0; predicates = 0; rules = 0 } };
+
+    fn from(refusal: Refusal) -> RulebookReport {
+        RulebookReport {
+            number: refusal.number(),
+            sorts: 0,
+            constructors: 0,
+            predicates: 0,
+            rules: 0,
+        }
     }
 }
 
 // What is reported of what the walks over a rulebook answer.
-fn declared(judged: Judged) -> RulebookReport
-    ensures { result ≡ reported (outcome judged) }
-{
-    match judged {
-        Judged::Refused(number) => refused(number),
-        Judged::Accepted(c) => RulebookReport {
-            number: 0,
-            sorts: c.sorts,
-            constructors: c.constructors,
-            predicates: c.predicates,
-            rules: c.rules,
-        },
+impl From<Result<Counts, Refusal>> for RulebookReport {
+    ghost from_gives = { λ judged report. report ≡ reported (told judged) };
+
+    fn from(judged: Result<Counts, Refusal>) -> RulebookReport {
+        match judged {
+            Err(refusal) => RulebookReport::from(refusal),
+            Ok(c) => RulebookReport {
+                number: 0,
+                sorts: c.sorts,
+                constructors: c.constructors,
+                predicates: c.predicates,
+                rules: c.rules,
+            },
+        }
     }
 }
 
@@ -60,7 +65,7 @@ fn judge(text: &[u8], a: &mut [u32], b: &mut [u32], c: &mut [u32], d: &mut [u32]
 {
     let judged = theory::theory(text, b, c, d);
     clearing::clear_all(a, b, c, d);
-    declared(judged)
+    RulebookReport::from(judged)
 }
 
 // "One call takes the rulebook alone and answers a number and the counts of sorts, constructors, predicates and rules."
@@ -75,10 +80,10 @@ pub fn rulebook(
         ≡ rulebook_left document01 a.old b.old c.old d.old rulebook.now }
 {
     if !clearing::long_enough(a.len(), b.len(), c.len(), d.len()) {
-        return refused(1);
+        return RulebookReport::from(Refusal::AreaShort);
     }
     if clearing::TEXT_BYTES < rulebook.len() {
-        return refused(2);
+        return RulebookReport::from(Refusal::TextLong);
     }
     judge(
         rulebook,

@@ -32,7 +32,7 @@ pub fn sort_named(
     ensures { told result ≡ sort_named text.now counts.now heap.now w }
 {
     let (s, t, q) = items::declared_name(text, counts, w)?;
-    let name = words::bytes_part(text, s, t);
+    let name = words::part(text, s, t);
     let e = names::find(heap, places::SORTS, places::BUCKETS, text, name).ok_or(Refusal::Unknown)?;
     Ok((e, q))
 }
@@ -50,7 +50,7 @@ pub fn enter(
 ) -> Result<Walk, Refusal>
     ensures { (told result leaving heap.new) ≡ entered text.now buckets e s t w heap.old }
 {
-    let name = words::bytes_part(text, s, t);
+    let name = words::part(text, s, t);
     if names::find(heap, buckets, places::BUCKETS, text, name).is_some() {
         return Err(Refusal::Duplicate);
     }

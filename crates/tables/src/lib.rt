@@ -169,7 +169,7 @@ pub fn goal_result(table: &[u32], e: u32) -> u32
 pub fn find_def(table: &[u32], buckets: u32, certificate: &[u8], s: usize, t: usize) -> Option<u32>
     ensures { answered result ≡ def_found buckets certificate.now (part s t certificate.now) table.now }
 {
-    let name = words::bytes_part(certificate, s, t);
+    let name = words::part(certificate, s, t);
     names::find(table, GOAL_BUCKETS, buckets, certificate, name)
 }
 

@@ -42,21 +42,21 @@ fn sized(right: bool, form: Form) -> Form
 }
 
 // The form that a head and a length say.
-#[tactic(auto, unfolding(crate::specs::Declarations::form_of, crate::specs::Declarations::form_named))]
+#[tactic(auto, using(words::proofs::Laws::same_pointwise), unfolding(crate::specs::Declarations::form_of, crate::specs::Declarations::form_named))]
 fn form_of(text: &[u8], s: usize, t: usize, members: u32) -> Form
     ensures { result ≡ form_of text.now s t members }
 {
-    let head = words::bytes_part(text, s, t);
-    if words::same(head, b"sort") {
+    let head = words::part(text, s, t);
+    if head == b"sort".as_slice() {
         return sized(members == 2, Form::Sort);
     }
-    if words::same(head, b"ctor") {
+    if head == b"ctor".as_slice() {
         return sized(members == 4, Form::Constructor);
     }
-    if words::same(head, b"pred") {
+    if head == b"pred".as_slice() {
         return sized(members == 3, Form::Predicate);
     }
-    if words::same(head, b"rule") {
+    if head == b"rule".as_slice() {
         return sized(members == 4, Form::Rule);
     }
     Form::Other

@@ -17,7 +17,7 @@ use Rattle.names.specs.Below.horn.specs.Checker as checker
 use Rattle.names.specs.Below.horn.proofs.Equality.{both}
 use Rattle.names.proofs.Holds.{by_number}
 use Rattle.requests.specs.Below.arena.specs.Store.{head_of, argument_of, area_words, intern_answer}
-use Rattle.requests.specs.Below.arena.specs.declared.Answer.{Answer}
+use Rattle.requests.specs.Below.arena.specs.Store.{Answer}
 use Rattle.requests.specs.Requests.{requested_area, emptied}
 use Rattle.requests.proofs.Counting.{KeepsStore, keeps_empty, Requested, met_found, met_made, not_met, requested_law}
 use Rattle.requests.specs.Below.arena.proofs.Nodes.{Node, node_of}

@@ -1,7 +1,7 @@
 -- What a node's number is to its caller, and the areas in which nodes are made.
 use Rattle.std.specs.Prelude.{ℕ, List}
-use Rattle.requests.specs.Below.arena.specs.declared.Answer.{Answer}
-use Rattle.requests.specs.Below.arena.specs.declared.Answer.TheVariants.{Found, Made, Full}
+use Rattle.requests.specs.Below.arena.specs.Store.{Answer}
+use Rattle.requests.specs.Below.arena.specs.Store.{Found, Made, Full}
 use Rattle.items.specs.Below.outcomes.specs.Outcomes.{Outcome, ok, refused}
 use Rattle.items.specs.Below.outcomes.specs.Leaving.{Did, ◌leaving◌}
 

@@ -80,7 +80,7 @@ pub fn variable_pattern(
     if items::is_bare(s, t) {
         return Err(Refusal::VariableName);
     }
-    match find_variable(vars, 0, w.variables, text, words::bytes_part(text, s, t)) {
+    match find_variable(vars, 0, w.variables, text, words::part(text, s, t)) {
         Some(v) => meet_again(vars, heap, v, sort, w),
         None => Ok(introduce(vars, heap, s, t, sort, w)),
     }

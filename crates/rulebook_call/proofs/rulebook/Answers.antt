@@ -5,10 +5,10 @@ use Rattle.rulebook_call.proofs.Call.{area_short_lem, text_long_lem, rulebook_ju
 use Rattle.rulebook_call.proofs.rulebook.Goals as goal
 
 pub returns-then-not-long_enough : goal.returns-then-not-long_enough
-returns-then-not-long_enough c = area_short_lem _ _ _ _ _ _ (sym c.long_enough.ensures ∙ c.if-not-long_enough.true) c.refused.ensures
+returns-then-not-long_enough c = area_short_lem _ _ _ _ _ _ (sym c.long_enough.ensures ∙ c.if-not-long_enough.true) c.from.ensures
 
 pub returns-then-rulebook-gt-TEXT_BYTES : goal.returns-then-rulebook-gt-TEXT_BYTES
-returns-then-rulebook-gt-TEXT_BYTES c = text_long_lem _ _ _ _ _ (sym c.long_enough.ensures ∙ c.if-not-long_enough.false) _ c.if-rulebook-gt-TEXT_BYTES.true c.refused-then-rulebook-gt-TEXT_BYTES.ensures
+returns-then-rulebook-gt-TEXT_BYTES c = text_long_lem _ _ _ _ _ (sym c.long_enough.ensures ∙ c.if-not-long_enough.false) _ c.if-rulebook-gt-TEXT_BYTES.true c.from-then-rulebook-gt-TEXT_BYTES.ensures
 
 pub slice_bounds-judge-end : goal.slice_bounds-judge-end
 slice_bounds-judge-end c = (long _ _ _ _ (sym c.long_enough.ensures ∙ c.if-not-long_enough.false)).first
