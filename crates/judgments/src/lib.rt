@@ -36,7 +36,7 @@ pub fn headed_judgment(
 }
 
 // A judgment, asked for with that much depth left.
-#[tactic(auto, using(crate::proofs::Turns::judgment_within), unfolding(crate::specs::Judgments::judgment))]
+#[tactic(auto, unfolding(crate::specs::Judgments::judgment))]
 pub fn judgment(
     scope: &Scope<'_>,
     store: &mut [u32],
