@@ -5,17 +5,16 @@
 ghost use Rattle.std.specs.Prelude.{◌≡◌, ◌+◌, length};
 ghost use Rattle.lex.specs.Answers.{start};
 ghost use Rattle.outcomes.specs.Leaving.{◌leaving◌};
-ghost use Rattle.goals.specs.Goals.{formed, gathered};
+ghost use Rattle.outcomes.specs.Told.{told};
 ghost use Rattle.certificates.specs.Certificates.{step_form, form_read, forms_from, certificate};
 
-use asking::{Begun, Named};
 use forms::Keyword;
-use goals::{Form, Forms};
 use lex::Reader;
-use steps::Stepped;
+use outcomes::Refusal;
 use tables::Tally;
 
 // "`(step I R (I...) item...)`": the step that was read and judged, recorded.
+#[tactic(auto, unfolding(crate::specs::Certificates::step_form))]
 pub fn step_form(
     text: &[u8],
     rules: &[u8],
@@ -25,20 +24,26 @@ pub fn step_form(
     heap: &mut [u32],
     tally: Tally,
     reader: Reader,
-) -> Form
-    ensures { (formed result leaving (((store.new, stack.new), heap.new), table.new))
+) -> Result<(Tally, Reader), Refusal>
+    ensures { (told result leaving (((store.new, stack.new), heap.new), table.new))
         ≡ step_form text.now rules.now tally reader store.old stack.old heap.old table.old }
 {
-    let s = steps::step(text, rules, table, store, stack, heap, tally.steps, reader);
-    match s {
-        Stepped::Refused(n) => Form::Refused(n),
-        Stepped::Judged(j, e, place, tested, q) => {
-            Form::Next(tables::add_step(table, j, e, place, tested, tally), q)
-        }
-    }
+    let (j, e, place, tested, next) = steps::step(
+        text,
+        rules,
+        table,
+        store,
+        stack,
+        heap,
+        tally.steps,
+        reader,
+    )?;
+    let counted = tables::add_step(table, j, e, place, tested, tally);
+    Ok((counted, next))
 }
 
 // One form, its opening taken. "Another head is 9."
+#[tactic(auto, unfolding(crate::specs::Certificates::form_read))]
 pub fn read_form(
     text: &[u8],
     goals: &[u8],
@@ -49,25 +54,22 @@ pub fn read_form(
     heap: &mut [u32],
     tally: Tally,
     reader: Reader,
-) -> Form
-    ensures { (formed result leaving (((store.new, stack.new), heap.new), table.new))
+) -> Result<(Tally, Reader), Refusal>
+    ensures { (told result leaving (((store.new, stack.new), heap.new), table.new))
         ≡ form_read text.now goals.now rules.now tally reader store.old stack.old heap.old
         table.old }
 {
-    let a = asking::atom_due(text, asking::IN_FORM, reader);
-    let Named::Atom(s, t, q) = a else {
-        return Form::Refused(asking::named_refusal(a));
-    };
-    let keyword = forms::keyword_of(text, s, t);
-    match keyword {
-        Keyword::Step => step_form(text, rules, table, store, stack, heap, tally, q),
-        Keyword::Result => forms::result_form(text, goals, table, tally, q),
-        Keyword::Def => forms::def_form(text, rules, heap, table, store, stack, tally, q),
-        Keyword::Other => Form::Refused(9),
+    let (s, t, named) = asking::atom_due(text, asking::IN_FORM, reader)?;
+    match forms::keyword_of(text, s, t) {
+        Keyword::Step => step_form(text, rules, table, store, stack, heap, tally, named),
+        Keyword::Result => forms::result_form(text, goals, table, tally, named),
+        Keyword::Def => forms::def_form(text, rules, heap, table, store, stack, tally, named),
+        Keyword::Other => Err(Refusal::Form),
     }
 }
 
 // All forms, in order.
+#[tactic(auto, using(crate::proofs::Turns::turns))]
 pub fn all_forms(
     text: &[u8],
     goals: &[u8],
@@ -77,37 +79,25 @@ pub fn all_forms(
     stack: &mut [u32],
     heap: &mut [u32],
     tally: Tally,
-) -> Forms
-    ensures { (gathered result leaving (((store.new, stack.new), heap.new), table.new))
+) -> Result<Tally, Refusal>
+    ensures { (told result leaving (((store.new, stack.new), heap.new), table.new))
         ≡ forms_from (length text.now + 1) text.now goals.now rules.now tally start store.old
         stack.old heap.old table.old }
 {
     let mut r = Reader::new();
     let mut now = tally;
-    let mut fuel = text.len() + 1;
-    while 0 < fuel {
-        let next = asking::form_due(text, r);
-        match next {
-            Begun::Refused(n) => return Forms::Refused(n),
-            Begun::Over => return Forms::All(now),
-            Begun::Form(q) => {
-                let f = read_form(text, goals, rules, table, store, stack, heap, now, q);
-                match f {
-                    Form::Refused(n) => return Forms::Refused(n),
-                    Form::Next(after, p) => {
-                        now = after;
-                        r = p;
-                        fuel -= 1;
-                    }
-                }
-            }
-        }
+    for _turn in 0..=text.len() {
+        let Some(opened) = asking::form_due(text, r)? else {
+            return Ok(now);
+        };
+        (now, r) = read_form(text, goals, rules, table, store, stack, heap, now, opened)?;
     }
     // Out of turns: the laws show that this is never met.
-    Forms::Refused(2)
+    Err(Refusal::TextLong)
 }
 
 // The certificate. "At the end an open goal is 29."
+#[tactic(auto, unfolding(crate::specs::Certificates::certificate))]
 pub fn certificate(
     text: &[u8],
     goals: &[u8],
@@ -117,19 +107,14 @@ pub fn certificate(
     stack: &mut [u32],
     heap: &mut [u32],
     tally: Tally,
-) -> Forms
-    ensures { (gathered result leaving (((store.new, stack.new), heap.new), table.new))
+) -> Result<Tally, Refusal>
+    ensures { (told result leaving (((store.new, stack.new), heap.new), table.new))
         ≡ certificate text.now goals.now rules.now tally store.old stack.old heap.old
         table.old }
 {
-    let all = all_forms(text, goals, rules, table, store, stack, heap, tally);
-    match all {
-        Forms::Refused(n) => Forms::Refused(n),
-        Forms::All(last) => {
-            if last.left != 0 {
-                return Forms::Refused(29);
-            }
-            Forms::All(last)
-        }
+    let last = all_forms(text, goals, rules, table, store, stack, heap, tally)?;
+    if last.left != 0 {
+        return Err(Refusal::GoalOpen);
     }
+    Ok(last)
 }

@@ -3,7 +3,7 @@ use Rattle.std.specs.Prelude.{ℕ, ◌+◌, List}
 use Rattle.theory.specs.Below.words.specs.Parts.{cleared}
 use Rattle.arena.specs.Store.{count}
 use Rattle.requests.specs.Requests.{emptied, requested_of}
-use Rattle.outcomes.specs.Outcomes.{Outcome, ok, refused}
+use Rattle.outcomes.specs.Outcomes.{ok}
 use Rattle.outcomes.specs.Leaving.{Did, ◌leaving◌, ◌>>=◌}
 use Rattle.theory.specs.Walks as walks
 use Rattle.theory.specs.Walks.{theory}
@@ -12,14 +12,7 @@ use Rattle.tables.specs.declared.Tally.{Tally}
 use Rattle.goals.specs.Goals as goals
 use Rattle.certificates.specs.Certificates.{AllAreas, around, certificate}
 use Rattle.checker.specs.declared.Counts.{Counts}
-use Rattle.checker.specs.declared.Checked.{Checked}
-use Rattle.checker.specs.declared.Checked.TheVariants as checks
 use Rattle.nodes.specs.Limits.{node_limit, word_limit, index_places, def_buckets}
-
--- What each case of an answer says: the counts of an accepted release, or a refusal by its number.
-abbrev pub checked : Checked → Outcome Counts
-checked (checks.Accepted c) = ok c
-checked (checks.Refused n) = refused n
 
 -- The rulebook's walks are lent the table, the stack and the theory's area, and not the store.
 abbrev pub beside_store : {A : Type 0} → List ℕ → Did walks.AllAreas A → Did AllAreas A

@@ -3,26 +3,20 @@
 
 ghost use Rattle.std.specs.Prelude.{◌≡◌};
 ghost use Rattle.outcomes.specs.Leaving.{◌leaving◌};
+ghost use Rattle.outcomes.specs.Told.{told};
 ghost use Rattle.checker.specs.Checker as models;
 
-use goals::Forms;
 use nodes::limits;
+use outcomes::Refusal;
 use tables::Tally;
-use theory::Judged;
 
 // How many steps and goals an accepted release has, how many terms the store holds at its end, and how many requests to it were met.
-#[derive(Drop)]
+#[derive(Clone, Copy)]
 pub struct Counts {
     pub steps: u32,
     pub goals: u32,
     pub terms: u32,
     pub requested: u32,
-}
-
-#[derive(Drop)]
-pub enum Checked {
-    Accepted(Counts),
-    Refused(u32),
 }
 
 // The counts once all forms are read.
@@ -33,11 +27,12 @@ fn counts_of(last: Tally, store: &[u32]) -> Counts
         steps: last.steps,
         goals: last.goals,
         terms: arena::node_count(store),
-        requested: requests::requested(store, limits::NODES, limits::WORDS, limits::PLACES),
+        requested: requests::requested(store, limits::STORE),
     }
 }
 
 // The rulebook, the goals, the certificate. The first refusal met is given.
+#[tactic(auto, unfolding(crate::specs::Checker::check))]
 pub fn check(
     rulebook: &[u8],
     text: &[u8],
@@ -46,22 +41,16 @@ pub fn check(
     table: &mut [u32],
     stack: &mut [u32],
     heap: &mut [u32],
-) -> Checked
-    ensures { (models.checked result leaving (((store.new, stack.new), heap.new), table.new))
+) -> Result<Counts, Refusal>
+    ensures { (told result leaving (((store.new, stack.new), heap.new), table.new))
         ≡ models.check rulebook.now text.now certificate.now store.old table.old stack.old
         heap.old }
 {
-    let judged = theory::theory(rulebook, table, stack, heap);
-    if let Judged::Refused(n) = judged {
-        return Checked::Refused(n);
-    }
-    requests::empty(store, limits::NODES, limits::WORDS, limits::PLACES);
+    theory::theory(rulebook, table, stack, heap)?;
+    requests::empty(store, limits::STORE);
     let none = tables::begin(table, limits::DEF_BUCKETS);
-    let gathered = goals::goals(text, rulebook, heap, table, store, stack, none);
-    let Forms::All(tally) = gathered else {
-        return Checked::Refused(goals::forms_refusal(gathered));
-    };
-    let all = certificates::certificate(
+    let gathered = goals::goals(text, rulebook, heap, table, store, stack, none)?;
+    let last = certificates::certificate(
         certificate,
         text,
         rulebook,
@@ -69,10 +58,7 @@ pub fn check(
         store,
         stack,
         heap,
-        tally,
-    );
-    let Forms::All(last) = all else {
-        return Checked::Refused(goals::forms_refusal(all));
-    };
-    Checked::Accepted(counts_of(last, store))
+        gathered,
+    )?;
+    Ok(counts_of(last, store))
 }

@@ -1,8 +1,7 @@
 -- One turn of the loop over the goals, on the side of the models. Assumes nothing.
-use Prim.Native.Nat.{ℕ, ◌+◌, ◌≤◌}
+use Prim.Native.Nat.{ℕ, ◌+◌}
 use native.Mathlib.Numerals.{add-one}
-use native.Mathlib.Omega.{arith}
-use mathlib.Core.Path.{◌≡◌, refl, ap}
+use mathlib.Core.Path.{◌≡◌, refl}
 use mathlib.Core.List.{List}
 use Rattle.pages.specs.Pages.{line_at, lines_to}
 
@@ -15,5 +14,4 @@ module _ (rulebook goals table heap out : List ℕ) where
   unfolding lines_to
   lines_on k = rw (add-one k)
 
-  pub lines-end : (k n : ℕ) → k ≤ n → n ≤ k → lines_to k rulebook goals table heap out ≡ lines_to n rulebook goals table heap out
-  lines-end k n h l = ap (λ m. lines_to m rulebook goals table heap out) (omega arith)
+pub ruleset turns = (lines_first, lines_on)

@@ -6,8 +6,10 @@ ghost use Rattle.std.specs.Prelude.{◌*◌, ◌≡◌};
 ghost use Rattle.pages.specs.Pages.{line_at, lines_to, page_from};
 
 use nodes::limits;
+use tables::StepPart;
 
 // The line of goal k: its name, its result's step, and the name of the rule of that step.
+#[tactic(auto, unfolding(crate::specs::Pages::line_at))]
 pub fn goal_line<'a>(
     rulebook: &'a [u8],
     goals: &'a [u8],
@@ -21,13 +23,14 @@ pub fn goal_line<'a>(
 {
     let e = tables::goal_at(limits::DEF_BUCKETS, k);
     let n = tables::goal_result(table, e);
-    let rule = tables::step_rule(table, n);
+    let rule = tables::step_part(table, n, StepPart::Rule);
     let name = shown_names::shown(false, rulebook, goals, table, e);
     let by = shown_names::shown(true, rulebook, goals, heap, rule);
     page_lines::goal_line(out, k, name, n, by);
 }
 
 // The lines of the first n goals, in goals order.
+#[tactic(auto, using(crate::proofs::Turns::turns))]
 pub fn goal_lines<'a>(
     rulebook: &'a [u8],
     goals: &'a [u8],
@@ -39,15 +42,14 @@ pub fn goal_lines<'a>(
     ensures { out.new
         ≡ lines_to n rulebook.now goals.now table.now heap.now out.old }
 {
-    let mut k: u32 = 0;
-    while k < n {
+    for k in 0..n {
         goal_line(rulebook, goals, table, heap, k, out);
-        k += 1;
     }
 }
 
 // The page of a release that has so many goals and steps. The store's area and the stack are free by now: the one takes the marks of the
 // steps, the other the references that are read again.
+#[tactic(auto, unfolding(crate::specs::Pages::page_from))]
 pub fn page<'a>(
     rulebook: &'a [u8],
     text: &'a [u8],

@@ -3,7 +3,7 @@ use Rattle.std.specs.Prelude.{ℕ, List, eqb, set}
 use Rattle.words.specs.Parts.{part}
 use Rattle.words.specs.Sums.{sum32}
 use Rattle.lex.specs.declared.Reader.{Reader}
-use Rattle.outcomes.specs.Outcomes.{ok, need, or_else, pick}
+use Rattle.outcomes.specs.Outcomes.{ok, need, or_else}
 use Rattle.outcomes.specs.Leaving.{Did, ◌leaving◌, ◌>>=◌}
 use Rattle.theory_reading.specs.Reading.{variable_found, sort_of_variable}
 use Rattle.theory_reading.specs.Storing.{Areas, before}

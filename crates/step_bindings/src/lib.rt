@@ -4,16 +4,15 @@
 
 ghost use Rattle.std.specs.Prelude.{◌≡◌};
 ghost use Rattle.outcomes.specs.Leaving.{◌leaving◌};
-ghost use Rattle.asking.specs.Asking.{passed};
+ghost use Rattle.outcomes.specs.Told.{told};
 ghost use Rattle.step_bindings.specs.StepBindings as models;
 
-use asking::Passed;
 use items::places;
 use lex::Reader;
-use names::Found;
-use nodes::Numbered;
+use outcomes::Refusal;
 
 // "`(?v T)`: unknown v 12, T, closing 10, bound already or wrong sort 21." The name v was asked for: an atom with these bounds.
+#[tactic(auto, unfolding(crate::specs::StepBindings::binding, matching::specs::Matching::binding_of))]
 pub fn binding(
     text: &[u8],
     rules: &[u8],
@@ -26,16 +25,14 @@ pub fn binding(
     s: usize,
     t: usize,
     reader: Reader,
-) -> Passed
-    ensures { (passed result leaving ((store.new, stack.new), heap.new))
+) -> Result<Reader, Refusal>
+    ensures { (told result leaving ((store.new, stack.new), heap.new))
         ≡ models.binding text.now rules.now table.now rule top s t reader store.old stack.old
         heap.old }
 {
-    let found = theory_reading::find_variable(heap, rule, rules, text, s, t);
-    let Found::At(v) = found else {
-        return Passed::Refused(12);
-    };
-    let a = terms::term(
+    let name = words::part(text, s, t);
+    let v = theory_reading::find_variable(heap, rule, rules, name).ok_or(Refusal::Unknown)?;
+    let (k, behind) = terms::term(
         text,
         rules,
         heap,
@@ -45,20 +42,14 @@ pub fn binding(
         top,
         asking::IN_LIST,
         reader,
-    );
-    let Numbered::Got(k, q) = a else {
-        return Passed::Refused(nodes::numbered_refusal(a));
-    };
-    let c = asking::closing_due(text, q);
-    let Passed::To(p) = c else {
-        return Passed::Refused(asking::passed_refusal(c));
-    };
+    )?;
+    let next = asking::closing_due(text, behind)?;
     if words::at(heap, places::BINDINGS + v as usize) != 0 {
-        return Passed::Refused(21);
+        return Err(Refusal::BadBinding);
     }
     if nodes::sort_of(heap, store, k) != theory_reading::variable_sort(heap, rule, v) {
-        return Passed::Refused(21);
+        return Err(Refusal::BadBinding);
     }
     matching::set_binding(heap, v, words::plus(k, 1));
-    Passed::To(p)
+    Ok(next)
 }

@@ -1,16 +1,18 @@
 // The items of a step: bindings, and the judgment that it states. What is under construction stands on the stack above the references.
+// The stated one is `word`: 0, or its number plus 1, in 32 bits as the model has it; an Option of a number would have a value more.
 #![tactic(auto)]
 
 ghost use Rattle.std.specs.Prelude.{◌≡◌};
 ghost use Rattle.outcomes.specs.Leaving.{◌leaving◌};
-ghost use Rattle.nodes.specs.Nodes.{numbered};
+ghost use Rattle.outcomes.specs.Told.{told};
 ghost use Rattle.step_items.specs.StepItems as models;
 
-use asking::{Look, Named, Passed};
+use asking::Look;
 use lex::Reader;
-use nodes::Numbered;
+use outcomes::Refusal;
 
-// "Otherwise a judgment; a second, once read, is 22." `word` is 0, or the number of the one stated before plus 1.
+// "Otherwise a judgment; a second, once read, is 22." `word` tells the one stated before.
+#[tactic(auto, unfolding(crate::specs::StepItems::stated))]
 pub fn stated(
     text: &[u8],
     rules: &[u8],
@@ -23,12 +25,12 @@ pub fn stated(
     s: usize,
     t: usize,
     reader: Reader,
-) -> Numbered
-    ensures { (numbered result leaving ((store.new, stack.new), heap.now))
+) -> Result<(u32, Reader), Refusal>
+    ensures { (told result leaving ((store.new, stack.new), heap.now))
         ≡ models.stated text.now rules.now table.now top word s t reader store.old stack.old
         heap.now }
 {
-    let j = judgments::headed_judgment(
+    let (k, next) = judgments::headed_judgment(
         text,
         rules,
         heap,
@@ -40,17 +42,15 @@ pub fn stated(
         s,
         t,
         reader,
-    );
-    let Numbered::Got(k, q) = j else {
-        return Numbered::Refused(nodes::numbered_refusal(j));
-    };
+    )?;
     if word != 0 {
-        return Numbered::Refused(22);
+        return Err(Refusal::SecondConclusion);
     }
-    Numbered::Got(words::plus(k, 1), q)
+    Ok((words::plus(k, 1), next))
 }
 
 // An item whose head, an atom with these bounds, was asked for.
+#[tactic(auto, unfolding(crate::specs::StepItems::headed_item))]
 pub fn headed_item(
     text: &[u8],
     rules: &[u8],
@@ -63,23 +63,25 @@ pub fn headed_item(
     word: u32,
     s: usize,
     t: usize,
-    r: Reader,
-) -> Numbered
-    ensures { (numbered result leaving ((store.new, stack.new), heap.new))
-        ≡ models.headed_item text.now rules.now table.now rule top word s t r store.old stack.old
+    reader: Reader,
+) -> Result<(u32, Reader), Refusal>
+    ensures { (told result leaving ((store.new, stack.new), heap.new))
+        ≡ models.headed_item text.now rules.now table.now rule top word s t reader store.old stack.old
         heap.old }
 {
     if items::is_question(text, s) {
-        let b = step_bindings::binding(text, rules, table, store, stack, heap, rule, top, s, t, r);
-        let Passed::To(q) = b else {
-            return Numbered::Refused(asking::passed_refusal(b));
-        };
-        return Numbered::Got(word, q);
+        let next = step_bindings::binding(
+            text, rules, table, store, stack, heap, rule, top, s, t, reader,
+        )?;
+        return Ok((word, next));
     }
-    stated(text, rules, table, store, stack, heap, top, word, s, t, r)
+    stated(
+        text, rules, table, store, stack, heap, top, word, s, t, reader,
+    )
 }
 
 // "An item is a list with an atom head".
+#[tactic(auto, unfolding(crate::specs::StepItems::item))]
 pub fn item(
     text: &[u8],
     rules: &[u8],
@@ -91,25 +93,20 @@ pub fn item(
     top: u32,
     word: u32,
     reader: Reader,
-) -> Numbered
-    ensures { (numbered result leaving ((store.new, stack.new), heap.new))
+) -> Result<(u32, Reader), Refusal>
+    ensures { (told result leaving ((store.new, stack.new), heap.new))
         ≡ models.item text.now rules.now table.now rule top word reader store.old stack.old
         heap.old }
 {
-    let l = asking::list_due(text, asking::IN_FORM, reader);
-    let Passed::To(q) = l else {
-        return Numbered::Refused(asking::passed_refusal(l));
-    };
-    let a = asking::atom_due(text, asking::IN_LIST, q);
-    let Named::Atom(s, t, p) = a else {
-        return Numbered::Refused(asking::named_refusal(a));
-    };
+    let opened = asking::list_due(text, asking::IN_FORM, reader)?;
+    let (s, t, next) = asking::atom_due(text, asking::IN_LIST, opened)?;
     headed_item(
-        text, rules, table, store, stack, heap, rule, top, word, s, t, p,
+        text, rules, table, store, stack, heap, rule, top, word, s, t, next,
     )
 }
 
-// All items of a step: 0, or the number of the stated conclusion plus 1.
+// All items of a step: the word that tells the stated conclusion, and the reader after the closing.
+#[tactic(auto, using(crate::proofs::Turns::turns), unfolding(crate::specs::StepItems::items))]
 pub fn items(
     text: &[u8],
     rules: &[u8],
@@ -120,30 +117,23 @@ pub fn items(
     rule: u32,
     top: u32,
     reader: Reader,
-) -> Numbered
-    ensures { (numbered result leaving ((store.new, stack.new), heap.new))
+) -> Result<(u32, Reader), Refusal>
+    ensures { (told result leaving ((store.new, stack.new), heap.new))
         ≡ models.items text.now rules.now table.now rule top reader store.old stack.old
         heap.old }
 {
     let mut r = reader;
     let mut word: u32 = 0;
-    let mut fuel = text.len() + 1;
-    while 0 < fuel {
-        let next = asking::closing_next(text, r);
-        match next {
-            Look::Refused(m) => return Numbered::Refused(m),
-            Look::Closing(q) => return Numbered::Got(word, q),
-            Look::Member(q) => {
-                let a = item(text, rules, table, store, stack, heap, rule, top, word, q);
-                let Numbered::Got(k, p) = a else {
-                    return Numbered::Refused(nodes::numbered_refusal(a));
-                };
-                r = p;
-                word = k;
-                fuel -= 1;
+    for _turn in 0..=text.len() {
+        match asking::closing_next(text, r)? {
+            Look::Closing(next) => return Ok((word, next)),
+            Look::Member(held) => {
+                (word, r) = item(
+                    text, rules, table, store, stack, heap, rule, top, word, held,
+                )?;
             }
         }
     }
     // Out of turns: the laws show that this is never met.
-    Numbered::Refused(2)
+    Err(Refusal::TextLong)
 }

@@ -1,7 +1,7 @@
 -- A step that is read: what each function answers, and what it leaves of the store, of the stack and of the theory's area with its bindings.
 use Rattle.std.specs.Prelude.{ℕ, List}
 use Rattle.lex.specs.declared.Reader.{Reader}
-use Rattle.outcomes.specs.Outcomes.{Outcome, ok, refused}
+use Rattle.outcomes.specs.Outcomes.{ok}
 use Rattle.outcomes.specs.Leaving.{Did, ◌leaving◌, ◌>>=◌, beside}
 use Rattle.theory_reading.specs.Reading.{variable_count}
 use Rattle.theory_reading.specs.Storing.{before}
@@ -9,15 +9,7 @@ use Rattle.concluding.specs.Concluding.{unbound, step_concluded}
 use Rattle.references.specs.References.{rule_due, counted_references}
 use Rattle.step_items.specs.Below.step_bindings.specs.StepBindings.{Worked}
 use Rattle.step_items.specs.StepItems.{items}
-use Rattle.steps.specs.declared.Stepped.{Stepped}
-use Rattle.steps.specs.declared.Stepped.TheVariants as stepped
 use Rattle.nodes.specs.Limits.{node_limit, word_limit, index_places}
-
--- What a step answers: its judgment's number, its rule's address, the place of its references in the text, up to where that is tested
--- there, and the reader after its items.
-abbrev pub judged : Stepped → Outcome (ℕ × ℕ × ℕ × ℕ × Reader)
-judged (stepped.Judged j e place tested r) = ok (j, e, place, tested, r)
-judged (stepped.Refused n) = refused n
 
 -- "Items; matching": no variable is bound before.
 unfoldable pub items_judged : List ℕ → List ℕ → List ℕ → ℕ → ℕ → ℕ → Reader → List ℕ → List ℕ → List ℕ → Did Worked (ℕ × Reader)

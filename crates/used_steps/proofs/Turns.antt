@@ -39,3 +39,5 @@ pub counted_end : (n : ℕ) (certificate table : List ℕ) (used : ℕ) (areas :
 unfolding counted
 counted_end zero certificate table used areas l = refl
 counted_end (suc n) certificate table used areas l = absurd (omega arith)
+
+pub ruleset turns = (marked_on, marked_end, counted_on, counted_past, counted_end)

@@ -1,9 +1,8 @@
 -- What each function answers and leaves, for any words: the marks of the steps, and the area where references are read to.
-use Rattle.std.specs.Prelude.{ℕ, zero, suc, true, false, List, eqb, get_or, set}
+use Rattle.std.specs.Prelude.{ℕ, zero, suc, true, false, List, eqb, get_or, set, None}
 use Rattle.words.specs.Parts.{cleared}
 use Rattle.words.specs.Sums.{sum32}
 use Rattle.lex.specs.Answers.{after}
-use Rattle.lex.specs.declared.Ahead.TheVariants.{Nothing}
 use Rattle.lex.specs.declared.Reader.{Reader}
 use Rattle.nodes.specs.Below.outcomes.specs.Outcomes.{ok, refused}
 use Rattle.nodes.specs.Below.outcomes.specs.Leaving.{Did, ◌leaving◌}
@@ -32,7 +31,7 @@ marking (refused m leaving refs) marks = (refs, marks)
 -- The steps that step n refers to are marked: its list is read again from its place.
 unfoldable pub leaned : List ℕ → List ℕ → ℕ → List ℕ × List ℕ → List ℕ × List ℕ
 leaned certificate table n areas =
-    marking (references certificate (after (step_kept table n 2) (step_kept table n 3) Nothing) areas.0) areas.1
+    marking (references certificate (after (step_kept table n 2) (step_kept table n 3) None) areas.0) areas.1
 
 -- Back over the first n steps: how many are marked when they are come to.
 unfoldable pub counted : ℕ → List ℕ → List ℕ → ℕ → List ℕ × List ℕ → ℕ × List ℕ × List ℕ
