@@ -9,7 +9,7 @@ ghost use Rattle.outcomes.specs.Told.{told};
 ghost use Rattle.forms.specs.Forms.{keyword_of, def_named, def_form, result_form};
 
 use lex::Reader;
-use nodes::limits;
+use nodes::{Scope, limits};
 use outcomes::Refusal;
 use tables::{StepPart, Tally};
 
@@ -71,17 +71,13 @@ pub fn def_form(
         ≡ def_form text.now rules.now heap.now tally reader store.old stack.old table.old }
 {
     let (s, t, named) = def_name(text, reader)?;
-    let (k, behind) = terms::term(
+    let scope = Scope {
         text,
         rules,
         heap,
         table,
-        store,
-        stack,
-        0,
-        asking::IN_FORM,
-        named,
-    )?;
+    };
+    let (k, behind) = terms::term(&scope, store, stack, 0, asking::IN_FORM, named)?;
     if tables::find_def(table, limits::DEF_BUCKETS, text, s, t).is_some() {
         return Err(Refusal::Duplicate);
     }

@@ -1,4 +1,5 @@
-// The goals text. Its goals stand in the table (crate tables), their judgments in the store; the stack is empty between two goals.
+// The goals text. Its goals stand in the table (crate tables), their judgments in the store; the stack is empty between two goals. Areas that are
+// written stay parameters of their own: lent through a struct, each would need a clause in each function that it is the same area still.
 #![tactic(auto)]
 
 ghost use Rattle.std.specs.Prelude.{◌≡◌, ◌+◌, length};
@@ -7,6 +8,7 @@ ghost use Rattle.outcomes.specs.Leaving.{◌leaving◌};
 ghost use Rattle.goals.specs.Goals.{goal_name, goal, goals_from, goals};
 
 use lex::Reader;
+use nodes::Scope;
 use outcomes::Refusal;
 use tables::Tally;
 
@@ -43,17 +45,13 @@ pub fn goal(
         ≡ goal text.now rules.now heap.now tally reader store.old stack.old table.old }
 {
     let (s, t, r) = goal_name(text, reader)?;
-    let (k, r) = judgments::judgment(
+    let scope = Scope {
         text,
         rules,
         heap,
         table,
-        store,
-        stack,
-        0,
-        asking::IN_FORM,
-        r,
-    )?;
+    };
+    let (k, r) = judgments::judgment(&scope, store, stack, 0, asking::IN_FORM, r)?;
     let r = asking::closing_due(text, r)?;
     if tables::find_goal(table, text, words::part(text, s, t)).is_some() {
         return Err(Refusal::Duplicate);

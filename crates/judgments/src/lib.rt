@@ -7,16 +7,14 @@ ghost use Rattle.outcomes.specs.Leaving.{◌leaving◌};
 ghost use Rattle.judgments.specs.Judgments.{headed_judgment, judgment};
 
 use lex::Reader;
+use nodes::Scope;
 use outcomes::Refusal;
 use theory_reading::Section;
 
 // "Judgment: list, head a predicate (12), arguments, 15, store." Here its head was asked for: an atom with these bounds.
 #[tactic(auto, unfolding(crate::specs::Judgments::headed_judgment, nodes::specs::Nodes::predicate_due))]
 pub fn headed_judgment(
-    text: &[u8],
-    rules: &[u8],
-    heap: &[u32],
-    table: &[u32],
+    scope: &Scope<'_>,
     store: &mut [u32],
     stack: &mut [u32],
     top: u32,
@@ -26,23 +24,21 @@ pub fn headed_judgment(
     reader: Reader,
 ) -> Result<(u32, Reader), Refusal>
     ensures { (told result leaving (store.new, stack.new))
-        ≡ headed_judgment left text.now rules.now heap.now table.now top s t reader store.old
-        stack.old }
+        ≡ headed_judgment left scope.now.text.now scope.now.rules.now scope.now.heap.now scope.now.table.now
+        top s t reader store.old stack.old }
 {
-    let found = theory_reading::find(heap, rules, Section::Predicates, words::part(text, s, t));
+    let name = words::part(scope.text, s, t);
+    let found = theory_reading::find(scope.heap, scope.rules, Section::Predicates, name);
     let c = found.ok_or(Refusal::Unknown)?;
     let above = words::plus(top, 1);
-    let (n, r) = terms::args(text, rules, heap, table, store, stack, above, left, reader)?;
-    nodes::make(heap, store, stack, c, top, n, r)
+    let (n, r) = terms::args(scope, store, stack, above, left, reader)?;
+    nodes::make(scope.heap, store, stack, c, top, n, r)
 }
 
 // A judgment, asked for with that much depth left.
 #[tactic(auto, unfolding(crate::specs::Judgments::judgment))]
 pub fn judgment(
-    text: &[u8],
-    rules: &[u8],
-    heap: &[u32],
-    table: &[u32],
+    scope: &Scope<'_>,
     store: &mut [u32],
     stack: &mut [u32],
     top: u32,
@@ -50,25 +46,13 @@ pub fn judgment(
     reader: Reader,
 ) -> Result<(u32, Reader), Refusal>
     ensures { (told result leaving (store.new, stack.new))
-        ≡ judgment left text.now rules.now heap.now table.now top reader store.old
-        stack.old }
+        ≡ judgment left scope.now.text.now scope.now.rules.now scope.now.heap.now scope.now.table.now
+        top reader store.old stack.old }
 {
     if left == 0 {
         return Err(Refusal::Nesting);
     }
-    let r = asking::list_due(text, left, reader)?;
-    let (s, t, r) = asking::atom_due(text, left - 1, r)?;
-    headed_judgment(
-        text,
-        rules,
-        heap,
-        table,
-        store,
-        stack,
-        top,
-        left - 1,
-        s,
-        t,
-        r,
-    )
+    let r = asking::list_due(scope.text, left, reader)?;
+    let (s, t, r) = asking::atom_due(scope.text, left - 1, r)?;
+    headed_judgment(scope, store, stack, top, left - 1, s, t, r)
 }

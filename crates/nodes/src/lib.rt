@@ -18,6 +18,16 @@ use theory_reading::Section;
 
 pub mod limits;
 
+// In what names are looked up: the text that they stand in, the rulebook with its theory, and the abbreviations. Store and stack, which nodes are
+// made in, stay parameters of their own: lent through a struct, each would need a clause in each function that it is the same area still.
+#[derive(Clone, Copy)]
+pub struct Scope<'a> {
+    pub text: &'a [u8],
+    pub rules: &'a [u8],
+    pub heap: &'a [u32],
+    pub table: &'a [u32],
+}
+
 // The sort of a term is what its head gives.
 #[tactic(auto, unfolding(crate::specs::Nodes::sort_of))]
 pub fn sort_of(heap: &[u32], store: &[u32], k: u32) -> u32
@@ -89,10 +99,7 @@ pub fn make(
 // "An atom with a leading `?`, `?` alone too, is an earlier abbreviation (12). An atom or head is a constructor (12)."
 #[tactic(auto, unfolding(crate::specs::Nodes::atom_term, crate::specs::Nodes::constructor_due))]
 pub fn atom_term(
-    text: &[u8],
-    rules: &[u8],
-    heap: &[u32],
-    table: &[u32],
+    scope: &Scope<'_>,
     store: &mut [u32],
     stack: &mut [u32],
     top: u32,
@@ -101,36 +108,27 @@ pub fn atom_term(
     reader: Reader,
 ) -> Result<(u32, Reader), Refusal>
     ensures { (told result leaving (store.new, stack.new))
-        ≡ atom_term text.now rules.now heap.now table.now top s t reader store.old stack.old }
+        ≡ atom_term scope.now.text.now scope.now.rules.now scope.now.heap.now scope.now.table.now
+        top s t reader store.old stack.old }
 {
-    if items::is_question(text, s) {
-        let meaning = tables::meaning(table, limits::DEF_BUCKETS, text, s, t);
+    if items::is_question(scope.text, s) {
+        let meaning = tables::meaning(scope.table, limits::DEF_BUCKETS, scope.text, s, t);
         return Ok((meaning.ok_or(Refusal::Unknown)?, reader));
     }
-    let found = theory_reading::find(heap, rules, Section::Constructors, words::part(text, s, t));
-    make(
-        heap,
-        store,
-        stack,
-        found.ok_or(Refusal::Unknown)?,
-        top,
-        0,
-        reader,
-    )
+    let name = words::part(scope.text, s, t);
+    let found = theory_reading::find(scope.heap, scope.rules, Section::Constructors, name);
+    let c = found.ok_or(Refusal::Unknown)?;
+    make(scope.heap, store, stack, c, top, 0, reader)
 }
 
 // The head of a term in brackets, asked for without a look ahead.
 #[tactic(auto, unfolding(crate::specs::Nodes::head_due, crate::specs::Nodes::constructor_due))]
-pub fn head(
-    text: &[u8],
-    rules: &[u8],
-    heap: &[u32],
-    left: u32,
-    reader: Reader,
-) -> Result<(u32, Reader), Refusal>
-    ensures { told result ≡ head_due text.now rules.now heap.now left reader }
+pub fn head(scope: &Scope<'_>, left: u32, reader: Reader) -> Result<(u32, Reader), Refusal>
+    ensures { told result
+        ≡ head_due scope.now.text.now scope.now.rules.now scope.now.heap.now left reader }
 {
-    let (s, t, next) = asking::atom_due(text, left, reader)?;
-    let found = theory_reading::find(heap, rules, Section::Constructors, words::part(text, s, t));
+    let (s, t, next) = asking::atom_due(scope.text, left, reader)?;
+    let name = words::part(scope.text, s, t);
+    let found = theory_reading::find(scope.heap, scope.rules, Section::Constructors, name);
     Ok((found.ok_or(Refusal::Unknown)?, next))
 }

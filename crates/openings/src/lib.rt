@@ -11,6 +11,7 @@ ghost use Rattle.openings.specs.Openings.{begins, look_for, begun_at, begun};
 
 use asking::{Item, Look};
 use lex::Reader;
+use nodes::Scope;
 use outcomes::Refusal;
 
 // What begins where a term or a closing is due: a closing, taken; a term without brackets; a list, by the symbol that is its head.
@@ -34,10 +35,7 @@ pub fn look(text: &[u8], member: bool, reader: Reader) -> Result<Look, Refusal>
 // A term, up to its arguments if it has any.
 #[tactic(auto, unfolding(asking::specs::Asking::item_due))]
 pub fn item(
-    text: &[u8],
-    rules: &[u8],
-    heap: &[u32],
-    table: &[u32],
+    scope: &Scope<'_>,
     store: &mut [u32],
     stack: &mut [u32],
     r: &mut Reader,
@@ -46,20 +44,20 @@ pub fn item(
     reader: Reader,
 ) -> Result<Begun, Refusal>
     ensures { (told_as (begins r.new) result leaving (store.new, stack.new))
-        ≡ begun_at left text.now rules.now heap.now table.now top (asked.member reader) store.old
-        stack.old }
+        ≡ begun_at left scope.now.text.now scope.now.rules.now scope.now.heap.now scope.now.table.now
+        top (asked.member reader) store.old stack.old }
 {
     if left == 0 {
         return Err(Refusal::Nesting);
     }
-    match asking::item_due(text, left, reader)? {
+    match asking::item_due(scope.text, left, reader)? {
         Item::Atom(s, t, p) => {
-            let (k, next) = nodes::atom_term(text, rules, heap, table, store, stack, top, s, t, p)?;
+            let (k, next) = nodes::atom_term(scope, store, stack, top, s, t, p)?;
             *r = next;
             Ok(Begun::Whole(k))
         }
         Item::List(p) => {
-            let (c, next) = nodes::head(text, rules, heap, left - 1, p)?;
+            let (c, next) = nodes::head(scope, left - 1, p)?;
             *r = next;
             Ok(Begun::Opened(c))
         }
@@ -70,10 +68,7 @@ pub fn item(
 // its own, which the C interface's bound on the stack needs. A function for members alone would be compiled into each level of a term.
 #[tactic(auto, unfolding(crate::specs::Openings::begun))]
 pub fn begin(
-    text: &[u8],
-    rules: &[u8],
-    heap: &[u32],
-    table: &[u32],
+    scope: &Scope<'_>,
     store: &mut [u32],
     stack: &mut [u32],
     r: &mut Reader,
@@ -82,13 +77,14 @@ pub fn begin(
     member: bool,
 ) -> Result<Begun, Refusal>
     ensures { (told_as (begins r.new) result leaving (store.new, stack.new))
-        ≡ begun member left text.now rules.now heap.now table.now top r.old store.old stack.old }
+        ≡ begun member left scope.now.text.now scope.now.rules.now scope.now.heap.now scope.now.table.now
+        top r.old store.old stack.old }
 {
-    match look(text, member, *r)? {
+    match look(scope.text, member, *r)? {
         Look::Closing(next) => {
             *r = next;
             Ok(Begun::Closing)
         }
-        Look::Member(q) => item(text, rules, heap, table, store, stack, r, top, left, q),
+        Look::Member(q) => item(scope, store, stack, r, top, left, q),
     }
 }

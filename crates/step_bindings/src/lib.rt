@@ -9,6 +9,7 @@ ghost use Rattle.step_bindings.specs.StepBindings as models;
 
 use items::places;
 use lex::Reader;
+use nodes::Scope;
 use outcomes::Refusal;
 
 // "`(?v T)`: unknown v 12, T, closing 10, bound already or wrong sort 21." The name v was asked for: an atom with these bounds.
@@ -32,17 +33,13 @@ pub fn binding(
 {
     let name = words::part(text, s, t);
     let v = theory_reading::find_variable(heap, rule, rules, name).ok_or(Refusal::Unknown)?;
-    let (k, behind) = terms::term(
+    let scope = Scope {
         text,
         rules,
         heap,
         table,
-        store,
-        stack,
-        top,
-        asking::IN_LIST,
-        reader,
-    )?;
+    };
+    let (k, behind) = terms::term(&scope, store, stack, top, asking::IN_LIST, reader)?;
     let next = asking::closing_due(text, behind)?;
     if words::at(heap, places::BINDINGS + v as usize) != 0 {
         return Err(Refusal::BadBinding);

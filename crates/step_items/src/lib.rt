@@ -9,6 +9,7 @@ ghost use Rattle.step_items.specs.StepItems as models;
 
 use asking::Look;
 use lex::Reader;
+use nodes::Scope;
 use outcomes::Refusal;
 
 // "Otherwise a judgment; a second, once read, is 22." `word` tells the one stated before.
@@ -30,11 +31,14 @@ pub fn stated(
         ≡ models.stated text.now rules.now table.now top word s t reader store.old stack.old
         heap.now }
 {
-    let (k, next) = judgments::headed_judgment(
+    let scope = Scope {
         text,
         rules,
         heap,
         table,
+    };
+    let (k, next) = judgments::headed_judgment(
+        &scope,
         store,
         stack,
         top,

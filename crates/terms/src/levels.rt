@@ -8,6 +8,7 @@ ghost use Rattle.terms.specs.Terms.{arguments};
 ghost use Rattle.terms.specs.Levels.{argues, argument};
 
 use lex::Reader;
+use nodes::Scope;
 use openings::Begun;
 use outcomes::Refusal;
 
@@ -16,10 +17,7 @@ use outcomes::Refusal;
 #[cycle(args_term)]
 #[tactic(auto, using(crate::proofs::Within::within))]
 pub fn term(
-    text: &[u8],
-    rules: &[u8],
-    heap: &[u32],
-    table: &[u32],
+    scope: &Scope<'_>,
     store: &mut [u32],
     stack: &mut [u32],
     r: &mut Reader,
@@ -27,18 +25,19 @@ pub fn term(
     left: u32,
 ) -> Result<Option<u32>, Refusal>
     ensures { (told_as (argues r.new) result leaving (store.new, stack.new))
-        ≡ argument left text.now rules.now heap.now table.now top r.old store.old stack.old }
+        ≡ argument left scope.now.text.now scope.now.rules.now scope.now.heap.now scope.now.table.now
+        top r.old store.old stack.old }
 {
-    match openings::begin(text, rules, heap, table, store, stack, r, top, left, true)? {
+    match openings::begin(scope, store, stack, r, top, left, true)? {
         Begun::Closing => Ok(None),
         Begun::Whole(k) => Ok(Some(k)),
         Begun::Opened(c) => {
             let above = words::plus(top, 1);
-            let n = args(text, rules, heap, table, store, stack, r, above, left - 1)?;
+            let n = args(scope, store, stack, r, above, left - 1)?;
             if n == 0 {
                 return Err(Refusal::BracketedConstant);
             }
-            let k = nodes::node(heap, store, stack, c, top, n)?;
+            let k = nodes::node(scope.heap, store, stack, c, top, n)?;
             Ok(Some(k))
         }
     }
@@ -48,10 +47,7 @@ pub fn term(
 #[cycle(args_term)]
 #[tactic(auto, using(crate::proofs::Within::within), unfolding(crate::specs::Terms::arguments))]
 pub fn args(
-    text: &[u8],
-    rules: &[u8],
-    heap: &[u32],
-    table: &[u32],
+    scope: &Scope<'_>,
     store: &mut [u32],
     stack: &mut [u32],
     r: &mut Reader,
@@ -59,12 +55,13 @@ pub fn args(
     left: u32,
 ) -> Result<u32, Refusal>
     ensures { (told_as (λ n. (n, r.new)) result leaving (store.new, stack.new))
-        ≡ arguments left text.now rules.now heap.now table.now top r.old store.old stack.old }
+        ≡ arguments left scope.now.text.now scope.now.rules.now scope.now.heap.now scope.now.table.now
+        top r.old store.old stack.old }
 {
     let mut n: u32 = 0;
-    for _turn in 0..text.len() + 1 {
+    for _turn in 0..scope.text.len() + 1 {
         let place = words::plus(top, n);
-        let Some(k) = term(text, rules, heap, table, store, stack, r, place, left)? else {
+        let Some(k) = term(scope, store, stack, r, place, left)? else {
             return Ok(n);
         };
         words::put(stack, place as usize, k);

@@ -8,6 +8,7 @@ ghost use Rattle.outcomes.specs.Leaving.{◌leaving◌};
 ghost use Rattle.terms.specs.Terms.{term, arguments};
 
 use lex::Reader;
+use nodes::Scope;
 use openings::Begun;
 use outcomes::Refusal;
 
@@ -16,10 +17,7 @@ mod levels;
 // A term, asked for with that much depth left.
 #[tactic(auto, using(crate::proofs::Within::within))]
 pub fn term(
-    text: &[u8],
-    rules: &[u8],
-    heap: &[u32],
-    table: &[u32],
+    scope: &Scope<'_>,
     store: &mut [u32],
     stack: &mut [u32],
     top: u32,
@@ -27,31 +25,27 @@ pub fn term(
     reader: Reader,
 ) -> Result<(u32, Reader), Refusal>
     ensures { (told result leaving (store.new, stack.new))
-        ≡ term left text.now rules.now heap.now table.now top reader store.old stack.old }
+        ≡ term left scope.now.text.now scope.now.rules.now scope.now.heap.now scope.now.table.now
+        top reader store.old stack.old }
 {
     let mut r = reader;
-    match openings::begin(
-        text, rules, heap, table, store, stack, &mut r, top, left, false,
-    )? {
+    match openings::begin(scope, store, stack, &mut r, top, left, false)? {
         Begun::Closing => Err(Refusal::StrayClosing),
         Begun::Whole(k) => Ok((k, r)),
         Begun::Opened(c) => {
             let above = words::plus(top, 1);
-            let (n, next) = args(text, rules, heap, table, store, stack, above, left - 1, r)?;
+            let (n, next) = args(scope, store, stack, above, left - 1, r)?;
             if n == 0 {
                 return Err(Refusal::BracketedConstant);
             }
-            nodes::make(heap, store, stack, c, top, n, next)
+            nodes::make(scope.heap, store, stack, c, top, n, next)
         }
     }
 }
 
 // The arguments of a term or a judgment, left on the stack from `top` on: how many there are.
 pub fn args(
-    text: &[u8],
-    rules: &[u8],
-    heap: &[u32],
-    table: &[u32],
+    scope: &Scope<'_>,
     store: &mut [u32],
     stack: &mut [u32],
     top: u32,
@@ -59,10 +53,10 @@ pub fn args(
     reader: Reader,
 ) -> Result<(u32, Reader), Refusal>
     ensures { (told result leaving (store.new, stack.new))
-        ≡ arguments left text.now rules.now heap.now table.now top reader store.old
-        stack.old }
+        ≡ arguments left scope.now.text.now scope.now.rules.now scope.now.heap.now scope.now.table.now
+        top reader store.old stack.old }
 {
     let mut r = reader;
-    let n = levels::args(text, rules, heap, table, store, stack, &mut r, top, left)?;
+    let n = levels::args(scope, store, stack, &mut r, top, left)?;
     Ok((n, r))
 }

@@ -9,8 +9,11 @@ abbrev pub decreases-args : goal.decreases-args
 decreases-args l = 2 * l.left + 1
 
 abbrev pub invariant-args-loop-turn : goal.invariant-args-loop-turn
-invariant-args-loop-turn l = arguments l.left l.text l.rules l.heap l.table l.top l.initial.r l.initial.store l.initial.stack
-    ≡ models.arguments_from (models.term l.left l.text l.rules l.heap l.table) (length l.text + 1 - l._turn) l.text l.top l.n l.r l.store l.stack
+invariant-args-loop-turn l =
+    let s = l.scope in
+    arguments l.left s.text.now s.rules.now s.heap.now s.table.now l.top l.initial.r l.initial.store l.initial.stack
+    ≡ models.arguments_from (models.term l.left s.text.now s.rules.now s.heap.now s.table.now) (length s.text.now + 1 - l._turn) s.text.now
+    l.top l.n l.r l.store l.stack
 
 abbrev pub decreases-term : goal.decreases-term
 decreases-term l = 2 * l.left
