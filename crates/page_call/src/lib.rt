@@ -10,6 +10,7 @@ ghost use Rattle.writing.specs.Answers.{told};
 use writing::Written;
 
 // L2: "For an accepted release, write one line for each goal in goals order".
+#[tactic(auto, using(reports::proofs::Lengths::lengths_right))]
 pub fn page<'a>(
     rulebook: &'a [u8],
     goals: &'a [u8],
@@ -24,26 +25,25 @@ pub fn page<'a>(
         ≡ page_left document01 a.old b.old c.old d.old rulebook.now goals.now
         certificate.now out.old }
 {
-    if !clearing::long_enough(a.len(), b.len(), c.len(), d.len()) {
-        return writing::refused(1);
-    }
-    if clearing::TEXT_BYTES < rulebook.len() {
-        return writing::refused(2);
-    }
-    if clearing::TEXT_BYTES < goals.len() {
-        return writing::refused(2);
-    }
-    if clearing::CERTIFICATE_BYTES < certificate.len() {
-        return writing::refused(2);
-    }
-    page_walks::page(
+    match reports::check_lengths(
         rulebook,
         goals,
         certificate,
-        &mut a[..clearing::AREA_WORDS],
-        &mut b[..clearing::AREA_WORDS],
-        &mut c[..clearing::AREA_WORDS],
-        &mut d[..clearing::AREA_WORDS],
-        out,
-    )
+        a.len(),
+        b.len(),
+        c.len(),
+        d.len(),
+    ) {
+        Err(refusal) => writing::refused(refusal.number()),
+        Ok(()) => page_walks::page(
+            rulebook,
+            goals,
+            certificate,
+            &mut a[..clearing::AREA_WORDS],
+            &mut b[..clearing::AREA_WORDS],
+            &mut c[..clearing::AREA_WORDS],
+            &mut d[..clearing::AREA_WORDS],
+            out,
+        ),
+    }
 }
