@@ -9,7 +9,9 @@ ghost use Rattle.writing.specs.Answers.{told};
 ghost use Rattle.release_files.specs.Answers.{text};
 ghost use Rattle.page_files.specs.Answers.{answered, Answered};
 
+use outcomes::Refusal;
 use release_files::{Buffers, Three};
+use reports::Report;
 use std::rt::Files;
 use writing::Written;
 
@@ -42,7 +44,7 @@ pub fn answer(texts: Three<Option<&[u8]>>, out: &mut [u8]) -> Written
         ≡ answered (text texts.entry.rulebook) (text texts.entry.goals) (text texts.entry.certificate) out.old }
 {
     let Some(all) = texts.all() else {
-        return writing::refused(30);
+        return writing::refused(Refusal::NotOpened.number());
     };
     call(all, out)
 }
@@ -61,7 +63,17 @@ fn print(rt: &(impl Print + Eprint), w: Written, out: &[u8]) {
         release_files::write(rt, &out[..out.len().min(w.length as usize)]);
         return;
     }
-    release_files::print(rt, reports::unreleased(w.number));
+    release_files::print(
+        rt,
+        Report {
+            number: w.number,
+            steps: 0,
+            goals: 0,
+            terms: 0,
+            bytes: 0,
+            requested: 0,
+        },
+    );
 }
 
 // The page of three files to standard output. A goal takes 11 bytes of the goals' 8,192, so that there are 744 of them at most, and 745 lines

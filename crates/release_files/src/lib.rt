@@ -9,6 +9,7 @@ ghost use Rattle.horn.specs.Calls.{report, release_call};
 ghost use Rattle.reports.specs.Release.{told};
 ghost use Rattle.release_files.specs.Answers.{text, all_of, answered, Answered};
 
+use outcomes::Refusal;
 use reports::Report;
 use std::rt::Files;
 use std::{fs, io};
@@ -138,7 +139,7 @@ pub fn answer(texts: Three<Option<&[u8]>>) -> Report
     ensures { told result ≡ answered (text texts.entry.rulebook) (text texts.entry.goals) (text texts.entry.certificate) }
 {
     let Some(all) = texts.all() else {
-        return reports::unreleased(30);
+        return Report::from(Refusal::NotOpened);
     };
     call(all)
 }
