@@ -96,7 +96,8 @@ pub fn make(
     Ok((k, reader))
 }
 
-// "An atom with a leading `?`, `?` alone too, is an earlier abbreviation (12). An atom or head is a constructor (12)."
+// "An atom with a leading `?`, `?` alone too, is an earlier abbreviation (12). An atom or head is a constructor (12)." The reader after it is the
+// caller's still.
 #[tactic(auto, unfolding(crate::specs::Nodes::atom_term, crate::specs::Nodes::constructor_due))]
 pub fn atom_term(
     scope: &Scope<'_>,
@@ -105,20 +106,19 @@ pub fn atom_term(
     top: u32,
     s: usize,
     t: usize,
-    reader: Reader,
-) -> Result<(u32, Reader), Refusal>
-    ensures { (told result leaving (store.new, stack.new))
+) -> Result<u32, Refusal>
+    ensures { (r : Reader) → (told_as (λ k. (k, r)) result leaving (store.new, stack.new))
         ≡ atom_term scope.now.text.now scope.now.rules.now scope.now.heap.now scope.now.table.now
-        top s t reader store.old stack.old }
+        top s t r store.old stack.old }
 {
     if items::is_question(scope.text, s) {
         let meaning = tables::meaning(scope.table, limits::DEF_BUCKETS, scope.text, s, t);
-        return Ok((meaning.ok_or(Refusal::Unknown)?, reader));
+        return meaning.ok_or(Refusal::Unknown);
     }
     let name = words::part(scope.text, s, t);
     let found = theory_reading::find(scope.heap, scope.rules, Section::Constructors, name);
     let c = found.ok_or(Refusal::Unknown)?;
-    make(scope.heap, store, stack, c, top, 0, reader)
+    node(scope.heap, store, stack, c, top, 0)
 }
 
 // The head of a term in brackets, asked for without a look ahead.

@@ -52,8 +52,8 @@ pub fn item(
     }
     match asking::item_due(scope.text, left, reader)? {
         Item::Atom(s, t, p) => {
-            let (k, next) = nodes::atom_term(scope, store, stack, top, s, t, p)?;
-            *r = next;
+            let k = nodes::atom_term(scope, store, stack, top, s, t)?;
+            *r = p;
             Ok(Begun::Whole(k))
         }
         Item::List(p) => {
