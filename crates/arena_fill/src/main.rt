@@ -156,10 +156,7 @@ fn node(rt: &impl Print, store: &Store, k: u32) -> io::Result<()> {
     let area = &store.area;
     println!(rt; "size {}", arena::node_size(area, k))?;
     println!(rt; "head {}", arena::node_head(area, STORE, k))?;
-    println!(rt;
-        "argument {}",
-        arena::node_argument(area, STORE, k, 0)
-    )
+    println!(rt; "argument {}", arena::node_argument(area, STORE, k, 0))
 }
 
 // 95473, 95828, .. start at the index's last place, 86243, 86598, .. at the one before it.

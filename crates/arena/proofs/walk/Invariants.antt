@@ -6,6 +6,6 @@ use Rattle.arena.proofs.walk.Given as goal
 abbrev pub invariant-loop : goal.invariant-loop
 invariant-loop l =
     probe l.limits.places l.limits.places (λ (p : ℕ). get_or l.a (place_at l.limits.nodes p) 0) (is_key l.a l.limits.nodes l.limits.places l.key)
-        l.start
+    l.start
     ≡ probe l.limits.places (l.limits.places - l.counter) (λ (p : ℕ). get_or l.a (place_at l.limits.nodes p) 0) (is_key l.a l.limits.nodes l.limits.places l.key)
-        l.i
+    l.i
