@@ -1,17 +1,30 @@
 -- One turn of each loop of this crate. Assumes nothing.
 use Prim.Native.Nat.{ℕ, zero, suc, ◌+◌, ◌-◌, ◌/◌, ◌%◌, ◌≤◌, ◌<◌, min}
+use native.Mathlib.Numerals.{add-one}
 use native.Mathlib.Omega.{arith}
 use mathlib.Core.Path.{◌≡◌, refl, sym, ap, ap₂, ◌∙◌}
 use mathlib.Core.Bool.{true, false}
 use mathlib.Core.List.{List, [], ◌∷◌, ◌++◌, append_assoc, append-nil}
-use lib.ListN.{length, set, drop, length-set, length-take, drop_of_length-le}
+use lib.ListN.{length, get_or, set, drop, length-set, length-take, drop_of_length-le}
 use lib.Seq.{drop-cons, drop-set-lt, get_or-set_same}
 use Rattle.horn.specs.Layout.{plain}
 use Rattle.horn.specs.Output.{goes_on, cut}
 use Rattle.horn.proofs.Output.{cut_inside, cut_here, plain_one, plain_more, plain_long}
+use Rattle.writing.specs.Buffer.{placed}
+use Rattle.writing.proofs.Placed.{placed_none, placed-cons, placed_out}
 
 one_less : (n : ℕ) → suc n - 1 ≡ n
 one_less n = omega arith
+
+-- One byte more, and the last.
+pub bytes_on : (bytes : List ℕ) (p i : ℕ) (out : List ℕ) → i < length bytes
+    → placed p (drop i bytes) out ≡ placed (p + 1) (drop (i + 1) bytes) (set out p (get_or bytes i 0))
+bytes_on bytes p i out h = rw (drop-cons bytes i 0 h, add-one i, add-one p) (placed-cons p (get_or bytes i 0) (drop (suc i) bytes) out)
+
+pub bytes_end : (bytes : List ℕ) (p i : ℕ) (out : List ℕ) → length bytes ≤ i → placed p (drop i bytes) out ≡ out
+bytes_end bytes p i out h = rw (drop_of_length-le bytes h) (placed_none p out)
+
+pub ruleset putting = (bytes_on, bytes_end, placed_out)
 
 -- One byte back, and where a cut is.
 pub cut_back : (k : ℕ) (name : List ℕ) → 0 < k → goes_on k name ≡ true → cut k name ≡ cut (k - 1) name

@@ -22,16 +22,19 @@ pub fn refused(number: u32) -> Written
     Written { number, length: 0 }
 }
 
-// Writes bytes from a place on.
-#[tactic(auto, using(crate::proofs::Placed::placed_out))]
+// Writes bytes from a place on, one by one: C interface, since the archive asks for `memcpy` and `memset` alone, and a slice's own copy for `memmove`.
+#[tactic(auto, using(crate::proofs::Turns::putting))]
 pub fn put_bytes(out: &mut [u8], at: usize, bytes: &[u8])
     ensures { out.new ≡ placed at bytes.now out.old }
 {
-    if out.len() <= at {
-        return;
+    let mut p = at;
+    for &b in bytes {
+        if out.len() <= p {
+            return;
+        }
+        out[p] = b;
+        p += 1;
     }
-    let n = bytes.len().min(out.len() - at);
-    out[at..at + n].copy_from_slice(&bytes[..n]);
 }
 
 // Writes spaces from a place on: "all filling is with spaces".
