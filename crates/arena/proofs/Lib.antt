@@ -1,3 +1,4 @@
+pub mod Open
 pub mod Cases
 pub mod Walks
 pub mod Equality

@@ -2,12 +2,14 @@
 // the index and the nodes have are words of the area, with 0 for a free place.
 #![tactic(auto)]
 
-ghost use Rattle.std.specs.Prelude.{◌≡◌, ℕ, ◌+◌, ◌%◌, ◌^◌, ◌<◌, get_or};
-ghost use Rattle.arena.specs.Probing.{probe, start_place};
-ghost use Rattle.arena.specs.Store.{place_at, word_at, count, is_key, answer, added_answer, added_area};
+ghost use Rattle.std.specs.Prelude.{◌≡◌, ◌+◌, ◌%◌, ◌^◌, ◌<◌};
+ghost use Rattle.arena.specs.Probing.{start_place};
+ghost use Rattle.arena.specs.Store.{word_at, count, is_key, searched, answer, added_answer, added_area};
 ghost use Rattle.arena.specs.Store.{intern_answer, intern_area, intern_report, answered, emptied, size_of, head_of, argument_of};
 
-// The setting of a store, its limits: how many nodes it may have, how many words these may have together, and how many places its index has.
+// The setting of a store, its limits: how many nodes it may have, how many words these may have together, and how many places its index has. A value, so that
+// a caller may know it at run time alone. It goes by its address, so what a request takes is inlined here: where the caller's setting is a constant, it is
+// one in all of that.
 #[derive(Clone, Copy)]
 pub struct Setting {
     pub nodes: u32,
@@ -17,6 +19,7 @@ pub struct Setting {
 
 impl Setting {
     // Where the nodes' words begin: behind the counts, the nodes' starts and the index.
+    #[inline(always)]
     fn base(self) -> usize
         ensures start { result ≡ word_at self.nodes self.places 0 }
         ensures few { result < 2 ^ 34 }
@@ -26,7 +29,7 @@ impl Setting {
 }
 
 // Where probing the index ends: at the node that is asked for, at a free place, or nowhere, which a store within its limits rules out.
-#[derive(Drop)]
+#[derive(Clone, Copy)]
 enum Probe {
     Held(u32),
     Free(u32),
@@ -57,14 +60,16 @@ pub fn start_place(h: u64, places: u32) -> u32
 }
 
 // Whether node k is the key.
-#[tactic(auto, using(words::proofs::Laws::same_pointwise), unfolding(crate::specs::Store::is_key, crate::specs::Store::start))]
+#[tactic(auto, unfolding(crate::specs::Store::is_key, crate::specs::Store::start))]
+#[inline(always)]
 fn is_key(a: &[u32], limits: Setting, key: &[u32], k: u32) -> bool
     ensures { result ≡ is_key a.now limits.nodes limits.places key.now k }
 {
     let start = words::at(a, k as usize + 1);
     let next = words::at(a, k as usize + 1 + 1);
     let base = limits.base();
-    words::part(a, base + start as usize, base + next as usize) == key
+    let node = words::part(a, base + start as usize, base + next as usize);
+    words::same_words(node, key)
 }
 
 // The place behind i, from last to first. Only the last place pays for a division.
@@ -72,21 +77,21 @@ fn next_place(i: u32, places: u32) -> u32
     requires { 0 < places }
     ensures { result ≡ (i + 1) % places }
 {
-    let next = i as u64 + 1;
-    if next < places as u64 {
+    let next = u64::from(i) + 1;
+    if next < u64::from(places) {
         return next as u32;
     }
-    (next % places as u64) as u32
+    (next % u64::from(places)) as u32
 }
 
-// Walks the index from a place, at most once around.
-#[tactic(auto, using(crate::proofs::Turns::walking))]
-fn walk(a: &[u32], limits: Setting, key: &[u32], start: u32) -> Probe
-    ensures { result
-        ≡ probe limits.places limits.places (λ (p : ℕ). get_or a.now (place_at limits.nodes p) 0)
-        (is_key a.now limits.nodes limits.places key.now) start }
+// Walks the index from the place where a node's hash starts, at most once around.
+#[tactic(auto, using(crate::proofs::Turns::walking), unfolding(crate::specs::Store::searched))]
+#[inline(always)]
+fn walk(a: &[u32], limits: Setting, key: &[u32]) -> Probe
+    ensures { result ≡ searched a.now limits.nodes limits.places key.now }
 {
-    let mut i = start;
+    let h = words::hash_all(key);
+    let mut i = start_place(h, limits.places);
     for _ in 0..limits.places {
         let v = words::at(a, 2 + limits.nodes as usize + i as usize);
         if v == 0 {
@@ -101,7 +106,8 @@ fn walk(a: &[u32], limits: Setting, key: &[u32], start: u32) -> Probe
 }
 
 // Adds a node that is not held, where both limits allow it.
-#[tactic(auto, unfolding(crate::specs::Store::added_answer, crate::specs::Store::added_area, crate::specs::Store::with_node, crate::specs::Store::count, crate::specs::Store::start))]
+#[tactic(auto, using(crate::proofs::Open::node), unfolding(crate::specs::Store::added_answer, crate::specs::Store::added_area, crate::specs::Store::with_node))]
+#[inline(always)]
 fn add(a: &mut [u32], limits: Setting, key: &[u32], p: u32) -> Result<Interned, Full>
     ensures value { answer result ≡ added_answer a.old limits.nodes limits.words key.now }
     ensures a_after { a.new ≡ added_area a.old limits.nodes limits.words limits.places key.now p }
@@ -126,15 +132,14 @@ fn add(a: &mut [u32], limits: Setting, key: &[u32], p: u32) -> Result<Interned, 
 }
 
 // The number of a node: of the one held, else of a new one.
-#[tactic(auto, unfolding(crate::specs::Store::intern_answer, crate::specs::Store::intern_area, crate::specs::Store::intern_report, crate::specs::Store::answer_at, crate::specs::Store::area_at, crate::specs::Store::searched))]
+#[tactic(auto, using(crate::proofs::Open::intern), unfolding(crate::specs::Store::answer_at, crate::specs::Store::area_at))]
+#[inline(always)]
 pub fn intern(a: &mut [u32], limits: Setting, key: &[u32]) -> Result<Interned, Full>
     ensures value { answer result ≡ intern_answer a.old limits.nodes limits.words limits.places key.now }
     ensures a_after { a.new ≡ intern_area a.old limits.nodes limits.words limits.places key.now }
     ensures result_value { answered (answer result) ≡ intern_report a.old limits.nodes limits.words limits.places key.now }
 {
-    let h = words::hash_all(key);
-    let start = start_place(h, limits.places);
-    match walk(a, limits, key, start) {
+    match walk(a, limits, key) {
         Probe::Held(k) => Ok(Interned::Found(k)),
         Probe::Free(i) => add(a, limits, key, i),
         Probe::Nowhere => Err(Full),

@@ -1,5 +1,6 @@
 // What is asked of a reader in goals and certificate. They are not read whole before: they may end or go bad anywhere.
-// "All members are asked for as above." How deep an item may be is told by `left`: 257 less the depth that it is asked for at.
+// "All members are asked for as above." How deep an item may be is told by `left`: 257 less the depth that it is asked for at. The text stays beside the
+// reader, since what is asked answers with the reader alone: with the text in it each answer would hand the text back too.
 #![tactic(auto)]
 
 ghost use Rattle.std.specs.Prelude.{◌≡◌};

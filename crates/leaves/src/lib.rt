@@ -30,7 +30,7 @@ pub fn apply(
         return Err(Refusal::SortArity);
     }
     let inputs = words::at(heap, c as usize + places::ARITY);
-    if inputs as u64 + 1 != members as u64 {
+    if u64::from(inputs) + 1 != u64::from(members) {
         return Err(Refusal::SortArity);
     }
     Ok((c, items::push(heap, c, w)))

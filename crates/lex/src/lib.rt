@@ -1,12 +1,12 @@
 // A reader over a lent text: "On each read the reader moves on one token and is handed back."
 #![tactic(auto)]
 
-ghost use Rattle.std.specs.Prelude.{◌≡◌, suc, length, Some, None};
+ghost use Rattle.std.specs.Prelude.{◌≡◌, ◌<◌, suc, length, Some, None};
 ghost use Rattle.lex.specs.Answers.{answer, found, after, token_at, scanned, peeked, taken, start};
 
 use utf8::classes;
 
-// "A token is an opening, a closing or an atom with its bounds."
+// "A token is an opening, a closing or an atom with its bounds." These are two numbers, here and wherever an atom's place counts, as the models have them.
 #[derive(Clone, Copy)]
 pub enum Token {
     Opening,
@@ -22,7 +22,8 @@ pub struct Reader {
     pub ahead: Option<Token>,
 }
 
-// A token with the reader after it; the end of the text; a line that is not UTF-8.
+// A token with the reader after it; the end of the text; a line that is not UTF-8. Three answers side by side: as a Result of an Option each read would
+// be matched twice.
 #[derive(Clone, Copy)]
 pub enum Read {
     Got(Token, Reader),
@@ -41,15 +42,18 @@ pub enum Scanned {
     Bad,
 }
 
-// The token at a place where a character stands that is neither white nor `;`.
+// The token at a place before the line's end, where a character stands that is neither white nor `;`. An atom goes on behind its first character, which is
+// known by then.
+#[tactic(auto, using(crate::proofs::Answering::tokens, scanning::proofs::Going::kind_within), unfolding(crate::specs::Answers::found))]
 fn token_at(text: &[u8], end: usize, p: usize) -> Scanned
+    requires { p < end }
     ensures { found result ≡ token_at text.now end p }
 {
     let seen = utf8::look(text, p);
     let kind = seen.kind;
     let width = seen.width;
     if kind == classes::ORDINARY {
-        let q = scanning::atom_end(text, end, p);
+        let q = scanning::atom_end(text, end, p + width);
         return Scanned::Atom(p, q, end);
     }
     if kind == classes::OPENS {
@@ -62,6 +66,7 @@ fn token_at(text: &[u8], end: usize, p: usize) -> Scanned
 }
 
 // The next token; a line is tested when it is first needed. A turn goes over a line, as wide as it is, so that no `for` can count it.
+#[tactic(auto, using(crate::proofs::Answering::scans), unfolding(crate::specs::Answers::found, crate::specs::Answers::scanned))]
 fn scan(text: &[u8], end: usize, p: usize) -> Scanned
     ensures { found result ≡ scanned (suc (length text.now)) text.now end p }
 {
@@ -113,7 +118,7 @@ impl Reader {
     }
 
     // Looks at the next token: the reader that is handed back holds it.
-    #[tactic(auto, unfolding(crate::specs::Answers::answer, crate::specs::Answers::found, crate::specs::Answers::holding, crate::specs::Answers::peeked, crate::specs::Answers::peeked_by))]
+    #[tactic(auto, using(crate::proofs::Answering::peeking), unfolding(crate::specs::Answers::answer, crate::specs::Answers::found))]
     pub fn peek(self, text: &[u8]) -> Read
         ensures { answer result ≡ peeked text.now self }
     {

@@ -14,12 +14,13 @@ fn hash(name: &[u8]) -> u64
 {
     let mut h: u64 = 0;
     for &b in name {
-        h = (h * 31 + b as u64) % 4294967296;
+        h = (h * 31 + u64::from(b)) % 4294967296;
     }
     h
 }
 
-// The place of a name's bucket. The counts in use, said as constants, cost no division.
+// The place of a name's bucket. The counts in use, said as constants, cost no division. Where the buckets begin and how many there are stay two numbers,
+// here and in all that looks up a name: each caller has one of them, or both, as a constant.
 #[tactic(auto, using(crate::proofs::Turns::buckets))]
 fn bucket(buckets: u32, count: u32, name: &[u8]) -> usize
     ensures { result ≡ buckets + bucket_of count name.now }
@@ -38,7 +39,7 @@ fn bucket(buckets: u32, count: u32, name: &[u8]) -> usize
     if count == 64 {
         return first + (h % 64) as usize;
     }
-    first + (h % count as u64) as usize
+    first + (h % u64::from(count)) as usize
 }
 
 // Whether the entry at e has the name `key`.
@@ -80,7 +81,7 @@ pub fn find(area: &[u32], buckets: u32, count: u32, text: &[u8], name: &[u8]) ->
     None
 }
 
-// Makes e the newest entry of its bucket, named by a part of the text.
+// Makes e the newest entry of its bucket, named by a part of the text. The bounds are what is kept, so they are given, here and in all that enters a name.
 #[tactic(auto, unfolding(crate::specs::Chains::added, crate::specs::Chains::linked))]
 pub fn add(
     area: &mut [u32],

@@ -19,7 +19,7 @@ fn digits(text: &[u8]) -> Option<u64>
         if !b.is_ascii_digit() {
             return None;
         }
-        n = n.checked_mul(10)?.checked_add(b as u64 - 0x30)?;
+        n = n.checked_mul(10)?.checked_add(u64::from(b) - 0x30)?;
     }
     Some(n)
 }

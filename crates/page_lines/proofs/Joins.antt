@@ -53,6 +53,17 @@ goal_joined start n name rule out small e₁ e₂ e₃ e₄ e₅ e₆ =
     let w₅ = then_text _ w₄ (length-name_field 22 rule) e₅ in
     (then_byte 0x0A w₅ e₆).holds
 
+-- The same as the code computes it.
+pub goal_written : (start n : ℕ) (name rule out : List ℕ) → n < 100000000
+    → placed start (goal_line name n rule) out
+    ≡ set
+    (placed (start + 42) (name_field 22 rule)
+    (placed (start + 41) (spaces 1)
+    (placed (start + 33) (right_aligned 8 n) (placed (start + 32) (spaces 1) (placed start (name_field 32 name) out)))))
+    (start + 64)
+    0x0A
+goal_written start n name rule out small = sym (goal_joined start n name rule out small refl refl refl refl refl refl)
+
 -- A percentage has three digits at most.
 pub percent_small : (used steps : ℕ) → percent used steps < 1000
 unfolding percent
@@ -73,3 +84,12 @@ last_joined start p out {o₃} small e₁ e₂ e₃ e₄ e₅ =
     let left = ap (λ n. 64 - n) w₃.long in
     let w₄ = then_text _ w₃ (length-spaces _ ∙ left) (e₄ ∙ ap (λ n. placed (start + 9) (spaces n) o₃) (sym left)) in
     (then_byte 0x0A w₄ e₅).holds
+
+pub last_written : (start used steps : ℕ) (out : List ℕ)
+    → placed start (used_line (percent used steps)) out
+    ≡ set
+    (placed (start + 9) (spaces 55)
+    (placed (start + 8) (codes "%") (placed (start + 5) (right_aligned 3 (percent used steps)) (placed start (codes "used ") out))))
+    (start + 64)
+    0x0A
+last_written start used steps out = sym (last_joined start (percent used steps) out (percent_small used steps) refl refl refl refl refl)

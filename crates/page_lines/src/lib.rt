@@ -10,6 +10,7 @@ ghost use Rattle.page_lines.specs.Lines.{percent, used_line};
 pub const LINE: usize = 65;
 
 // The line of goal k. A number of more than eight digits is shown modulo 100,000,000: no release has one.
+#[tactic(auto, using(crate::proofs::Joins::goal_written))]
 pub fn goal_line(out: &mut [u8], k: u32, name: &[u8], n: u32, rule: &[u8])
     ensures { out.new
         ≡ placed (65 * k) (goal_line name.now (n % 100000000) rule.now) out.old }
@@ -31,12 +32,13 @@ pub fn percentage(used: u32, steps: u32) -> u32
     if steps == 0 {
         return 0;
     }
-    let twice = 2 * steps as u64;
-    let p = (200 * used as u64 + steps as u64) / twice;
+    let twice = 2 * u64::from(steps);
+    let p = (200 * u64::from(used) + u64::from(steps)) / twice;
     (p % 1000) as u32
 }
 
 // The last line, behind those of k goals.
+#[tactic(auto, using(crate::proofs::Joins::last_written), unfolding(horn::specs::Names::codes))]
 pub fn last_line(out: &mut [u8], k: u32, used: u32, steps: u32)
     ensures { out.new ≡ placed (65 * k) (used_line (percent used steps)) out.old }
 {

@@ -4,8 +4,7 @@
 // A level of a term takes little stack: where the walk stands is lent to all levels, and what reads the text is in `take`, which returns
 // before the next level begins.
 //
-// `vars` and `heap` go side by side, here and in the crates above. A struct of both would be no plainer: each contract would need a clause
-// more, that both keep their places.
+// `vars` and `heap` go side by side: crate `variables` says why.
 #![tactic(auto)]
 
 ghost use Rattle.std.specs.Prelude.{◌≡◌};
@@ -37,9 +36,10 @@ fn leaf(
 }
 
 // All that a level reads by itself: what is due is a term of a sort, or the closing of a list (None). Answered is the address of a list's
-// head, whose arguments are still to be read, or None where all was read. One function for terms and closings: called from two places it
-// is not inlined, so that what it needs is on the stack once and not in each level.
+// head, whose arguments are still to be read, or None where all was read. One function for terms and closings, not
+// inlined, so that what it needs is on the stack once and not in each level.
 #[tactic(auto, unfolding(crate::specs::Lent::part_due))]
+#[inline(never)]
 fn take(
     rulebook: Counted<'_>,
     vars: &mut [u32],

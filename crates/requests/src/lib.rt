@@ -9,6 +9,7 @@ ghost use Rattle.requests.specs.Requests.{found_by, requested_area, emptied, req
 use arena::{Full, Interned, Setting};
 
 // The word that counts them, behind the store's regions.
+#[inline(always)]
 fn counter(limits: Setting) -> usize
     ensures { result ≡ area_words limits.nodes limits.words limits.places }
 {
@@ -29,6 +30,7 @@ fn found_by(interned: Result<Interned, Full>) -> u32
 
 // L1: "Storing a node must now say whether it was found or made." A node that the store says it found is counted.
 #[tactic(auto, unfolding(crate::specs::Requests::requested_area, crate::specs::Requests::with_found))]
+#[inline(always)]
 pub fn intern(a: &mut [u32], limits: Setting, key: &[u32]) -> Result<Interned, Full>
     ensures value { answer result ≡ intern_answer a.old limits.nodes limits.words limits.places key.now }
     ensures a_after { a.new ≡ requested_area a.old limits.nodes limits.words limits.places key.now }

@@ -17,7 +17,7 @@ pub enum RuleName {
     List,
 }
 
-// 1 more than the token's change of depth: opening 2, atom 1, closing 0.
+// 1 more than the token's change of depth: opening 2, atom 1, closing 0. A number, since the depth is added to.
 #[tactic(auto, using(outcomes::proofs::BadLines::bad_line), unfolding(crate::specs::RuleNames::passed, lex::specs::Answers::answer))]
 pub fn pass(text: &[u8], w: Walk) -> Result<(u32, Walk), Refusal>
     ensures { told result ≡ passed text.now w }
@@ -53,6 +53,7 @@ pub fn skip(text: &[u8], w: Walk) -> Result<Walk, Refusal>
             return Ok(v);
         }
     }
+    // Out of turns: the laws show that this is never met.
     Err(Refusal::Nesting)
 }
 

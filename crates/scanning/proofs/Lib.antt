@@ -1,4 +1,5 @@
 pub mod Turns
+pub mod Going
 pub mod Streams
 pub mod Lines
 pub mod Skipping

@@ -1,13 +1,12 @@
 -- One turn of each loop. Assumes nothing.
 use mathlib.Core.Path.{◌≡◌, ◌∙◌}
 use mathlib.Core.List.{List}
-use Prim.Native.Nat.{ℕ, zero, suc, ◌+◌, ◌-◌, ◌≤◌, ◌<◌}
+use Prim.Native.Nat.{ℕ, suc, ◌+◌, ◌≤◌, ◌<◌}
 use native.Mathlib.Omega.{arith}
 use borrow.Author.Tests.{lt-ltb, le-ltb, eq-eqb, ne_eqb}
 use lib.ListN.{length, get_or, drop}
 use Rattle.utf8.specs.Classes.{is_ordinary, is_white, is_comment}
 use Rattle.utf8.specs.Characters.{first, width, kind_at}
-use Rattle.utf8.proofs.Looks.{kind_steps, width_steps}
 use Rattle.scanning.specs.Scan.{stopped, blanks, atom_end, line_end}
 use Rattle.std.specs.Prelude.{Some, None}
 
@@ -34,23 +33,9 @@ module _ (text : List ℕ) (end q k : ℕ) (ek : k ≡ kind_at (first (drop q te
     unfolding atom_end
     atom_step f e = rw (en, lt-ltb q end h, ← ek, e, atom_end)
 
-    pub atom_on : (f : ℕ) → length text - q ≤ f → k ≡ is_ordinary
-        → (g : ℕ) × ((length text - (q + n) ≤ g) × (atom_end (suc f) text end q ≡ atom_end (suc g) text end (q + n)))
-    atom_on zero l e = let s = kind_steps text q n en k ek (λ z. omega arith) in absurd (omega arith)
-    atom_on (suc g) l e =
-        let s = kind_steps text q n en k ek (λ z. omega arith) in
-        (g, (omega arith, atom_step (suc g) e))
-
     pub blank_step : (f : ℕ) → k ≡ is_white → blanks (suc f) text end q ≡ blanks f text end (q + n)
     unfolding blanks
     blank_step f e = rw (en, lt-ltb q end h, ← ek, e, blanks)
-
-    pub blank_on : (f : ℕ) → length text - q ≤ f → k ≡ is_white
-        → (g : ℕ) × ((length text - (q + n) ≤ g) × (blanks (suc f) text end q ≡ blanks (suc g) text end (q + n)))
-    blank_on zero l e = let s = kind_steps text q n en k ek (λ z. omega arith) in absurd (omega arith)
-    blank_on (suc g) l e =
-        let s = kind_steps text q n en k ek (λ z. omega arith) in
-        (g, (omega arith, blank_step (suc g) e))
 
 pub atom_over : (text : List ℕ) (end q f : ℕ) → end ≤ q → atom_end (suc f) text end q ≡ q
 unfolding atom_end
@@ -75,13 +60,6 @@ module _ (text : List ℕ) (q : ℕ) (h : q < length text) where
     unfolding line_end
     line_step f e =
         rw (en, lt-ltb q (length text) h, ne_eqb (get_or text q 0) 0x0A d, ne_eqb (width (first (drop q text))) 0 (λ z. e (en ∙ z)), line_end)
-
-    pub line_on : (f : ℕ) → length text - q ≤ f → (n ≡ 0 → ⊥)
-        → (g : ℕ) × ((length text - (q + n) ≤ g) × (line_end (suc f) text q ≡ line_end (suc g) text (q + n)))
-    line_on zero l e = let s = width_steps text q n en e in absurd (omega arith)
-    line_on (suc g) l e =
-        let s = width_steps text q n en e in
-        (g, (omega arith, line_step (suc g) e))
 
 pub line_over : (text : List ℕ) (q f : ℕ) → length text ≤ q → line_end (suc f) text q ≡ Some q
 unfolding line_end

@@ -9,6 +9,7 @@ ghost use Rattle.scanning.specs.Scan.{stopped, blanks, atom_end, line_end};
 use utf8::classes;
 
 // Where white space ends at a character of another kind: a comment runs to the end of its line.
+#[tactic(auto, unfolding(crate::specs::Scan::stopped))]
 fn stop(kind: u8, end: usize, q: usize) -> usize
     ensures { result ≡ stopped kind end q }
 {
@@ -19,6 +20,7 @@ fn stop(kind: u8, end: usize, q: usize) -> usize
 }
 
 // Past white space and comments in a line that ends at `end`.
+#[tactic(auto, using(crate::proofs::Going::blankness, utf8::proofs::Looks::looks), unfolding(utf8::specs::Characters::width, utf8::specs::Characters::kind_at))]
 pub fn skip_blanks(text: &[u8], end: usize, p: usize) -> usize
     ensures { result ≡ blanks (suc (length text.now)) text.now end p }
 {
@@ -49,6 +51,7 @@ pub fn skip_blanks(text: &[u8], end: usize, p: usize) -> usize
 }
 
 // Past the characters of an atom.
+#[tactic(auto, using(crate::proofs::Going::atoms, utf8::proofs::Looks::looks), unfolding(utf8::specs::Characters::width, utf8::specs::Characters::kind_at))]
 pub fn atom_end(text: &[u8], end: usize, p: usize) -> usize
     ensures { result ≡ atom_end (suc (length text.now)) text.now end p }
 {
@@ -81,6 +84,7 @@ pub fn atom_end(text: &[u8], end: usize, p: usize) -> usize
 }
 
 // The end of the line that starts at `p`, if it is UTF-8.
+#[tactic(auto, using(crate::proofs::Going::lines, utf8::proofs::Looks::ascii_width, utf8::proofs::Looks::rest_of, utf8::proofs::Plain::plain_wide))]
 pub fn line_end(text: &[u8], p: usize) -> Option<usize>
     ensures { result ≡ line_end (suc (length text.now)) text.now p }
 {

@@ -42,9 +42,10 @@ pub fn add_member(area: &mut [u32], depth: u32)
 
 // A list is a member of the one around it, has no member yet and is open.
 #[tactic(auto, unfolding(crate::specs::Walk::list_opened))]
-pub fn open_list(area: &mut [u32], openings: u32, depth: u32)
-    ensures { area.new ≡ list_opened openings depth area.old }
+pub fn open_list(area: &mut [u32], place: Place)
+    ensures { area.new ≡ list_opened place.openings place.depth area.old }
 {
+    let Place { openings, depth } = place;
     add_member(area, depth);
     words::put(area, openings as usize, 0);
     words::put(area, OPEN_LISTS + depth as usize, openings);
@@ -71,7 +72,7 @@ pub fn take(token: Token, area: &mut [u32], place: Place) -> Result<Place, Refus
             if DEEPEST < depth {
                 return Err(Refusal::Nesting);
             }
-            open_list(area, openings, depth);
+            open_list(area, place);
             Ok(Place {
                 openings: openings.wrapping_add(1),
                 depth: depth + 1,

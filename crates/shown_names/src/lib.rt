@@ -5,7 +5,8 @@ ghost use Rattle.std.specs.Prelude.{◌≡◌};
 ghost use Rattle.names.specs.Chains.{name_at};
 ghost use Rattle.shown_names.specs.Shown.{of_two};
 
-// The name of the entry at e of an area, which has its bounds in the rulebook or in the goals text.
+// The name of the entry at e of an area, which has its bounds in the rulebook or in the goals text. The flag says in which: what is returned is a part of one
+// of two texts that are both lent, as the paper asks.
 #[tactic(auto, unfolding(names::specs::Chains::name_at))]
 pub fn shown<'a>(
     in_rulebook: bool,

@@ -107,7 +107,8 @@ pub fn read_signature(
     Ok((s, t, n, o))
 }
 
-// A symbol's entry, then the closing of its declaration.
+// A symbol's entry, then the closing of its declaration. Where the entry is, its name and what it says are nine words: a struct of them would be made for
+// this one call, and so for a rule's entry.
 #[tactic(auto, unfolding(crate::specs::Symbols::symbol_entered))]
 pub fn enter_symbol(
     text: &[u8],

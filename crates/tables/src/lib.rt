@@ -24,10 +24,10 @@ pub struct Tally {
 // What is kept of a step, a word of each.
 #[derive(Clone, Copy)]
 pub enum StepPart {
-    Judgment,
-    Rule,
-    Place,
-    Tested,
+    Judgment = 0,
+    Rule = 1,
+    Place = 2,
+    Tested = 3,
 }
 
 impl StepPart {
@@ -35,12 +35,7 @@ impl StepPart {
     pub fn offset(self) -> u32
         ensures { result ≡ offset self }
     {
-        match self {
-            StepPart::Judgment => 0,
-            StepPart::Rule => 1,
-            StepPart::Place => 2,
-            StepPart::Tested => 3,
-        }
+        self as u32
     }
 }
 
@@ -165,7 +160,8 @@ pub fn goal_result(table: &[u32], e: u32) -> u32
     words::at(table, e as usize + VALUE).saturating_sub(CLOSED)
 }
 
-// The address of the abbreviation that has a name, a part of the certificate.
+// The address of the abbreviation that has a name, a part of the certificate. Its bounds are given, not its bytes as for a goal: both callers have these,
+// and would each take the part. How many buckets there are stays a number that callers give: the laws hold of any count.
 #[tactic(auto, unfolding(crate::specs::Words::def_found))]
 pub fn find_def(table: &[u32], buckets: u32, certificate: &[u8], s: usize, t: usize) -> Option<u32>
     ensures { answered result ≡ def_found buckets certificate.now (part s t certificate.now) table.now }
@@ -252,7 +248,7 @@ pub fn step_part(table: &[u32], n: u32, part: StepPart) -> u32
 pub fn step_word(table: &[u32], n: u64, which: u32, tally: Tally) -> Option<u32>
     ensures { answered result ≡ step_word n which tally table.now }
 {
-    if tally.steps as u64 <= n {
+    if u64::from(tally.steps) <= n {
         return None;
     }
     let a = step_at(table.len(), n as u32);

@@ -6,13 +6,14 @@ ghost use Rattle.std.specs.Prelude.{◌≡◌};
 ghost use Rattle.outcomes.specs.Leaving.{◌leaving◌};
 ghost use Rattle.outcomes.specs.Told.{told, told_as};
 ghost use Rattle.theory.specs.Declarations.{next, sized, form_of, declared_by, declaration, counted, more_due};
-ghost use Rattle.theory.specs.Declarations.{start_walk, no_counts, declarations};
+ghost use Rattle.theory.specs.Declarations.{start_walk, declarations};
 ghost use Rattle.theory.specs.Walks.{theory};
 
 use items::{Counted, Walk, places};
 use lex::{Read, Reader};
 use outcomes::Refusal;
 
+// What a declaration is. `Other` is a case of its own, as in the model: it is refused where it would be declared, after its head was judged.
 #[derive(Clone, Copy)]
 pub enum Form {
     Sort,
@@ -23,7 +24,7 @@ pub enum Form {
 }
 
 // How many are declared.
-#[derive(Clone, Copy)]
+#[derive(Clone, Copy, Default)]
 pub struct Counts {
     pub sorts: u32,
     pub constructors: u32,
@@ -151,21 +152,8 @@ fn begin_walk() -> Walk
     }
 }
 
-// Nothing declared.
-#[tactic(auto, unfolding(crate::specs::Declarations::no_counts))]
-fn no_counts() -> Counts
-    ensures { result ≡ no_counts }
-{
-    Counts {
-        sorts: 0,
-        constructors: 0,
-        predicates: 0,
-        rules: 0,
-    }
-}
-
 // The second walk, over a rulebook that the first walk read whole.
-#[tactic(auto, using(crate::proofs::Turns::turns), unfolding(crate::specs::Declarations::declarations))]
+#[tactic(auto, using(crate::proofs::Turns::turns), unfolding(crate::specs::Declarations::declarations, crate::specs::Declarations::no_counts))]
 pub fn declarations(
     rulebook: Counted<'_>,
     vars: &mut [u32],
@@ -175,7 +163,7 @@ pub fn declarations(
         ≡ declarations rulebook.entry.text.now rulebook.entry.counts.now vars.old heap.old }
 {
     let mut w = begin_walk();
-    let mut c = no_counts();
+    let mut c = Counts::default();
     let turns = rulebook.text.len() / 2 + 1;
     for _ in 0..turns {
         let Some(v) = look(rulebook.text, w)? else {
@@ -185,6 +173,7 @@ pub fn declarations(
         w = q;
         c = count(c, form);
     }
+    // Out of turns: the laws show that this is never met.
     Err(Refusal::Nesting)
 }
 

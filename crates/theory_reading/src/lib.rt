@@ -31,7 +31,8 @@ impl Section {
     }
 }
 
-// The constructor, predicate or rule of the rulebook `text` that has a name.
+// The constructor, predicate or rule of the rulebook `text` that has a name. The theory and its text go side by side in two functions here; where names are
+// looked up beyond them, `nodes::Scope` has both.
 #[tactic(auto, unfolding(crate::specs::Reading::constructor_found, crate::specs::Reading::predicate_found, crate::specs::Reading::rule_found))]
 pub fn find(heap: &[u32], text: &[u8], section: Section, name: &[u8]) -> Option<u32>
     ensures { answered result ≡ section_found section heap.now text.now name.now }
@@ -39,8 +40,8 @@ pub fn find(heap: &[u32], text: &[u8], section: Section, name: &[u8]) -> Option<
     names::find(heap, section.buckets(), places::BUCKETS, text, name)
 }
 
-// The words of entries have a function each. One function with the word's place would be no plainer: its callers would name a place and not
-// what they read.
+// The words of entries have a function each, of the theory's area and an entry's address. One function with the word's place, or a struct of the area and an
+// address made for one read, would be no plainer: their callers would name a place, or make a value, and not say what they read.
 
 // What the symbol at c gives: the address of a sort, or 0 for a judgment.
 #[tactic(auto, unfolding(crate::specs::Reading::output_of))]

@@ -7,7 +7,7 @@ ghost use Rattle.lex.specs.Answers.{start};
 ghost use Rattle.timing.specs.Count.{counted};
 
 // How many tokens a text has before its end, or before its first line that is not UTF-8.
-#[tactic(auto, using(crate::proofs::Turns::turns))]
+#[tactic(auto, using(crate::proofs::Turns::turns), unfolding(lex::specs::Answers::answer))]
 pub fn count_tokens(text: &[u8]) -> usize
     ensures { result ≡ counted (length text.now) text.now start 0 }
 {

@@ -14,7 +14,7 @@ use Rattle.horn.specs.Utf8.{Range, range, within, Sequence, sequence, sequences,
 use Rattle.horn.specs.Tokens.{kind}
 use Rattle.horn.proofs.Equality.{case}
 use Rattle.utf8.specs.Classes.{kind_number, never, leads_two, leads_e0, leads_ed, leads_f0, leads_f4, class_of, low_of, high_of}
-use Rattle.utf8.specs.Characters.{First, broken, found, one_more, rest, first, width, value, in_range, longer_by}
+use Rattle.utf8.specs.Characters.{First, broken, found, one_more, rest, first, in_range, longer_by}
 use Rattle.utf8.proofs.Table.{and_left, and_right, ruled, ruled_at}
 
 -- What the class of a byte says of the sequence that it begins.
@@ -234,8 +234,3 @@ pub two_bytes : (c b : ℕ) (bs : List ℕ) → c ≡ leads_two
     → longer_by c b bs ≡ in_range 0x80 0xBF (get_or bs 1 0) (found 2 (b % 32 * 64 + get_or bs 1 0 % 64))
 unfolding longer_by low_of high_of
 two_bytes c b bs e = rw e
-
--- What is told where there is no character.
-pub told_none : (f : First) → f ≡ broken → (0 ≡ width f) × (0 ≡ value f)
-unfolding width value
-told_none f e = (rw e, rw e)

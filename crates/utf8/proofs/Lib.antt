@@ -5,3 +5,4 @@ pub mod Whiteness
 pub mod Sixteen
 pub mod Looks
 pub mod Plain
+pub mod Cases

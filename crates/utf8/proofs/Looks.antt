@@ -73,12 +73,12 @@ module _ (m : ℕ) where
   width_zero (found n v) s e = absurd (omega arith)
 
 -- The kind of a character of four bytes is that of any other such, and of fewer bytes it is that of the value in 16 bits.
-four_kind : (f : First) → width f ≡ 4 → kind_at (found 4 0) ≡ kind_at f
+pub four_kind : (f : First) → width f ≡ 4 → kind_at (found 4 0) ≡ kind_at f
 unfolding width kind_at
 four_kind broken e = absurd (omega arith)
 four_kind (found n v) e = rw (eq-eqb n 4 e, kind_at)
 
-short_kind : (f : First) → (width f ≡ 0 → ⊥) → (width f ≡ 4 → ⊥) → kind_number (kind (value f)) ≡ kind_at f
+pub short_kind : (f : First) → (width f ≡ 0 → ⊥) → (width f ≡ 4 → ⊥) → kind_number (kind (value f)) ≡ kind_at f
 unfolding width value kind_at
 short_kind broken d k = absurd (d refl)
 short_kind (found n v) d k = rw (ne_eqb n 4 k, kind_at, value)
@@ -91,17 +91,14 @@ at_drop text p = get_or-drop p text 0 0 ∙ ap (λ (n : ℕ). get_or text n 0) (
 
 -- What `look` answers: past the end, at a character of one byte, and at others.
 module _ (text : List ℕ) (p : ℕ) where
-  pub look_past : length text ≤ p → (never ≡ kind_at (first (drop p text))) × (0 ≡ width (first (drop p text)))
-  unfolding first kind_at width
-  look_past h = (rw (drop_of_length-le text h), rw (drop_of_length-le text h))
+  pub look_past : length text ≤ p → first (drop p text) ≡ broken
+  unfolding first
+  look_past h = rw (drop_of_length-le text h)
 
-  pub look_one : p < length text → get_or text p 0 < 256 → (c : ℕ) → c ≡ class_of (get_or text p 0) → c < never
-      → (c ≡ kind_at (first (drop p text))) × (1 ≡ width (first (drop p text)))
-  unfolding kind_at width
-  look_one h u c e l =
+  pub look_one : p < length text → get_or text p 0 < 256 → class_of (get_or text p 0) < never → first (drop p text) ≡ found 1 (get_or text p 0)
+  look_one h u l =
       let a : get_or (drop p text) 0 0 ≡ get_or text p 0 = at_drop text p in
-      let f = first_one (drop p text) (simp length-drop (omega arith)) (rw a u) (rw (a, ← e) l) in
-      (rw (f, a) (e ∙ kind_one (get_or text p 0) u (rw (← e) l)), rw f)
+      rw a at (first_one (drop p text) (simp length-drop (omega arith)) (rw a u) (rw a l))
 
 -- What `look_longer` answers, by a class from `never` on.
 inside : (lo hi b : ℕ) (f : First) → (width f ≡ 0 → f ≡ broken) → width (in_range lo hi b f) ≡ 0 → in_range lo hi b f ≡ broken
@@ -120,7 +117,7 @@ either : (x : Bool) {f g : First} → (width f ≡ 0 → f ≡ broken) → (widt
 either true p q = p
 either false p q = q
 
-longer_zero : (c b : ℕ) (bs : List ℕ) → width (longer_by c b bs) ≡ 0 → longer_by c b bs ≡ broken
+pub longer_zero : (c b : ℕ) (bs : List ℕ) → width (longer_by c b bs) ≡ 0 → longer_by c b bs ≡ broken
 unfolding longer_by
 longer_zero c b bs =
     inside _ _ _ _
@@ -152,35 +149,25 @@ module _ (text : List ℕ) (p c : ℕ) where
       (ap (λ (x : ℕ). longer_by x (get_or (drop p text) 0 0) (drop p text)) (e ∙ ap class_of (sym a))
       ∙ sym (first_longer (drop p text) s (rw a u) (rw (a, ← e) (lt_of_le_of_ne l (eqb-false c never n))))))
 
-  pub longer_past : length text ≤ p → (never ≡ kind_at (by_class c (drop p text))) × (0 ≡ width (by_class c (drop p text)))
-  unfolding kind_at width
-  longer_past h = let b = ap (by_class c) (drop_of_length-le text h) ∙ longer_empty c in (rw b, rw b)
+  pub longer_past : length text ≤ p → by_class c (drop p text) ≡ broken
+  longer_past h = ap (by_class c) (drop_of_length-le text h) ∙ longer_empty c
 
-  pub longer_never : c ≡ never → (never ≡ kind_at (by_class c (drop p text))) × (0 ≡ width (by_class c (drop p text)))
-  unfolding by_class kind_at width
-  longer_never e = (rw (e, by_class), rw (e, by_class))
-
-  longer_here : (c ≡ never → ⊥) → by_class c (drop p text) ≡ longer_by c (get_or text p 0) (take (length text - p) (drop p text))
+  pub longer_here : (c ≡ never → ⊥) → by_class c (drop p text) ≡ longer_by c (get_or text p 0) (take (length text - p) (drop p text))
   unfolding by_class
   longer_here d = rw (ne_eqb c never d, by_class, rest_of text p) (ap (λ (b : ℕ). longer_by c b (drop p text)) (at_drop text p))
 
-  module _ (d : c ≡ never → ⊥) (w : ℕ) (e : w ≡ width (longer_by c (get_or text p 0) (take (length text - p) (drop p text)))) where
-    pub longer_none : w ≡ 0 → (never ≡ kind_at (by_class c (drop p text))) × (0 ≡ width (by_class c (drop p text)))
-    unfolding kind_at width
-    longer_none z = let b = longer_here d ∙ longer_zero _ _ _ (sym e ∙ z) in (rw b, rw b)
+pub longer_never : (c : ℕ) (bs : List ℕ) → c ≡ never → by_class c bs ≡ broken
+unfolding by_class
+longer_never c bs e = rw (e, by_class)
 
-    pub longer_four : w ≡ 4 → (kind_at (found 4 0) ≡ kind_at (by_class c (drop p text))) × (4 ≡ width (by_class c (drop p text)))
-    longer_four f = let b = longer_here d in (four_kind _ (sym e ∙ f) ∙ ap kind_at (sym b), sym f ∙ e ∙ ap width (sym b))
+pub ruleset looks = (look_past, look_one, kind_one, longer_is)
 
-    pub longer_seen : (v k : ℕ) → v ≡ value (longer_by c (get_or text p 0) (take (length text - p) (drop p text))) → (w ≡ 0 → ⊥)
-        → (w ≡ 4 → ⊥) → k ≡ kind_number (kind v) → (k ≡ kind_at (by_class c (drop p text))) × (w ≡ width (by_class c (drop p text)))
-    longer_seen v k g n m h =
-        let b = longer_here d in
-        (h ∙ rw g (short_kind _ (λ z. n (e ∙ z)) (λ z. m (e ∙ z)) ∙ ap kind_at (sym b)), e ∙ ap width (sym b))
+pub ruleset longer_looks = (longer_past, longer_never, longer_here, longer_zero, four_kind, short_kind)
 
 -- An ASCII character has one byte.
 pub ascii_width : (text : List ℕ) (p : ℕ) → p < length text → get_or text p 0 < 128 → 1 ≡ width (first (drop p text))
-ascii_width text p h a = (look_one text p h (omega arith) (class_of (get_or text p 0)) refl (ascii_class (get_or text p 0) a)).1
+unfolding width
+ascii_width text p h a = rw (look_one text p h (omega arith) (ascii_class (get_or text p 0) a))
 
 -- A step over a character stays in the text and goes on.
 module _ (text : List ℕ) (q n : ℕ) (en : n ≡ width (first (drop q text))) where

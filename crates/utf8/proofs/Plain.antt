@@ -1,5 +1,5 @@
 -- What `plain_three` answers: above 0 it is the value of the character there, which has three bytes. Assumes nothing.
-use mathlib.Core.Path.{◌≡◌, ◌∙◌, ap, sym}
+use mathlib.Core.Path.{◌≡◌, ◌∙◌, refl, ap, sym}
 use mathlib.Core.List.{List}
 use Prim.Native.Nat.{ℕ, ◌+◌, ◌*◌, ◌-◌, ◌/◌, ◌%◌, ◌<◌}
 use native.Mathlib.Omega.{arith}
@@ -74,21 +74,27 @@ pub plain_other : (c : ℕ) (bs : List ℕ) → (c ≡ leads_plain → ⊥) → 
 unfolding plain_value
 plain_other c bs d = rw (ne_eqb c leads_plain d, plain_value)
 
--- At a place of a text, by the class of the byte there.
-module _ (text : List ℕ) (q c : ℕ) (h : q < length text) (u : get_or text q 0 < 256) (e : c ≡ class_of (get_or text q 0)) (v : ℕ)
-    (ev : v ≡ plain_value c (take (length text - q) (drop q text))) where
-  plain_first : 0 < v → first (drop q text) ≡ found 3 v
-  plain_first pos =
-      case (eqb c leads_plain)
-      (λ t.
-      let k : c ≡ leads_plain = eqb-true _ _ t in
-      sym (longer_is text q c h u e (omega arith)) ∙ found_by_lem c (drop q text) k v (rw (rest_of text q) at ev) pos)
-      (λ n. let z = plain_other c (take (length text - q) (drop q text)) (eqb-false _ _ n) in absurd (omega arith))
+pub ruleset plains = (plain_other, plain_short, plain_second, plain_third, plain_here)
 
-  pub plain_wide : 0 < v → 3 ≡ width (first (drop q text))
+-- At a place of a text, by the class of the byte there.
+module _ (text : List ℕ) (q : ℕ) (h : q < length text) (u : get_or text q 0 < 256) where
+  plain_first : 0 < plain_value (class_of (get_or text q 0)) (take (length text - q) (drop q text))
+      → first (drop q text) ≡ found 3 (plain_value (class_of (get_or text q 0)) (take (length text - q) (drop q text)))
+  plain_first pos =
+      case (eqb (class_of (get_or text q 0)) leads_plain)
+      (λ t.
+      let k : class_of (get_or text q 0) ≡ leads_plain = eqb-true _ _ t in
+      sym (longer_is text q _ h u refl (omega arith))
+      ∙ found_by_lem _ (drop q text) k _ (ap (plain_value (class_of (get_or text q 0))) (rest_of text q)) pos)
+      (λ n.
+      let z = plain_other (class_of (get_or text q 0)) (take (length text - q) (drop q text)) (eqb-false _ _ n) in
+      absurd (omega arith))
+
+  pub plain_wide : 0 < plain_value (class_of (get_or text q 0)) (take (length text - q) (drop q text)) → width (first (drop q text)) ≡ 3
   unfolding width
   plain_wide pos = rw (plain_first pos)
 
-  pub plain_ordinary : 0x3000 < v → is_ordinary ≡ kind_at (first (drop q text))
+  pub plain_ordinary : 0x3000 < plain_value (class_of (get_or text q 0)) (take (length text - q) (drop q text))
+      → kind_at (first (drop q text)) ≡ is_ordinary
   unfolding kind_at kind_number
-  plain_ordinary l = rw (plain_first (omega arith), kind_above v l)
+  plain_ordinary l = rw (plain_first (omega arith), kind_above _ l)

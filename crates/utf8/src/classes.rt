@@ -33,6 +33,7 @@ pub const LEADS_F4: u8 = 12;
 // The table of 256 classes: a row for each high half of a byte, in it a digit for each low half, that of 0 last.
 // The digits are those above, and B for F1 to F3.
 // It is a match because the compiler keeps that as a table of constants; an array of constants it builds anew at each read.
+#[tactic(auto, unfolding(crate::specs::Classes::rows))]
 fn row(high: u8) -> u64
     ensures { result ≡ get_or rows high 0 }
 {
@@ -58,14 +59,16 @@ fn row(high: u8) -> u64
 }
 
 // The class of a byte.
+#[tactic(auto, using(crate::proofs::Cases::row_class))]
 pub fn class(b: u8) -> u8
     ensures { result ≡ class_of b }
 {
-    let digits = row(b / 16) >> (4 * (b % 16)) as u32;
+    let digits = row(b / 16) >> u32::from(4 * (b % 16));
     (digits % 16) as u8
 }
 
 // The least second byte after a first byte of a class.
+#[tactic(auto, unfolding(crate::specs::Classes::low_of))]
 pub fn low(c: u8) -> u8
     ensures { result ≡ low_of c }
 {
@@ -79,6 +82,7 @@ pub fn low(c: u8) -> u8
 }
 
 // The greatest second byte after a first byte of a class.
+#[tactic(auto, unfolding(crate::specs::Classes::high_of))]
 pub fn high(c: u8) -> u8
     ensures { result ≡ high_of c }
 {

@@ -1,4 +1,7 @@
 // The variables of a rule: found by their names, met for the first time or again.
+//
+// `vars` and `heap` go side by side, here and in the crates above: a struct of the two would save one parameter, and cost each function a clause that both
+// are the same areas still.
 #![tactic(auto)]
 
 ghost use Rattle.std.specs.Prelude.{◌≡◌};

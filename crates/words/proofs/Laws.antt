@@ -1,6 +1,6 @@
 -- The laws that the proofs of this crate cite: parts of a list, comparison, clearing, the hash and its rotation.
 -- Assumes nothing.
-use Rattle.std.proofs.Common.{◌≡◌, ℕ, zero, suc, ◌+◌, ◌-◌, ◌*◌, ◌/◌, ◌%◌, ◌^◌, ◌<◌, ◌≤◌, Bool, true, false, ◌&&◌, eqb, List, [], ◌∷◌, ◌++◌, length, get_or, take, drop, sym, refl, ap, ◌∙◌, min, nat_eq, bit_or, div-lt_iff_lt-mul, div-add-mod', add-mul, mul_assoc, mod-lt, mul-lt-mul_of_pos_right, add-one, arith, length-drop, drop_of_length-le, length-take, get_or-drop, drop-cons, get_or-take, ne_eqb, replicate}
+use Rattle.std.proofs.Common.{◌≡◌, ℕ, zero, suc, ◌+◌, ◌-◌, ◌*◌, ◌/◌, ◌%◌, ◌^◌, ◌<◌, ◌≤◌, Bool, true, false, ◌&&◌, eqb, List, [], ◌∷◌, ◌++◌, length, get_or, take, drop, sym, refl, ap, ◌∙◌, min, nat_eq, bit_or, div-lt_iff_lt-mul, div-add-mod', add-mul, mul_assoc, mod-lt, mul-lt-mul_of_pos_right, add-one, arith, length-drop, drop_of_length-le, length-take, get_or-drop, drop-cons, get_or-take, ne_eqb, eq-eqb, replicate}
 use Rattle.std.proofs.lemmas.Nat.{or_shifted, mod-mul-add}
 use Rattle.std.specs.Cmp.Lexicographic.{pointwise}
 use Rattle.words.specs.Parts.{part, same_bytes, cleared}
@@ -45,6 +45,22 @@ same_pointwise (x ∷ a) (y ∷ b) = below (eqb x y) (same_pointwise a b) where
   below true h = h
   below false h = refl
 
+module _ (a b : List ℕ) (i : ℕ) (h : i < length a) (k : i < length b) where
+  -- One turn of the comparison where the words are equal, and where they differ.
+  pub same_on : get_or a i 0 ≡ get_or b i 0 → same_bytes (drop i a) (drop i b) ≡ same_bytes (drop (i + 1) a) (drop (i + 1) b)
+  unfolding same_bytes
+  same_on e = rw (drop-cons a i 0 h, drop-cons b i 0 k, add-one i, eq-eqb _ _ e, same_bytes)
+
+  pub same_off : (get_or a i 0 ≡ get_or b i 0 → ⊥) → same_bytes (drop i a) (drop i b) ≡ false
+  unfolding same_bytes
+  same_off d = rw (drop-cons a i 0 h, drop-cons b i 0 k, ne_eqb _ _ d, same_bytes)
+
+pub same_end : (a b : List ℕ) (i : ℕ) → length a ≤ i → length b ≤ i → same_bytes (drop i a) (drop i b) ≡ true
+unfolding same_bytes
+same_end a b i h k = rw (drop_of_length-le a h, drop_of_length-le b k)
+
+pub ruleset comparing = (lengths_differ, same_on, same_off, same_end)
+
 module _ (text key : List ℕ) (start end : ℕ) (h : end ≤ length text) where
   -- A part that is there differs from what has another length, and from what ends on another byte.
   pub part_empty : (length key ≡ 0 → ⊥) → end ≤ start → same_bytes (part start end text) key ≡ false
@@ -64,6 +80,8 @@ module _ (text key : List ℕ) (start end : ℕ) (h : end ≤ length text) where
       ∙ e)) where
         last : ℕ
         last = length key - 1
+
+pub ruleset unlike = (part_empty, part_unlike, part_ends)
 
 -- Zeros before the rest of a list are its first words set to 0.
 pub cleared_zeros : (n e : ℕ) (s : List ℕ) → e ≡ min n (length s) → replicate (length (take e s)) 0 ++ drop e s ≡ cleared n s

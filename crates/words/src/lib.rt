@@ -1,4 +1,5 @@
-// Total access to lent words and bytes: 0 is read outside, and nothing is written there. So no caller owes a bound.
+// Total access to lent words and bytes: 0 is read outside, and nothing is written there. So no caller owes a bound. A place is `word as usize`, here and in
+// all crates: `usize` has no `From` of 32 bits.
 #![tactic(auto)]
 
 ghost use Rattle.std.specs.Prelude.{◌≡◌, ◌*◌, ◌%◌, ◌^◌, bit_xor, slice_index_or, slice_set};
@@ -69,7 +70,9 @@ fn is_taken(text: &[u8], start: usize, end: usize, key: &[u8]) -> bool
     part(text, start, end) == key
 }
 
-// The same, where names are searched for: the bounds and the last byte tell most parts that are not equal.
+// The same, where names are searched for: the bounds and the last byte tell most parts that are not equal. Inlined, as each link of a chain asks it.
+#[tactic(auto, using(crate::proofs::Laws::unlike))]
+#[inline(always)]
 pub fn is_part(text: &[u8], start: usize, end: usize, key: &[u8]) -> bool
     ensures { result ≡ same_bytes (part start end text.now) key.now }
 {
@@ -100,8 +103,26 @@ pub fn same_bytes(a: &[u8], start: usize, end: usize, b: &[u8], from: usize, to:
     part(a, start, end) == part(b, from, to)
 }
 
-// Copies the first n words of `from` to place i of `to`, as far as that goes on: 0 where `from` has ended, which the library's copy between equal
-// lengths, as `writing` uses it, has not.
+// Whether two lists of words are equal. A loop of its own, since `==` of slices is a call of the library for each comparison: with it, the bench's load
+// "most abbreviations" misses its bar.
+#[inline(always)]
+#[tactic(auto, using(crate::proofs::Laws::comparing))]
+pub fn same_words(a: &[u32], b: &[u32]) -> bool
+    ensures { result ≡ same_bytes a.now b.now }
+{
+    if a.len() != b.len() {
+        return false;
+    }
+    for i in 0..a.len() {
+        if a[i] != b[i] {
+            return false;
+        }
+    }
+    true
+}
+
+// Copies the first n words of `from` to place i of `to`, as far as that goes on: 0 where `from` has ended. One by one, as `writing::put_bytes` does, since a
+// slice's own copy wants equal lengths, and asks the archive for `memmove`.
 #[tactic(auto, using(crate::proofs::Writing::copying))]
 pub fn copy(to: &mut [u32], i: usize, from: &[u32], n: usize)
     ensures { to.new ≡ copied to.old i from.now 0 n }
@@ -138,7 +159,7 @@ pub fn low(x: usize) -> u32
     (x % 4294967296) as u32
 }
 
-// The low 64 bits of a product.
+// The low 64 bits of a product. A function of its own, as the two below are: its contract is the model's word, and the hash is proved from that.
 pub fn wrapping_mul(a: u64, b: u64) -> u64
     ensures { result ≡ (a * b) % 2 ^ 64 }
 {
@@ -166,7 +187,7 @@ pub fn hash_word(h: u64, word: u32) -> u64
     ensures { result ≡ hashed h word }
 {
     let rotated = rotate_left_5(h);
-    let mixed = xor(rotated, word as u64);
+    let mixed = xor(rotated, u64::from(word));
     wrapping_mul(mixed, 0x517cc1b727220a95)
 }
 

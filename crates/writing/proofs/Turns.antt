@@ -9,7 +9,7 @@ use lib.ListN.{length, get_or, set, drop, length-set, length-take, drop_of_lengt
 use lib.Seq.{drop-cons, drop-set-lt, get_or-set_same}
 use Rattle.horn.specs.Layout.{plain}
 use Rattle.horn.specs.Output.{goes_on, cut}
-use Rattle.horn.proofs.Output.{cut_inside, cut_here, plain_one, plain_more, plain_long}
+use Rattle.horn.proofs.Output.{cut_inside, cut_here, plain_one, plain_more, plain_long, plain_short, length-plain_more}
 use Rattle.writing.specs.Buffer.{placed}
 use Rattle.writing.proofs.Placed.{placed_none, placed-cons, placed_out}
 
@@ -68,3 +68,11 @@ digits_end m i text h k l =
     ap (λ ds. ds ++ drop i text) (plain_one m h)
     ∙ ap (λ d. d ∷ drop i text) (omega arith)
     ∙ sym (drop-set text i (m + 0x30) (omega (arith, plain_long m)) l)
+
+pub digits_word : (n : ℕ) → n < 4_294_967_296 → length (plain n) ≤ 10
+digits_word n h = plain_short 9 n (omega arith)
+
+pub digits_fewer : (m : ℕ) → 10 ≤ m → length (plain (m / 10)) + 1 ≡ length (plain m)
+digits_fewer m h = sym (length-plain_more m h)
+
+pub ruleset digits = (digits_first, digits_on, digits_end, digits_word, digits_fewer, plain_long, length-set)

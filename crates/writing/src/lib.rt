@@ -7,9 +7,9 @@ ghost use Rattle.horn.specs.Layout.{plain};
 ghost use Rattle.horn.specs.Output as output;
 ghost use Rattle.writing.specs.Buffer.{placed};
 
-// What a call that writes one text answers: its number, and the length of the text, 0 if it is refused.
+// What a call that writes one text answers: its number, and the length of the text, 0 if it is refused. C reads it: so a number stands beside the length.
 #[repr(C)]
-#[derive(Drop)]
+#[derive(Clone, Copy)]
 pub struct Written {
     pub number: u32,
     pub length: u32,
@@ -23,6 +23,7 @@ pub fn refused(number: u32) -> Written
 }
 
 // Writes bytes from a place on, one by one: C interface, since the archive asks for `memcpy` and `memset` alone, and a slice's own copy for `memmove`.
+// The place is counted beside the bytes: by `enumerate` it would be a sum at each byte.
 #[tactic(auto, using(crate::proofs::Turns::putting))]
 pub fn put_bytes(out: &mut [u8], at: usize, bytes: &[u8])
     ensures { out.new ≡ placed at bytes.now out.old }
@@ -82,6 +83,7 @@ pub fn cut(name: &[u8], width: usize) -> usize
 }
 
 // Writes a name in a field, the spaces behind it.
+#[tactic(auto, using(crate::proofs::Fields::name_written))]
 pub fn put_name(out: &mut [u8], at: usize, width: usize, name: &[u8])
     ensures { out.new ≡ placed at (output.name_field width name.now) out.old }
 {
@@ -95,6 +97,7 @@ pub fn put_name(out: &mut [u8], at: usize, width: usize, name: &[u8])
 
 // The digits of a number at the end of ten bytes, from the last on. Answers where they start. `io` has the same for programs; the library that C links
 // does not name it. A turn takes a digit off the number, however many it has.
+#[tactic(auto, using(crate::proofs::Turns::digits))]
 fn decimal(n: u32, text: &mut [u8]) -> usize
     requires { length text.old ≡ 10 }
     ensures within { result ≤ 10 }
@@ -113,6 +116,7 @@ fn decimal(n: u32, text: &mut [u8]) -> usize
 }
 
 // Writes a number right-aligned in a field, and in full where it is longer.
+#[tactic(auto, using(crate::proofs::Fields::numbers))]
 pub fn put_number(out: &mut [u8], at: usize, width: usize, n: u32)
     ensures { out.new ≡ placed at (output.right_aligned width n) out.old }
 {

@@ -1,3 +1,4 @@
+-- One turn more of the walk: the check alone stops at the functions under which the index is read.
 use Rattle.std.proofs.Common.{sym, ◌∙◌, rules}
 use Rattle.arena.proofs.Turns.{walk_on_lem}
 use Rattle.arena.proofs.walk.Goals as goal

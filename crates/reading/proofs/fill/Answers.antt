@@ -1,4 +1,4 @@
--- One more read: what stood before it stays, and behind that is what it gave.
+-- One more read: what stood before it stays, and behind that is what it gave. The check alone does not join the two.
 use Rattle.std.proofs.Common.{◌≡◌, ℕ, ◌+◌, ◌-◌, ◌≤◌, List, ◌++◌, rules, length, take, sym, ap, ◌∙◌, subst, length-take-le}
 use Rattle.std.specs.Io.KnownBytes.{Consumes}
 use Rattle.std.proofs.KnownBytes.{Consumes-trans}

@@ -1,3 +1,4 @@
+-- Spaces over a part of the buffer: what `fill` of the library says takes a function, which the check does not give it.
 use Rattle.std.proofs.Common.{arith, rules, length-take, length-drop}
 use Rattle.writing.proofs.Placed.{spaces_mid}
 use Rattle.writing.proofs.fill.Goals as goal
