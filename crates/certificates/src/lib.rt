@@ -3,12 +3,14 @@
 #![tactic(auto)]
 
 ghost use Rattle.std.specs.Prelude.{◌≡◌, ◌+◌, length};
+ghost use Rattle.lent.specs.Lent.{Same};
 ghost use Rattle.lex.specs.Answers.{start};
 ghost use Rattle.outcomes.specs.Leaving.{◌leaving◌};
 ghost use Rattle.outcomes.specs.Told.{told};
 ghost use Rattle.certificates.specs.Certificates.{step_form, form_read, forms_from, certificate};
 
 use forms::Keyword;
+use lent::{Areas, GoalAreas, StepAreas, Texts};
 use lex::Reader;
 use outcomes::Refusal;
 use tables::Tally;
@@ -16,81 +18,72 @@ use tables::Tally;
 // "`(step I R (I...) item...)`": the step that was read and judged, recorded.
 #[tactic(auto, unfolding(crate::specs::Certificates::step_form))]
 pub fn step_form(
-    text: &[u8],
-    rules: &[u8],
-    table: &mut [u32],
-    store: &mut [u32],
-    stack: &mut [u32],
-    heap: &mut [u32],
+    texts: Texts<'_>,
+    areas: &mut Areas<'_>,
     tally: Tally,
     reader: Reader,
 ) -> Result<(Tally, Reader), Refusal>
-    ensures { (told result leaving (((store.new, stack.new), heap.new), table.new))
-        ≡ step_form text.now rules.now tally reader store.old stack.old heap.old table.old }
+    ensures same { Same areas.old areas.new }
+    ensures after { (told result leaving (((areas.new.store.now, areas.new.stack.now), areas.new.heap.now), areas.new.table.now))
+        ≡ step_form texts.entry.certificate.now texts.entry.rulebook.now tally reader
+        areas.old.store.now areas.old.stack.now areas.old.heap.now areas.old.table.now }
 {
-    let (j, e, place, tested, next) = steps::step(
-        text,
-        rules,
-        table,
-        store,
-        stack,
-        heap,
-        tally.steps,
-        reader,
-    )?;
-    let counted = tables::add_step(table, j, e, place, tested, tally);
+    let mut step = StepAreas {
+        store: areas.store,
+        table: &mut *areas.table,
+        stack: areas.stack,
+        heap: areas.heap,
+    };
+    let (j, e, place, tested, next) = steps::step(texts, &mut step, tally.steps, reader)?;
+    let counted = tables::add_step(areas.table, j, e, place, tested, tally);
     Ok((counted, next))
 }
 
 // One form, its opening taken. "Another head is 9."
 #[tactic(auto, unfolding(crate::specs::Certificates::form_read))]
 pub fn read_form(
-    text: &[u8],
-    goals: &[u8],
-    rules: &[u8],
-    table: &mut [u32],
-    store: &mut [u32],
-    stack: &mut [u32],
-    heap: &mut [u32],
+    texts: Texts<'_>,
+    areas: &mut Areas<'_>,
     tally: Tally,
     reader: Reader,
 ) -> Result<(Tally, Reader), Refusal>
-    ensures { (told result leaving (((store.new, stack.new), heap.new), table.new))
-        ≡ form_read text.now goals.now rules.now tally reader store.old stack.old heap.old
-        table.old }
+    ensures same { Same areas.old areas.new }
+    ensures after { (told result leaving (((areas.new.store.now, areas.new.stack.now), areas.new.heap.now), areas.new.table.now))
+        ≡ form_read texts.entry.certificate.now texts.entry.goals.now texts.entry.rulebook.now tally reader
+        areas.old.store.now areas.old.stack.now areas.old.heap.now areas.old.table.now }
 {
-    let (s, t, named) = asking::atom_due(text, asking::IN_FORM, reader)?;
-    match forms::keyword_of(text, s, t) {
-        Keyword::Step => step_form(text, rules, table, store, stack, heap, tally, named),
-        Keyword::Result => forms::result_form(text, goals, table, tally, named),
-        Keyword::Def => forms::def_form(text, rules, heap, table, store, stack, tally, named),
+    let (s, t, named) = asking::atom_due(texts.certificate, asking::IN_FORM, reader)?;
+    match forms::keyword_of(texts.certificate, s, t) {
+        Keyword::Step => step_form(texts, areas, tally, named),
+        Keyword::Result => forms::result_form(texts, areas.table, tally, named),
+        Keyword::Def => {
+            let mut goal = GoalAreas {
+                store: areas.store,
+                table: areas.table,
+                stack: areas.stack,
+                heap: &mut *areas.heap,
+            };
+            forms::def_form(texts, &mut goal, tally, named)
+        }
         Keyword::Other => Err(Refusal::Form),
     }
 }
 
 // All forms, in order.
 #[tactic(auto, using(crate::proofs::Turns::turns))]
-pub fn all_forms(
-    text: &[u8],
-    goals: &[u8],
-    rules: &[u8],
-    table: &mut [u32],
-    store: &mut [u32],
-    stack: &mut [u32],
-    heap: &mut [u32],
-    tally: Tally,
-) -> Result<Tally, Refusal>
-    ensures { (told result leaving (((store.new, stack.new), heap.new), table.new))
-        ≡ forms_from (length text.now + 1) text.now goals.now rules.now tally start store.old
-        stack.old heap.old table.old }
+pub fn all_forms(texts: Texts<'_>, areas: &mut Areas<'_>, tally: Tally) -> Result<Tally, Refusal>
+    ensures same { Same areas.old areas.new }
+    ensures after { (told result leaving (((areas.new.store.now, areas.new.stack.now), areas.new.heap.now), areas.new.table.now))
+        ≡ forms_from (length texts.entry.certificate.now + 1) texts.entry.certificate.now texts.entry.goals.now texts.entry.rulebook.now tally start
+        areas.old.store.now areas.old.stack.now areas.old.heap.now areas.old.table.now }
 {
     let mut r = Reader::new();
     let mut now = tally;
-    for _turn in 0..=text.len() {
-        let Some(opened) = asking::form_due(text, r)? else {
+    for _turn in 0..=texts.certificate.len() {
+        let Some(opened) = asking::form_due(texts.certificate, r)? else {
             return Ok(now);
         };
-        (now, r) = read_form(text, goals, rules, table, store, stack, heap, now, opened)?;
+        (now, r) = read_form(texts, areas, now, opened)?;
     }
     // Out of turns: the laws show that this is never met.
     Err(Refusal::TextLong)
@@ -98,21 +91,13 @@ pub fn all_forms(
 
 // The certificate. "At the end an open goal is 29."
 #[tactic(auto, unfolding(crate::specs::Certificates::certificate))]
-pub fn certificate(
-    text: &[u8],
-    goals: &[u8],
-    rules: &[u8],
-    table: &mut [u32],
-    store: &mut [u32],
-    stack: &mut [u32],
-    heap: &mut [u32],
-    tally: Tally,
-) -> Result<Tally, Refusal>
-    ensures { (told result leaving (((store.new, stack.new), heap.new), table.new))
-        ≡ certificate text.now goals.now rules.now tally store.old stack.old heap.old
-        table.old }
+pub fn certificate(texts: Texts<'_>, areas: &mut Areas<'_>, tally: Tally) -> Result<Tally, Refusal>
+    ensures same { Same areas.old areas.new }
+    ensures after { (told result leaving (((areas.new.store.now, areas.new.stack.now), areas.new.heap.now), areas.new.table.now))
+        ≡ certificate texts.entry.certificate.now texts.entry.goals.now texts.entry.rulebook.now tally
+        areas.old.store.now areas.old.stack.now areas.old.heap.now areas.old.table.now }
 {
-    let last = all_forms(text, goals, rules, table, store, stack, heap, tally)?;
+    let last = all_forms(texts, areas, tally)?;
     if last.left != 0 {
         return Err(Refusal::GoalOpen);
     }

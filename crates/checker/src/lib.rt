@@ -4,8 +4,10 @@
 ghost use Rattle.std.specs.Prelude.{◌≡◌};
 ghost use Rattle.outcomes.specs.Leaving.{◌leaving◌};
 ghost use Rattle.outcomes.specs.Told.{told};
+ghost use Rattle.lent.specs.Lent.{Same};
 ghost use Rattle.checker.specs.Checker as models;
 
+use lent::{Areas, GoalAreas, Texts};
 use nodes::limits;
 use outcomes::Refusal;
 use tables::Tally;
@@ -33,32 +35,22 @@ fn counts_of(last: Tally, store: &[u32]) -> Counts
 
 // The rulebook, the goals, the certificate. The first refusal met is given.
 #[tactic(auto, unfolding(crate::specs::Checker::check))]
-pub fn check(
-    rulebook: &[u8],
-    text: &[u8],
-    certificate: &[u8],
-    store: &mut [u32],
-    table: &mut [u32],
-    stack: &mut [u32],
-    heap: &mut [u32],
-) -> Result<Counts, Refusal>
-    ensures { (told result leaving (((store.new, stack.new), heap.new), table.new))
-        ≡ models.check rulebook.now text.now certificate.now store.old table.old stack.old
-        heap.old }
+pub fn check(texts: Texts<'_>, areas: &mut Areas<'_>) -> Result<Counts, Refusal>
+    ensures same { Same areas.old areas.new }
+    ensures after { (told result leaving (((areas.new.store.now, areas.new.stack.now), areas.new.heap.now), areas.new.table.now))
+        ≡ models.check texts.entry.rulebook.now texts.entry.goals.now texts.entry.certificate.now
+        areas.old.store.now areas.old.table.now areas.old.stack.now areas.old.heap.now }
 {
-    theory::theory(rulebook, table, stack, heap)?;
-    requests::empty(store, limits::STORE);
-    let none = tables::begin(table, limits::DEF_BUCKETS);
-    let gathered = goals::goals(text, rulebook, heap, table, store, stack, none)?;
-    let last = certificates::certificate(
-        certificate,
-        text,
-        rulebook,
-        table,
-        store,
-        stack,
-        heap,
-        gathered,
-    )?;
-    Ok(counts_of(last, store))
+    theory::theory(texts.rulebook, areas.table, areas.stack, areas.heap)?;
+    requests::empty(areas.store, limits::STORE);
+    let none = tables::begin(areas.table, limits::DEF_BUCKETS);
+    let mut reading = GoalAreas {
+        store: areas.store,
+        table: areas.table,
+        stack: areas.stack,
+        heap: &mut *areas.heap,
+    };
+    let gathered = goals::goals(texts, &mut reading, none)?;
+    let last = certificates::certificate(texts, areas, gathered)?;
+    Ok(counts_of(last, &mut *areas.store))
 }

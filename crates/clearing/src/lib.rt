@@ -3,6 +3,9 @@
 
 ghost use Rattle.std.specs.Prelude.{◌≡◌, length, replicate};
 ghost use Rattle.clearing.specs.Lengths.{long_enough};
+ghost use Rattle.lent.specs.Lent.{Same};
+
+use lent::Areas;
 
 // The words of each area that a call reads and writes.
 pub const AREA_WORDS: usize = 16384;
@@ -20,16 +23,17 @@ pub fn clear(s: &mut [u32])
 }
 
 // Sets all words of the four areas to 0.
-pub fn clear_all(a: &mut [u32], b: &mut [u32], c: &mut [u32], d: &mut [u32])
-    ensures first { a.new ≡ replicate (length a.old) 0 }
-    ensures second { b.new ≡ replicate (length b.old) 0 }
-    ensures third { c.new ≡ replicate (length c.old) 0 }
-    ensures fourth { d.new ≡ replicate (length d.old) 0 }
+pub fn clear_all(areas: &mut Areas<'_>)
+    ensures same { Same areas.old areas.new }
+    ensures store { areas.new.store.now ≡ replicate (length areas.old.store.now) 0 }
+    ensures table { areas.new.table.now ≡ replicate (length areas.old.table.now) 0 }
+    ensures stack { areas.new.stack.now ≡ replicate (length areas.old.stack.now) 0 }
+    ensures heap { areas.new.heap.now ≡ replicate (length areas.old.heap.now) 0 }
 {
-    clear(a);
-    clear(b);
-    clear(c);
-    clear(d);
+    clear(areas.store);
+    clear(areas.table);
+    clear(areas.stack);
+    clear(areas.heap);
 }
 
 // "Four work areas of 32-bit words are lent, each of at least 16,384 words."

@@ -6,14 +6,16 @@ ghost use Rattle.std.specs.Prelude.{◌≡◌};
 ghost use Rattle.words.specs.Parts.{part};
 ghost use Rattle.outcomes.specs.Leaving.{◌leaving◌};
 ghost use Rattle.outcomes.specs.Told.{told};
+ghost use Rattle.lent.specs.Lent.{SameGoal};
 ghost use Rattle.forms.specs.Forms.{keyword_of, def_named, def_form, result_form};
 
+use lent::{GoalAreas, Texts};
 use lex::Reader;
 use nodes::{Scope, limits};
 use outcomes::Refusal;
 use tables::{StepPart, Tally};
 
-// The three forms of a certificate by their heads, or another head.
+// The three forms of a certificate by their heads, or another head, which is a case of its own, as in crate theory: it is refused where a form would be read.
 #[derive(Clone, Copy)]
 pub enum Keyword {
     Step,
@@ -58,26 +60,26 @@ pub fn def_name(text: &[u8], reader: Reader) -> Result<(usize, usize, Reader), R
 // "`(def ?a T)`: name without `?`, or `?` alone, 11; T; duplicate 13; closing."
 #[tactic(auto, unfolding(crate::specs::Forms::def_form))]
 pub fn def_form(
-    text: &[u8],
-    rules: &[u8],
-    heap: &[u32],
-    table: &mut [u32],
-    store: &mut [u32],
-    stack: &mut [u32],
+    texts: Texts<'_>,
+    areas: &mut GoalAreas<'_>,
     tally: Tally,
     reader: Reader,
 ) -> Result<(Tally, Reader), Refusal>
-    ensures { (told result leaving ((store.new, stack.new), table.new))
-        ≡ def_form text.now rules.now heap.now tally reader store.old stack.old table.old }
+    ensures same { SameGoal areas.old areas.new }
+    ensures after { (told result leaving ((areas.new.store.now, areas.new.stack.now), areas.new.table.now))
+        ≡ def_form texts.entry.certificate.now texts.entry.rulebook.now areas.old.heap.now tally reader
+        areas.old.store.now areas.old.stack.now areas.old.table.now }
 {
+    let text = texts.certificate;
     let (s, t, named) = def_name(text, reader)?;
+    let table = &mut *areas.table;
     let scope = Scope {
         text,
-        rules,
-        heap,
+        rules: texts.rulebook,
+        heap: areas.heap,
         table,
     };
-    let (k, behind) = terms::term(&scope, store, stack, 0, asking::IN_FORM, named)?;
+    let (k, behind) = terms::term(&scope, areas.store, areas.stack, 0, asking::IN_FORM, named)?;
     if tables::find_def(table, limits::DEF_BUCKETS, text, s, t).is_some() {
         return Err(Refusal::Duplicate);
     }
@@ -89,17 +91,18 @@ pub fn def_form(
 // "`(result N I)`: N not a goal still open, 12; I as a number, 18; no such step yet, 24; other judgment, 27; closing."
 #[tactic(auto, unfolding(crate::specs::Forms::result_form))]
 pub fn result_form(
-    text: &[u8],
-    goals: &[u8],
+    texts: Texts<'_>,
     table: &mut [u32],
     tally: Tally,
     reader: Reader,
 ) -> Result<(Tally, Reader), Refusal>
-    ensures { (told result leaving table.new) ≡ result_form text.now goals.now tally reader table.old }
+    ensures { (told result leaving table.new)
+        ≡ result_form texts.entry.certificate.now texts.entry.goals.now tally reader table.old }
 {
+    let text = texts.certificate;
     let (s, t, named) = asking::atom_due(text, asking::IN_FORM, reader)?;
     let name = words::part(text, s, t);
-    let (e, j) = tables::open_goal(table, goals, name).ok_or(Refusal::Unknown)?;
+    let (e, j) = tables::open_goal(table, texts.goals, name).ok_or(Refusal::Unknown)?;
     let (n, behind) = references::number_due(text, asking::IN_FORM, named)?;
     let part = StepPart::Judgment.offset();
     let k = tables::step_word(table, n, part, tally).ok_or(Refusal::NoSuchStep)?;

@@ -1,24 +1,25 @@
-// The goals text. Its goals stand in the table (crate tables), their judgments in the store; the stack is empty between two goals. Areas that are
-// written stay parameters of their own: lent through a struct, each would need a clause in each function that it is the same area still.
+// The goals text. Its goals stand in the table (crate tables), their judgments in the store; the stack is empty between two goals.
 #![tactic(auto)]
 
 ghost use Rattle.std.specs.Prelude.{◌≡◌, ◌+◌, length};
 ghost use Rattle.outcomes.specs.Told.{told};
 ghost use Rattle.outcomes.specs.Leaving.{◌leaving◌};
+ghost use Rattle.lent.specs.Lent.{SameGoal};
 ghost use Rattle.goals.specs.Goals.{goal_name, goal, goals_from, goals};
 
+use lent::{GoalAreas, Texts};
 use lex::Reader;
 use nodes::Scope;
 use outcomes::Refusal;
 use tables::Tally;
 
 // "`(goal N J)`: another head is 9, N with `?` 11": the bounds of N, and the reader after it. The form's opening was taken.
-#[tactic(auto, unfolding(crate::specs::Goals::goal_name, words::specs::Parts::part))]
+#[tactic(auto, using(words::proofs::Laws::same_pointwise), unfolding(crate::specs::Goals::goal_name))]
 pub fn goal_name(text: &[u8], reader: Reader) -> Result<(usize, usize, Reader), Refusal>
     ensures { told result ≡ goal_name text.now reader }
 {
     let (s, t, r) = asking::atom_due(text, asking::IN_FORM, reader)?;
-    if !words::same_bytes(text, s, t, b"goal", 0, 4) {
+    if words::part(text, s, t) != b"goal".as_slice() {
         return Err(Refusal::Form);
     }
     let (s, t, r) = asking::atom_due(text, asking::IN_FORM, r)?;
@@ -32,26 +33,26 @@ pub fn goal_name(text: &[u8], reader: Reader) -> Result<(usize, usize, Reader), 
 // after the form.
 #[tactic(auto, unfolding(crate::specs::Goals::goal))]
 pub fn goal(
-    text: &[u8],
-    rules: &[u8],
-    heap: &[u32],
-    table: &mut [u32],
-    store: &mut [u32],
-    stack: &mut [u32],
+    texts: Texts<'_>,
+    areas: &mut GoalAreas<'_>,
     tally: Tally,
     reader: Reader,
 ) -> Result<(Tally, Reader), Refusal>
-    ensures { (told result leaving ((store.new, stack.new), table.new))
-        ≡ goal text.now rules.now heap.now tally reader store.old stack.old table.old }
+    ensures same { SameGoal areas.old areas.new }
+    ensures after { (told result leaving ((areas.new.store.now, areas.new.stack.now), areas.new.table.now))
+        ≡ goal texts.entry.goals.now texts.entry.rulebook.now areas.old.heap.now tally reader
+        areas.old.store.now areas.old.stack.now areas.old.table.now }
 {
+    let text = texts.goals;
     let (s, t, r) = goal_name(text, reader)?;
+    let table = &mut *areas.table;
     let scope = Scope {
         text,
-        rules,
-        heap,
+        rules: texts.rulebook,
+        heap: areas.heap,
         table,
     };
-    let (k, r) = judgments::judgment(&scope, store, stack, 0, asking::IN_FORM, r)?;
+    let (k, r) = judgments::judgment(&scope, areas.store, areas.stack, 0, asking::IN_FORM, r)?;
     let r = asking::closing_due(text, r)?;
     if tables::find_goal(table, text, words::part(text, s, t)).is_some() {
         return Err(Refusal::Duplicate);
@@ -62,26 +63,23 @@ pub fn goal(
 // All goals, in order: how many there are at the end of the text.
 #[tactic(auto, using(crate::proofs::Turns::turns))]
 pub fn goals_from(
-    text: &[u8],
-    rules: &[u8],
-    heap: &[u32],
-    table: &mut [u32],
-    store: &mut [u32],
-    stack: &mut [u32],
+    texts: Texts<'_>,
+    areas: &mut GoalAreas<'_>,
     tally: Tally,
     reader: Reader,
 ) -> Result<Tally, Refusal>
-    ensures { (told result leaving ((store.new, stack.new), table.new))
-        ≡ goals_from (length text.now + 1) text.now rules.now heap.now tally reader store.old
-        stack.old table.old }
+    ensures same { SameGoal areas.old areas.new }
+    ensures after { (told result leaving ((areas.new.store.now, areas.new.stack.now), areas.new.table.now))
+        ≡ goals_from (length texts.entry.goals.now + 1) texts.entry.goals.now texts.entry.rulebook.now
+        areas.old.heap.now tally reader areas.old.store.now areas.old.stack.now areas.old.table.now }
 {
     let mut sofar = tally;
     let mut r = reader;
-    for _turn in 0..text.len() + 1 {
-        let Some(q) = asking::form_due(text, r)? else {
+    for _turn in 0..texts.goals.len() + 1 {
+        let Some(q) = asking::form_due(texts.goals, r)? else {
             return Ok(sofar);
         };
-        (sofar, r) = goal(text, rules, heap, table, store, stack, sofar, q)?;
+        (sofar, r) = goal(texts, areas, sofar, q)?;
     }
     // Out of turns: the laws show that this is never met.
     Err(Refusal::TextLong)
@@ -89,19 +87,13 @@ pub fn goals_from(
 
 // "After all goals, none is 17."
 #[tactic(auto, unfolding(crate::specs::Goals::goals))]
-pub fn goals(
-    text: &[u8],
-    rules: &[u8],
-    heap: &[u32],
-    table: &mut [u32],
-    store: &mut [u32],
-    stack: &mut [u32],
-    tally: Tally,
-) -> Result<Tally, Refusal>
-    ensures { (told result leaving ((store.new, stack.new), table.new))
-        ≡ goals text.now rules.now heap.now tally store.old stack.old table.old }
+pub fn goals(texts: Texts<'_>, areas: &mut GoalAreas<'_>, tally: Tally) -> Result<Tally, Refusal>
+    ensures same { SameGoal areas.old areas.new }
+    ensures after { (told result leaving ((areas.new.store.now, areas.new.stack.now), areas.new.table.now))
+        ≡ goals texts.entry.goals.now texts.entry.rulebook.now areas.old.heap.now tally
+        areas.old.store.now areas.old.stack.now areas.old.table.now }
 {
-    let all = goals_from(text, rules, heap, table, store, stack, tally, Reader::new())?;
+    let all = goals_from(texts, areas, tally, Reader::new())?;
     if all.goals == 0 {
         return Err(Refusal::NoGoal);
     }

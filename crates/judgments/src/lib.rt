@@ -12,9 +12,10 @@ use outcomes::Refusal;
 use theory_reading::Section;
 
 // "Judgment: list, head a predicate (12), arguments, 15, store." Here its head was asked for: an atom with these bounds.
+// Eight parameters: what is written, where, how deep, and what was asked for are four things of their own.
 #[tactic(auto, unfolding(crate::specs::Judgments::headed_judgment, nodes::specs::Nodes::predicate_due))]
 pub fn headed_judgment(
-    scope: &Scope<'_>,
+    scope: &Scope<'_, '_>,
     store: &mut [u32],
     stack: &mut [u32],
     top: u32,
@@ -38,7 +39,7 @@ pub fn headed_judgment(
 // A judgment, asked for with that much depth left.
 #[tactic(auto, unfolding(crate::specs::Judgments::judgment))]
 pub fn judgment(
-    scope: &Scope<'_>,
+    scope: &Scope<'_, '_>,
     store: &mut [u32],
     stack: &mut [u32],
     top: u32,

@@ -1,4 +1,4 @@
-// The public calls.
+// The public calls. The texts and the areas are parameters one by one, since the C interface (crate `kernel_c`) lends them so.
 #![tactic(auto)]
 
 ghost use Rattle.std.specs.Prelude.{◌≡◌, length};
@@ -52,9 +52,9 @@ pub fn release(
 }
 
 // L2: the page of an accepted release, to a lent buffer of bytes.
-pub fn page<'a>(
-    rulebook: &'a [u8],
-    goals: &'a [u8],
+pub fn page(
+    rulebook: &[u8],
+    goals: &[u8],
     certificate: &[u8],
     a: &mut [u32],
     b: &mut [u32],

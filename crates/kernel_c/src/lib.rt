@@ -1,4 +1,5 @@
 // The public calls, for C and Rust: bindings/c/horn.h declares them. A static library, which no crate can name; crate `kernel` is the same for Rattle.
+// The texts and the areas are parameters one by one, as C lends them: an address and a length for each.
 #![tactic(auto)]
 
 ghost use Rattle.std.specs.Prelude.{◌≡◌, length};
@@ -55,9 +56,9 @@ pub extern "C" fn horn_release(
 
 // The call that writes the release page, for C and Rust.
 #[unsafe(no_mangle)]
-pub extern "C" fn horn_page<'a>(
-    rulebook: &'a [u8],
-    goals: &'a [u8],
+pub extern "C" fn horn_page(
+    rulebook: &[u8],
+    goals: &[u8],
     certificate: &[u8],
     a: &mut [u32],
     b: &mut [u32],

@@ -91,7 +91,7 @@ pub fn bound_term(heap: &[u32], v: u32, o: u32) -> Result<(u32, u32), Refusal>
     Ok((bound - 1, words::plus(o, 1)))
 }
 
-// The node whose words stand on the stack, stored.
+// The node whose words stand on the stack, stored. `nodes::node` asks the store as well, but under one setting, and after it has looked at arity and sorts.
 #[tactic(auto, unfolding(crate::specs::Matching::node_made))]
 pub fn make_node(
     store: &mut [u32],

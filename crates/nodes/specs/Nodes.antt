@@ -3,7 +3,9 @@ use Rattle.std.specs.Prelude.{ℕ, ◌+◌, List, get_or, set}
 use Rattle.words.specs.Parts.{part}
 use Rattle.words.specs.Sums.{sum32}
 use Rattle.lex.specs.declared.Reader.{Reader}
-use Rattle.arena.specs.Store.{head_of, intern_answer}
+use Rattle.std.specs.declared.option.Option as code
+use Rattle.std.specs.declared.option.Option.TheVariants as options
+use Rattle.arena.specs.Store.{Answer, Found, Made, Full, head_of, intern_answer}
 use Rattle.requests.specs.Requests.{requested_area}
 use Rattle.tables.specs.Words.{def_meaning}
 use Rattle.outcomes.specs.Outcomes.{Outcome, ok, need, or_else, pick}
@@ -23,6 +25,12 @@ sort_of heap store k = output_of heap (head_of store node_limit index_places k)
 -- The heads of the terms that stand on the stack from a place on.
 abbrev pub head_on : List ℕ → List ℕ → ℕ → ℕ → ℕ
 head_on store stack from i = head_of store node_limit index_places (get_or stack (from + i) 0)
+
+-- The number of a node that the store answers, found or made, if there is room.
+abbrev pub numbered : Answer → code.Option ℕ
+numbered (Found k) = options.Some k
+numbered (Made k) = options.Some k
+numbered Full = options.None
 
 -- A request for a node with these words.
 unfoldable pub interned : List ℕ → Reader → List ℕ → List ℕ → Did Areas (ℕ × Reader)

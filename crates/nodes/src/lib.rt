@@ -9,7 +9,10 @@ ghost use Rattle.outcomes.specs.Told.{told, told_as};
 ghost use Rattle.outcomes.specs.Leaving.{◌leaving◌};
 ghost use Rattle.theory_reading.specs.Reading.{accepted};
 ghost use Rattle.lex.specs.declared.Reader.{Reader};
-ghost use Rattle.nodes.specs.Nodes.{head_on, sort_of, make, atom_term, head_due};
+ghost use Rattle.arena.specs.Store.{intern_answer};
+ghost use Rattle.requests.specs.Requests.{requested_area};
+ghost use Rattle.nodes.specs.Limits.{node_limit, word_limit, index_places};
+ghost use Rattle.nodes.specs.Nodes.{numbered, head_on, sort_of, make, atom_term, head_due};
 
 use arena::{Full, Interned};
 use lex::Reader;
@@ -19,13 +22,15 @@ use theory_reading::Section;
 pub mod limits;
 
 // In what names are looked up: the text that they stand in, the rulebook with its theory, and the abbreviations. Store and stack, which nodes are
-// made in, stay parameters of their own: lent through a struct, each would need a clause in each function that it is the same area still.
+// made in, stay two parameters, here and where terms are read: a struct of the two would save one, and cost each function a clause that both are the same
+// areas still. The heap has a lifetime of its own: a step lends it for one call alone, and the texts and the table for longer; the step then knows that
+// its heap is as it was. No function can make the value for all, since it would lend two fields of the caller's areas.
 #[derive(Clone, Copy)]
-pub struct Scope<'a> {
-    pub text: &'a [u8],
-    pub rules: &'a [u8],
+pub struct Scope<'t, 'a> {
+    pub text: &'t [u8],
+    pub rules: &'t [u8],
     pub heap: &'a [u32],
-    pub table: &'a [u32],
+    pub table: &'t [u32],
 }
 
 // The sort of a term is what its head gives.
@@ -55,6 +60,19 @@ pub fn accepts(heap: &[u32], store: &[u32], stack: &[u32], c: u32, from: u32, n:
     true
 }
 
+// A node by its words, stored under the limits of a release: its number, or None where there is no room. Not inlined, as the limits are constants in it,
+// which a struct handed on by its address is not; and so `node` is small enough to be compiled into `atom_term`.
+#[inline(never)]
+fn stored(store: &mut [u32], key: &[u32]) -> Option<u32>
+    ensures value { result ≡ numbered (intern_answer store.old node_limit word_limit index_places key.now) }
+    ensures store_after { store.new ≡ requested_area store.old node_limit word_limit index_places key.now }
+{
+    match requests::intern(store, limits::STORE, key) {
+        Ok(Interned::Found(k) | Interned::Made(k)) => Some(k),
+        Err(Full) => None,
+    }
+}
+
 // "Then 15 for arity and sorts, then the store." The node's arguments stand behind the place of its head.
 #[tactic(auto, unfolding(crate::specs::Nodes::make, crate::specs::Nodes::interned))]
 pub fn node(
@@ -73,10 +91,7 @@ pub fn node(
     }
     words::put(stack, top as usize, c);
     let key = words::part(stack, top as usize, top as usize + 1 + n as usize);
-    match requests::intern(store, limits::STORE, key) {
-        Ok(Interned::Found(k) | Interned::Made(k)) => Ok(k),
-        Err(Full) => Err(Refusal::StoreFull),
-    }
+    stored(store, key).ok_or(Refusal::StoreFull)
 }
 
 // The same with the reader after it.
@@ -100,7 +115,7 @@ pub fn make(
 // caller's still.
 #[tactic(auto, unfolding(crate::specs::Nodes::atom_term, crate::specs::Nodes::constructor_due))]
 pub fn atom_term(
-    scope: &Scope<'_>,
+    scope: &Scope<'_, '_>,
     store: &mut [u32],
     stack: &mut [u32],
     top: u32,
@@ -123,7 +138,7 @@ pub fn atom_term(
 
 // The head of a term in brackets, asked for without a look ahead.
 #[tactic(auto, unfolding(crate::specs::Nodes::head_due, crate::specs::Nodes::constructor_due))]
-pub fn head(scope: &Scope<'_>, left: u32, reader: Reader) -> Result<(u32, Reader), Refusal>
+pub fn head(scope: &Scope<'_, '_>, left: u32, reader: Reader) -> Result<(u32, Reader), Refusal>
     ensures { told result
         ≡ head_due scope.now.text.now scope.now.rules.now scope.now.heap.now left reader }
 {

@@ -35,7 +35,7 @@ pub fn look(text: &[u8], member: bool, reader: Reader) -> Result<Look, Refusal>
 // A term, up to its arguments if it has any.
 #[tactic(auto, unfolding(asking::specs::Asking::item_due))]
 pub fn item(
-    scope: &Scope<'_>,
+    scope: &Scope<'_, '_>,
     store: &mut [u32],
     stack: &mut [u32],
     r: &mut Reader,
@@ -68,7 +68,7 @@ pub fn item(
 // its own, which the C interface's bound on the stack needs. A function for members alone would be compiled into each level of a term.
 #[tactic(auto, unfolding(crate::specs::Openings::begun))]
 pub fn begin(
-    scope: &Scope<'_>,
+    scope: &Scope<'_, '_>,
     store: &mut [u32],
     stack: &mut [u32],
     r: &mut Reader,

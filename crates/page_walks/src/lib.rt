@@ -3,21 +3,22 @@
 
 ghost use Rattle.std.specs.Prelude.{◌≡◌, length, replicate};
 ghost use Rattle.checker.specs.Below.outcomes.specs.Told.{told};
+ghost use Rattle.lent.specs.Lent.{Same};
 ghost use Rattle.checker.specs.Checker as checking;
 ghost use Rattle.writing.specs.Answers.{told as written};
 ghost use Rattle.page_walks.specs.Walks.{answered, page_by};
 
 use checker::Counts;
+use lent::{Areas, Texts};
 use outcomes::Refusal;
 use writing::Written;
 
 // What is answered of what the walks answer: L2: "31, output longer than the lent buffer, after all of 1 to 29, nothing written".
+// The areas are parameters one by one: as one value they would ask more of a caller, a table and a heap that can be written.
 #[tactic(auto, using(crate::proofs::Room::room), unfolding(crate::specs::Walks::answered))]
-pub fn answer<'a>(
+pub fn answer(
     checked: Result<Counts, Refusal>,
-    rulebook: &'a [u8],
-    text: &'a [u8],
-    certificate: &[u8],
+    texts: Texts<'_>,
     store: &mut [u32],
     table: &[u32],
     stack: &mut [u32],
@@ -25,8 +26,8 @@ pub fn answer<'a>(
     out: &mut [u8],
 ) -> Written
     ensures { (written result out.new, store.new, stack.new)
-        ≡ answered (told checked) rulebook.now text.now certificate.now table.now heap.now
-        store.old stack.old out.old }
+        ≡ answered (told checked) texts.entry.rulebook.now texts.entry.goals.now
+        texts.entry.certificate.now table.now heap.now store.old stack.old out.old }
 {
     match checked {
         Err(refusal) => writing::refused(refusal.number()),
@@ -35,18 +36,7 @@ pub fn answer<'a>(
             if out.len() < bytes {
                 return writing::refused(Refusal::OutputLong.number());
             }
-            pages::page(
-                rulebook,
-                text,
-                certificate,
-                store,
-                table,
-                stack,
-                heap,
-                c.goals,
-                c.steps,
-                out,
-            );
+            pages::page(texts, store, table, stack, heap, c.goals, c.steps, out);
             Written {
                 number: 0,
                 length: words::low(bytes),
@@ -56,27 +46,28 @@ pub fn answer<'a>(
 }
 
 // All three texts, the page, then the areas cleared.
-pub fn page<'a>(
-    rulebook: &'a [u8],
-    goals: &'a [u8],
-    certificate: &[u8],
-    a: &mut [u32],
-    b: &mut [u32],
-    c: &mut [u32],
-    d: &mut [u32],
-    out: &mut [u8],
-) -> Written
+#[tactic(auto, unfolding(crate::specs::Walks::page_by))]
+pub fn page(texts: Texts<'_>, areas: &mut Areas<'_>, out: &mut [u8]) -> Written
     ensures output { written result out.new
-        ≡ page_by rulebook.now goals.now certificate.now
-        (checking.check rulebook.now goals.now certificate.now
-        a.old b.old c.old d.old) out.old }
-    ensures first { a.new ≡ replicate (length a.old) 0 }
-    ensures second { b.new ≡ replicate (length b.old) 0 }
-    ensures third { c.new ≡ replicate (length c.old) 0 }
-    ensures fourth { d.new ≡ replicate (length d.old) 0 }
+        ≡ page_by texts.entry.rulebook.now texts.entry.goals.now texts.entry.certificate.now
+        (checking.check texts.entry.rulebook.now texts.entry.goals.now texts.entry.certificate.now
+        areas.old.store.now areas.old.table.now areas.old.stack.now areas.old.heap.now) out.old }
+    ensures same { Same areas.old areas.new }
+    ensures store { areas.new.store.now ≡ replicate (length areas.old.store.now) 0 }
+    ensures table { areas.new.table.now ≡ replicate (length areas.old.table.now) 0 }
+    ensures stack { areas.new.stack.now ≡ replicate (length areas.old.stack.now) 0 }
+    ensures heap { areas.new.heap.now ≡ replicate (length areas.old.heap.now) 0 }
 {
-    let checked = checker::check(rulebook, goals, certificate, a, b, c, d);
-    let written = answer(checked, rulebook, goals, certificate, a, b, c, d, out);
-    clearing::clear_all(a, b, c, d);
+    let checked = checker::check(texts, areas);
+    let written = answer(
+        checked,
+        texts,
+        areas.store,
+        &mut *areas.table,
+        areas.stack,
+        &mut *areas.heap,
+        out,
+    );
+    clearing::clear_all(areas);
     written
 }

@@ -7,11 +7,12 @@ ghost use Rattle.reports.specs.Lengths.{lengths_tested};
 ghost use Rattle.reports.specs.Release.{released};
 
 use checker::Counts;
+use lent::Texts;
 use outcomes::Refusal;
 
-// A number, the counts of a release, and the certificate's length.
+// A number, the counts of a release, and the certificate's length. C reads it: so a number stands beside the counts, and it is no Result.
 #[repr(C)]
-#[derive(Drop)]
+#[derive(Clone, Copy)]
 pub struct Report {
     pub number: u32,
     pub steps: u32,
@@ -21,20 +22,27 @@ pub struct Report {
     pub requested: u32,
 }
 
-// "A refusal has zero counts."
+// "A refusal has zero counts." By its number alone, for callers that have no more.
+pub fn unreleased(number: u32) -> Report
+    ensures { result ≡ record { number = number; steps = 0; goals = 0; terms = 0; bytes = 0; requested = 0 } }
+{
+    Report {
+        number,
+        steps: 0,
+        goals: 0,
+        terms: 0,
+        bytes: 0,
+        requested: 0,
+    }
+}
+
+// The same of a refusal by its name.
 impl From<Refusal> for Report {
     ghost from_gives = { λ refusal report. report
         ≡ record { number = number refusal; steps = 0; goals = 0; terms = 0; bytes = 0; requested = 0 } };
 
     fn from(refusal: Refusal) -> Report {
-        Report {
-            number: refusal.number(),
-            steps: 0,
-            goals: 0,
-            terms: 0,
-            bytes: 0,
-            requested: 0,
-        }
+        unreleased(refusal.number())
     }
 }
 
@@ -58,27 +66,26 @@ pub fn accepted(checked: Result<Counts, Refusal>, bytes: u32) -> Report
 // "Order: area lengths, text lengths": 1 where one of four areas is too short, 2 where one of three texts is too long.
 #[tactic(auto, unfolding(crate::specs::Lengths::lengths_tested))]
 pub fn check_lengths(
-    rulebook: &[u8],
-    goals: &[u8],
-    certificate: &[u8],
+    texts: Texts<'_>,
     a: usize,
     b: usize,
     c: usize,
     d: usize,
 ) -> Result<(), Refusal>
     ensures { told result
-        ≡ lengths_tested a b c d (length rulebook.now) (length goals.now) (length certificate.now) }
+        ≡ lengths_tested a b c d (length texts.entry.rulebook.now) (length texts.entry.goals.now)
+        (length texts.entry.certificate.now) }
 {
     if !clearing::long_enough(a, b, c, d) {
         return Err(Refusal::AreaShort);
     }
-    if clearing::TEXT_BYTES < rulebook.len() {
+    if clearing::TEXT_BYTES < texts.rulebook.len() {
         return Err(Refusal::TextLong);
     }
-    if clearing::TEXT_BYTES < goals.len() {
+    if clearing::TEXT_BYTES < texts.goals.len() {
         return Err(Refusal::TextLong);
     }
-    if clearing::CERTIFICATE_BYTES < certificate.len() {
+    if clearing::CERTIFICATE_BYTES < texts.certificate.len() {
         return Err(Refusal::TextLong);
     }
     Ok(())

@@ -8,12 +8,13 @@ ghost use Rattle.theory.specs.Below.outcomes.specs.Told.{told, number};
 ghost use Rattle.theory.specs.Walks.{theory};
 ghost use Rattle.rulebook_call.specs.Reports.{reported, reported_by, answered};
 
+use lent::Areas;
 use outcomes::Refusal;
 use theory::Counts;
 
-// A number, and the counts of what the rulebook declares.
+// A number, and the counts of what the rulebook declares. C reads it: so a number stands beside the counts, and it is no Result.
 #[repr(C)]
-#[derive(Drop)]
+#[derive(Clone, Copy)]
 pub struct RulebookReport {
     pub number: u32,
     pub sorts: u32,
@@ -55,7 +56,8 @@ impl From<Result<Counts, Refusal>> for RulebookReport {
     }
 }
 
-// Both walks over a rulebook, then the areas cleared behind them.
+// Both walks over a rulebook, then the areas cleared behind them. The areas are four parameters and become one value here: lent within a
+// struct, a part of a longer area would be known by its length alone afterwards.
 fn judge(text: &[u8], a: &mut [u32], b: &mut [u32], c: &mut [u32], d: &mut [u32]) -> RulebookReport
     ensures report { result ≡ reported_by (theory text.now b.old c.old d.old) }
     ensures first { a.new ≡ replicate (length a.old) 0 }
@@ -64,11 +66,18 @@ fn judge(text: &[u8], a: &mut [u32], b: &mut [u32], c: &mut [u32], d: &mut [u32]
     ensures fourth { d.new ≡ replicate (length d.old) 0 }
 {
     let judged = theory::theory(text, b, c, d);
-    clearing::clear_all(a, b, c, d);
+    clearing::clear_all(&mut Areas {
+        store: a,
+        table: b,
+        stack: c,
+        heap: d,
+    });
     RulebookReport::from(judged)
 }
 
 // "One call takes the rulebook alone and answers a number and the counts of sorts, constructors, predicates and rules."
+// The areas are four parameters, since the C interface lends them one by one.
+#[tactic(auto, using(crate::proofs::Call::unjudged))]
 pub fn rulebook(
     rulebook: &[u8],
     a: &mut [u32],

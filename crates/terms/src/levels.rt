@@ -17,7 +17,7 @@ use outcomes::Refusal;
 #[cycle(args_term)]
 #[tactic(auto, using(crate::proofs::Within::within))]
 pub fn term(
-    scope: &Scope<'_>,
+    scope: &Scope<'_, '_>,
     store: &mut [u32],
     stack: &mut [u32],
     r: &mut Reader,
@@ -47,7 +47,7 @@ pub fn term(
 #[cycle(args_term)]
 #[tactic(auto, using(crate::proofs::Within::within), unfolding(crate::specs::Terms::arguments))]
 pub fn args(
-    scope: &Scope<'_>,
+    scope: &Scope<'_, '_>,
     store: &mut [u32],
     stack: &mut [u32],
     r: &mut Reader,

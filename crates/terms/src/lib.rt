@@ -14,10 +14,11 @@ use outcomes::Refusal;
 
 mod levels;
 
-// A term, asked for with that much depth left.
+// A term, asked for with that much depth left. Not one with `levels::term`, which is due a term or a closing and lends its reader, so that a level takes
+// little stack: the C header bounds it.
 #[tactic(auto, using(crate::proofs::Within::within))]
 pub fn term(
-    scope: &Scope<'_>,
+    scope: &Scope<'_, '_>,
     store: &mut [u32],
     stack: &mut [u32],
     top: u32,
@@ -45,7 +46,7 @@ pub fn term(
 
 // The arguments of a term or a judgment, left on the stack from `top` on: how many there are.
 pub fn args(
-    scope: &Scope<'_>,
+    scope: &Scope<'_, '_>,
     store: &mut [u32],
     stack: &mut [u32],
     top: u32,

@@ -1,4 +1,6 @@
 // How many steps are used: one backward pass over the steps, which marks what results and used steps lean on, a word for each step.
+// The table, the references and the marks are parameters one by one: the four areas as one value would ask more of a caller, a table that can
+// be written and a heap.
 #![tactic(auto)]
 
 ghost use Rattle.std.specs.Prelude.{◌≡◌};

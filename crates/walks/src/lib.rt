@@ -3,31 +3,26 @@
 #![tactic(auto)]
 
 ghost use Rattle.std.specs.Prelude.{◌≡◌, length, replicate};
+ghost use Rattle.lent.specs.Lent.{Same};
 ghost use Rattle.checker.specs.Checker as checking;
 ghost use Rattle.reports.specs.Release.{released_by};
 
+use lent::{Areas, Texts};
 use reports::Report;
 
 // All three texts, then the areas cleared behind them.
-pub fn check(
-    rulebook: &[u8],
-    goals: &[u8],
-    certificate: &[u8],
-    bytes: u32,
-    a: &mut [u32],
-    b: &mut [u32],
-    c: &mut [u32],
-    d: &mut [u32],
-) -> Report
+pub fn check(texts: Texts<'_>, bytes: u32, areas: &mut Areas<'_>) -> Report
     ensures report { result
-        ≡ released_by bytes (checking.check rulebook.now goals.now certificate.now
-        a.old b.old c.old d.old) }
-    ensures first { a.new ≡ replicate (length a.old) 0 }
-    ensures second { b.new ≡ replicate (length b.old) 0 }
-    ensures third { c.new ≡ replicate (length c.old) 0 }
-    ensures fourth { d.new ≡ replicate (length d.old) 0 }
+        ≡ released_by bytes (checking.check texts.entry.rulebook.now texts.entry.goals.now
+        texts.entry.certificate.now areas.old.store.now areas.old.table.now
+        areas.old.stack.now areas.old.heap.now) }
+    ensures same { Same areas.old areas.new }
+    ensures store { areas.new.store.now ≡ replicate (length areas.old.store.now) 0 }
+    ensures table { areas.new.table.now ≡ replicate (length areas.old.table.now) 0 }
+    ensures stack { areas.new.stack.now ≡ replicate (length areas.old.stack.now) 0 }
+    ensures heap { areas.new.heap.now ≡ replicate (length areas.old.heap.now) 0 }
 {
-    let checked = checker::check(rulebook, goals, certificate, a, b, c, d);
-    clearing::clear_all(a, b, c, d);
+    let checked = checker::check(texts, areas);
+    clearing::clear_all(areas);
     reports::accepted(checked, bytes)
 }

@@ -1,3 +1,4 @@
+-- An argument that does not match ends the loop: the check alone does not take the turn that ends it back to the model.
 use Rattle.std.proofs.Common.{sym, ◌∙◌}
 use borrow.Author.Tests.{lt-leb, eq-eqb}
 use Rattle.matching.proofs.Turns.{matched_within, argument_differs}
