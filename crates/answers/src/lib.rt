@@ -119,7 +119,7 @@ impl<'a> fmt::Display for Difference<'a> {
     }
 }
 
-// How many cases there were, and how many of them differed.
+// How many cases there were, and how many of them differed. The programs that count something else have a struct of their own.
 #[derive(Clone, Copy, Default)]
 pub struct Tally {
     pub cases: u32,
@@ -128,7 +128,7 @@ pub struct Tally {
 
 impl Tally {
     // One case more.
-    pub fn and(self, different: bool) -> Tally {
+    pub fn with(self, different: bool) -> Tally {
         Tally {
             cases: self.cases.wrapping_add(1),
             differences: self.differences.wrapping_add(u32::from(different)),

@@ -1,4 +1,5 @@
 -- One turn of filling and of testing. Assumes nothing.
+use lib.ListN.{length-set}
 use Rattle.std.proofs.Common.{◌≡◌, ℕ, suc, ◌+◌, ◌-◌, ◌%◌, ◌^◌, ◌<◌, ◌≤◌, true, false, List, get_or, set, refl, arith, eq-eqb, ne_eqb}
 use Rattle.areas.specs.Filling.{filled, due, held}
 
@@ -17,7 +18,7 @@ pub filled_end : (e i w step : ℕ) (s : List ℕ) → e ≤ i → filled (e - i
 unfolding filled
 filled_end e i w step s h = rw (none_left e i h, filled) refl
 
-pub ruleset fills = (filled_on, filled_end)
+pub ruleset fills = (filled_on, filled_end, length-set)
 
 pub held_on : (e i n w step : ℕ) (s : List ℕ) → i < e → get_or s i 0 ≡ due i n w
     → held (e - i) i n w step s ≡ held (e - (i + 1)) (i + 1) n ((w + step) % 2 ^ 32) step s

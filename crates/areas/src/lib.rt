@@ -2,7 +2,10 @@
 #![tactic(auto)]
 
 ghost use Rattle.std.specs.Prelude.{◌≡◌, length};
+ghost use Rattle.lent.specs.Lent.{Same};
 ghost use Rattle.areas.specs.Filling.{filled, due, area_held, all_held};
+
+use lent::Areas;
 
 // What the areas hold before a call: word i is first + i * step, in 32 bits.
 #[derive(Clone, Copy)]
@@ -35,7 +38,9 @@ pub struct Lengths {
 
 // Just long enough.
 impl Default for Lengths {
-    fn default() -> Lengths {
+    fn default() -> Lengths
+        ensures { result ≡ record { first = 16384; second = 16384; third = 16384; fourth = 16384 } }
+    {
         Lengths {
             first: 16384,
             second: 16384,
@@ -45,8 +50,8 @@ impl Default for Lengths {
     }
 }
 
-// Word i becomes first + i * step, modulo 2 to the 32. A generic function for this and `buffers::fill` would share the line of the `for` alone: what
-// each puts at a place, and the law that this is what Filling says, would still be its own.
+// Word i becomes first + i * step, modulo 2 to the 32. By its index: over the words lent one by one the proof did not close. A generic function for this and
+// `buffers::fill` would share the line of the `for` alone: what each puts at a place, and the law that this is what Filling says, would still be its own.
 #[tactic(auto, using(crate::proofs::Turns::fills))]
 pub fn fill(s: &mut [u32], first: u32, step: u32)
     ensures { s.new ≡ filled (length s.old) 0 first step s.old }
@@ -72,8 +77,8 @@ pub fn holds(s: &[u32], n: usize, first: u32, step: u32) -> bool
     ensures { result ≡ area_held n first step s.now }
 {
     let mut w = first;
-    for i in 0..s.len() {
-        if s[i] != word_due(i, n, w) {
+    for (i, &word) in s.iter().enumerate() {
+        if word != word_due(i, n, w) {
             return false;
         }
         w = w.wrapping_add(step);
@@ -81,37 +86,27 @@ pub fn holds(s: &[u32], n: usize, first: u32, step: u32) -> bool
     true
 }
 
-// The four areas of a call.
-#[derive(Drop)]
-pub struct Areas<'a> {
-    pub first: &'a mut [u32],
-    pub second: &'a mut [u32],
-    pub third: &'a mut [u32],
-    pub fourth: &'a mut [u32],
+// Fills all four areas of a call.
+pub fn fill_all(areas: &mut Areas<'_>, before: Before)
+    ensures same { Same areas.old areas.new }
+    ensures store { areas.new.store.now ≡ filled (length areas.old.store.now) 0 before.first before.step areas.old.store.now }
+    ensures table { areas.new.table.now ≡ filled (length areas.old.table.now) 0 before.first before.step areas.old.table.now }
+    ensures stack { areas.new.stack.now ≡ filled (length areas.old.stack.now) 0 before.first before.step areas.old.stack.now }
+    ensures heap { areas.new.heap.now ≡ filled (length areas.old.heap.now) 0 before.first before.step areas.old.heap.now }
+{
+    fill(areas.store, before.first, before.step);
+    fill(areas.table, before.first, before.step);
+    fill(areas.stack, before.first, before.step);
+    fill(areas.heap, before.first, before.step);
 }
 
-impl<'a> Areas<'a> {
-    // Fills all four.
-    pub fn fill(&mut self, before: Before)
-        ensures first { self.new.first.now ≡ filled (length self.old.first.now) 0 before.first before.step self.old.first.now }
-        ensures second { self.new.second.now ≡ filled (length self.old.second.now) 0 before.first before.step self.old.second.now }
-        ensures third { self.new.third.now ≡ filled (length self.old.third.now) 0 before.first before.step self.old.third.now }
-        ensures fourth { self.new.fourth.now ≡ filled (length self.old.fourth.now) 0 before.first before.step self.old.fourth.now }
-    {
-        fill(self.first, before.first, before.step);
-        fill(self.second, before.first, before.step);
-        fill(self.third, before.first, before.step);
-        fill(self.fourth, before.first, before.step);
-    }
-
-    // Whether all four hold zeros in their first n words and behind them what `fill` left there.
-    #[tactic(auto, unfolding(crate::specs::Filling::all_held))]
-    pub fn hold(&self, n: usize, before: Before) -> bool
-        ensures { result ≡ all_held n before.first before.step self.now.first.now self.now.second.now self.now.third.now self.now.fourth.now }
-    {
-        holds(self.first, n, before.first, before.step)
-            && holds(self.second, n, before.first, before.step)
-            && holds(self.third, n, before.first, before.step)
-            && holds(self.fourth, n, before.first, before.step)
-    }
+// Whether all four hold zeros in their first n words and behind them what `fill_all` left there. They are only read, so `Areas` would ask more of callers.
+#[tactic(auto, unfolding(crate::specs::Filling::all_held))]
+pub fn all_hold(n: usize, before: Before, a: &[u32], b: &[u32], c: &[u32], d: &[u32]) -> bool
+    ensures { result ≡ all_held n before.first before.step a.now b.now c.now d.now }
+{
+    holds(a, n, before.first, before.step)
+        && holds(b, n, before.first, before.step)
+        && holds(c, n, before.first, before.step)
+        && holds(d, n, before.first, before.step)
 }

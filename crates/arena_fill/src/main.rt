@@ -13,7 +13,7 @@ const STORE: Setting = Setting {
     places: 4096,
 };
 
-// A store at document 01's limits, in an area of 16,384 words.
+// A store at document 01's limits, in an area of 16,384 words. It owns the area, so it is not copied.
 #[derive(Drop)]
 struct Store {
     area: Vec<u32>,

@@ -1,4 +1,5 @@
 -- One turn of filling and of testing. Assumes nothing.
+use lib.ListN.{length-set}
 use Rattle.std.proofs.Common.{◌≡◌, ℕ, suc, ◌+◌, ◌-◌, ◌<◌, ◌≤◌, true, false, List, get_or, set, refl, arith, eq-eqb, ne_eqb}
 use Rattle.buffers.specs.Filling.{unwritten, filled, due, held}
 
@@ -17,7 +18,7 @@ pub filled_end : (e i : ℕ) (s : List ℕ) → e ≤ i → filled (e - i) i s �
 unfolding filled
 filled_end e i s h = rw (none_left e i h, filled) refl
 
-pub ruleset fills = (filled_on, filled_end)
+pub ruleset fills = (filled_on, filled_end, length-set)
 
 pub held_on : (e i start : ℕ) (text s : List ℕ) → i < e → get_or s i 0 ≡ due i start text
     → held (e - i) i start text s ≡ held (e - (i + 1)) (i + 1) start text s

@@ -14,7 +14,7 @@ fn byte_before(i: usize) -> u8
     (i % 11) as u8 + 0xF5
 }
 
-// Puts these bytes everywhere. Beside `areas::fill` it says why the two are not one generic function.
+// Puts these bytes everywhere. Beside `areas::fill` it says why the two are not one generic function, and why both go by an index.
 #[tactic(auto, using(crate::proofs::Turns::fills))]
 pub fn fill(out: &mut [u8])
     ensures { out.new ≡ filled (length out.old) 0 out.old }
@@ -43,8 +43,8 @@ fn byte_due(i: usize, from: usize, text: &[u8]) -> u8
 pub fn holds(out: &[u8], from: usize, text: &[u8]) -> bool
     ensures { result ≡ buffer_held from text.now out.now }
 {
-    for i in 0..out.len() {
-        if out[i] != byte_due(i, from, text) {
+    for (i, &byte) in out.iter().enumerate() {
+        if byte != byte_due(i, from, text) {
             return false;
         }
     }

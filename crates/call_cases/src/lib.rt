@@ -37,7 +37,7 @@ fn one_at(b: &[u8], i: usize) -> u32
     u32::from(byte(b, i))
 }
 
-// The number of two bytes at two places.
+// The number of two bytes at two places. By hand, since 0 is read where there is no byte, as the model says; the library's conversion takes an array.
 #[tactic(auto, unfolding(crate::specs::Heads::pair_at))]
 fn two_at(b: &[u8], i: usize, j: usize) -> u32
     ensures { result ≡ pair_at b.now i j }
@@ -119,7 +119,7 @@ fn first_case<'a>(bytes: &'a [u8]) -> Option<(Case<'a>, &'a [u8])>
 #[derive(Clone, Copy)]
 pub struct CutShort;
 
-// The cases of a file, by its bytes.
+// The cases of a file, by its bytes. It moves on in place, as iterators do, so it is not copied.
 #[derive(Drop)]
 pub struct Cases<'a>(pub &'a [u8]);
 

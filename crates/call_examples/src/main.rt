@@ -9,7 +9,7 @@
 use answers::{Answer, Call, Fault};
 use areas::Lengths;
 use call_cases::{Case, Cases};
-use lent_calls::Texts;
+use lent::Texts;
 use std::{fs, io};
 
 // One case over as many words of each area as it lends.

@@ -8,7 +8,7 @@
 use answers::{Answer, Call, Difference, Tally};
 use areas::Lengths;
 use call_cases::{Case, Cases, Head};
-use lent_calls::Texts;
+use lent::Texts;
 use std::{fs, io};
 
 // The answer that was kept.
@@ -57,7 +57,7 @@ fn main(rt: HostRuntime) -> io::Result<()> {
     for case in Cases(bytes.as_slice()) {
         let Ok(case) = case else {
             println!(rt; "a case cut short")?;
-            tally = tally.and(true);
+            tally = tally.with(true);
             continue;
         };
         let difference = judge(case);
@@ -68,7 +68,7 @@ fn main(rt: HostRuntime) -> io::Result<()> {
             }
             println!(rt; "{label}{difference}")?;
         }
-        tally = tally.and(difference.is_some());
+        tally = tally.with(difference.is_some());
     }
     print!(rt; "{tally}")
 }

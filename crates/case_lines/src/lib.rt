@@ -2,13 +2,15 @@
 // make it, and what was counted.
 #![tactic(auto)]
 
-use answers::{Answer, Call};
+ghost use Rattle.std.specs.Prelude.{◌≡◌, ◌+◌, ◌%◌, ◌^◌, IfOk};
+
+use answers::{Answer, Call, Difference, Fault};
 use areas::Lengths;
 use arrayvec::ArrayVec;
-use case_text::make;
+use case_text::write_signs;
 use std::{fmt, io};
 
-// The case at hand: its three texts, its page and the lengths of its four areas.
+// The case at hand: its three texts, its page and the lengths of its four areas. It has 98 KB of bytes, so it is not copied.
 #[derive(Drop)]
 pub struct Case {
     pub rulebook: ArrayVec<u8, 8193>,
@@ -20,7 +22,9 @@ pub struct Case {
 
 // A case begins with the example set and areas just long enough.
 impl Default for Case {
-    fn default() -> Case {
+    fn default() -> Case
+        ensures { result.lengths ≡ record { first = 16384; second = 16384; third = 16384; fourth = 16384 } }
+    {
         let mut case = Case {
             rulebook: ArrayVec::new(),
             goals: ArrayVec::new(),
@@ -28,12 +32,12 @@ impl Default for Case {
             page: ArrayVec::new(),
             lengths: Lengths::default(),
         };
-        make(
+        write_signs(
             "(sort t)(ctor z () t)(ctor s (t) t)(pred hold (t))(rule base () (hold z))(rule more ((hold ?x)) (hold (s ?x)))",
             &mut case.rulebook,
         );
-        make("(goal g (hold (s z)))", &mut case.goals);
-        make(
+        write_signs("(goal g (hold (s z)))", &mut case.goals);
+        write_signs(
             "(step 0 base ())\\n(step 1 more (0))\\n(result g 1)\\n",
             &mut case.certificate,
         );
@@ -59,12 +63,41 @@ impl fmt::Display for Tally {
 }
 
 // One run more, and a difference more where it was not as stated.
-pub fn counted(tally: Tally, as_stated: bool) -> Tally {
+pub fn counted(tally: Tally, as_stated: bool) -> Tally
+    ensures cases { result.cases ≡ tally.cases }
+    ensures runs { result.runs ≡ (tally.runs + 1) % 2 ^ 32 }
+{
     Tally {
         cases: tally.cases,
         runs: tally.runs.wrapping_add(1),
         differences: tally.differences.wrapping_add(u32::from(!as_stated)),
     }
+}
+
+// What a call answered, counted against the answer that is stated. A fault is shown, and after the words of the call what is not as stated.
+pub fn compared<R: Print>(
+    rt: &R,
+    tally: Tally,
+    call: impl fmt::Display + Drop,
+    due: Answer,
+    seen: Result<Answer, Fault>,
+) -> io::Result<Tally>
+    ensures { IfOk result (λ after. after.runs ≡ (tally.runs + 1) % 2 ^ 32) }
+{
+    let as_stated = seen == Ok(due);
+    if let Err(fault) = seen {
+        print!(rt; "{fault}")?;
+    }
+    if !as_stated {
+        let number = tally.cases;
+        let difference = Difference {
+            word: "stated",
+            due,
+            seen,
+        };
+        println!(rt; "case {number} {call}{difference}")?;
+    }
+    Ok(counted(tally, as_stated))
 }
 
 // A line that is none of a list. No program goes on behind it, so that no error in writing a list is passed over.
@@ -85,7 +118,9 @@ fn numbers<const N: usize>(rest: &str) -> io::Result<[u32; N]> {
 }
 
 // A number, and the counts behind it: five for three texts, four for a rulebook alone, one for a page.
-pub fn stated(call: Call, rest: &str) -> io::Result<Answer> {
+pub fn read_stated(call: Call, rest: &str) -> io::Result<Answer>
+    ensures { IfOk result (λ answer. answer.call ≡ call) }
+{
     let [number, first, second, third, fourth, fifth] = numbers::<6>(rest)?;
     Ok(Answer {
         call,
@@ -108,11 +143,13 @@ fn lengths(rest: &str) -> io::Result<Lengths> {
 // A text in place of the one that is there.
 fn replace<const N: usize>(rest: &str, out: &mut ArrayVec<u8, N>) {
     out.clear();
-    make(rest, out);
+    write_signs(rest, out);
 }
 
 // A new case is counted. Where its number is not the next one it says so, and counts a difference.
-fn next<R: Print>(rt: &R, tally: &mut Tally, rest: &str) -> io::Result<()> {
+fn next<R: Print>(rt: &R, tally: &mut Tally, rest: &str) -> io::Result<()>
+    ensures { tally.new.runs ≡ tally.old.runs }
+{
     tally.cases = tally.cases.wrapping_add(1);
     let [number] = numbers::<1>(rest)?;
     if number != tally.cases {
@@ -123,13 +160,15 @@ fn next<R: Print>(rt: &R, tally: &mut Tally, rest: &str) -> io::Result<()> {
 }
 
 // The case at hand after a line that states no answer, by its word and what stands behind that. Another word is an error.
-pub fn line<R: Print>(
+pub fn read_line<R: Print>(
     rt: &R,
     case: &mut Case,
     tally: &mut Tally,
     word: &str,
     rest: &str,
-) -> io::Result<()> {
+) -> io::Result<()>
+    ensures { tally.new.runs ≡ tally.old.runs }
+{
     if !rest.is_ascii() {
         return Err(no_line());
     }
@@ -140,12 +179,12 @@ pub fn line<R: Print>(
         }
         "areas" => case.lengths = lengths(rest)?,
         "R" => replace(rest, &mut case.rulebook),
-        "R+" => make(rest, &mut case.rulebook),
+        "R+" => write_signs(rest, &mut case.rulebook),
         "G" => replace(rest, &mut case.goals),
-        "G+" => make(rest, &mut case.goals),
+        "G+" => write_signs(rest, &mut case.goals),
         "C" => replace(rest, &mut case.certificate),
-        "C+" => make(rest, &mut case.certificate),
-        "P+" => make(rest, &mut case.page),
+        "C+" => write_signs(rest, &mut case.certificate),
+        "P+" => write_signs(rest, &mut case.page),
         // An empty line, or a comment.
         "" if rest.is_empty() => {}
         _ if word.starts_with('#') => {}

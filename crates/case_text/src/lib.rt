@@ -81,7 +81,7 @@ fn first_sign<'a>(text: &'a str) -> Option<(Sign<'a>, &'a str)>
     }
 }
 
-// The signs of a text, one after the other.
+// The signs of a text, one after the other. It moves on in place, as iterators do, so it is not copied.
 #[derive(Drop)]
 struct Signs<'a>(&'a str);
 
@@ -126,7 +126,7 @@ fn put_repeated<const N: usize>(count: u32, signs: &str, out: &mut ArrayVec<u8, 
 }
 
 // The bytes for which a text stands, behind those that are there. What has no room is left out.
-pub fn make<const N: usize>(text: &str, out: &mut ArrayVec<u8, N>) {
+pub fn write_signs<const N: usize>(text: &str, out: &mut ArrayVec<u8, N>) {
     for sign in Signs(text) {
         match sign {
             Sign::Repeated(count, signs) => put_repeated(count, signs, out),

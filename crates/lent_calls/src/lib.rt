@@ -2,25 +2,17 @@
 #![tactic(auto)]
 
 use answers::{Answer, Call, Fault};
-use areas::{Areas, Before, Lengths};
-
-// The texts of a case. The call with the rulebook alone takes the first of them. Not `release_files::Three`: that crate reads files and writes
-// lines, and would stand below every test of the calls for this one struct.
-#[derive(Clone, Copy)]
-pub struct Texts<'a> {
-    pub rulebook: &'a [u8],
-    pub goals: &'a [u8],
-    pub certificate: &'a [u8],
-}
+use areas::{Before, Lengths};
+use lent::{Areas, Texts};
 
 // The call with the rulebook alone. It has no fifth count.
 fn rulebook(texts: Texts<'_>, areas: &mut Areas<'_>) -> Answer {
     let report = kernel::rulebook(
         texts.rulebook,
-        areas.first,
-        areas.second,
-        areas.third,
-        areas.fourth,
+        areas.store,
+        areas.table,
+        areas.stack,
+        areas.heap,
     );
     Answer {
         call: Call::Rulebook,
@@ -41,10 +33,10 @@ fn release(texts: Texts<'_>, areas: &mut Areas<'_>) -> Answer {
         texts.rulebook,
         texts.goals,
         texts.certificate,
-        areas.first,
-        areas.second,
-        areas.third,
-        areas.fourth,
+        areas.store,
+        areas.table,
+        areas.stack,
+        areas.heap,
     );
     Answer {
         call: Call::Release,
@@ -65,10 +57,10 @@ fn page(texts: Texts<'_>, areas: &mut Areas<'_>, out: &mut [u8]) -> Answer {
         texts.rulebook,
         texts.goals,
         texts.certificate,
-        areas.first,
-        areas.second,
-        areas.third,
-        areas.fourth,
+        areas.store,
+        areas.table,
+        areas.stack,
+        areas.heap,
         out,
     );
     Answer {
@@ -78,8 +70,36 @@ fn page(texts: Texts<'_>, areas: &mut Areas<'_>, out: &mut [u8]) -> Answer {
     }
 }
 
-// What a call answers over areas of a case's lengths that held other words; a fault where the case lends more than there is, or where the
-// areas are not as they must be afterwards. Only the call of the page writes to the buffer.
+// A call over areas that are filled before it; a fault where they are not as they must be afterwards.
+fn judged(
+    call: Call,
+    before: Before,
+    texts: Texts<'_>,
+    mut areas: Areas<'_>,
+    out: &mut [u8],
+) -> Result<Answer, Fault> {
+    areas::fill_all(&mut areas, before);
+    let answer = match call {
+        Call::Rulebook => rulebook(texts, &mut areas),
+        Call::Release => release(texts, &mut areas),
+        Call::Page => page(texts, &mut areas, out),
+    };
+    let Areas {
+        store,
+        table,
+        stack,
+        heap,
+    } = areas;
+    let cleared = answers::cleared(answer.number);
+    if areas::all_hold(cleared, before, store, table, stack, heap) {
+        Ok(answer)
+    } else {
+        Err(Fault::Areas(answer))
+    }
+}
+
+// What a call answers over areas of a case's lengths that held other words; a fault too where the case lends more than there is. Only the call of the page
+// writes to the buffer.
 pub fn answered(
     call: Call,
     before: Before,
@@ -87,33 +107,24 @@ pub fn answered(
     texts: Texts<'_>,
     out: &mut [u8],
 ) -> Result<Answer, Fault> {
-    let mut first = [0u32; 40000];
-    let mut second = [0u32; 40000];
-    let mut third = [0u32; 40000];
-    let mut fourth = [0u32; 40000];
-    let mut areas = Areas {
-        first: first
+    // Arrays, so that no memory can be missing.
+    let mut store = [0u32; 40000];
+    let mut table = [0u32; 40000];
+    let mut stack = [0u32; 40000];
+    let mut heap = [0u32; 40000];
+    let areas = Areas {
+        store: store
             .get_mut(..lengths.first as usize)
             .ok_or(Fault::TooLong(call))?,
-        second: second
+        table: table
             .get_mut(..lengths.second as usize)
             .ok_or(Fault::TooLong(call))?,
-        third: third
+        stack: stack
             .get_mut(..lengths.third as usize)
             .ok_or(Fault::TooLong(call))?,
-        fourth: fourth
+        heap: heap
             .get_mut(..lengths.fourth as usize)
             .ok_or(Fault::TooLong(call))?,
     };
-    areas.fill(before);
-    let answer = match call {
-        Call::Rulebook => rulebook(texts, &mut areas),
-        Call::Release => release(texts, &mut areas),
-        Call::Page => page(texts, &mut areas, out),
-    };
-    if areas.hold(answers::cleared(answer.number), before) {
-        Ok(answer)
-    } else {
-        Err(Fault::Areas(answer))
-    }
+    judged(call, before, texts, areas, out)
 }

@@ -3,9 +3,9 @@
 // paper states. That list is this program's own data, so that neither can differ from the other.
 #![tactic(auto)]
 
-use answers::{Answer, Call, Difference, Fault};
+use answers::{Answer, Call, Fault};
 use case_lines::{Case, Tally};
-use lent_calls::Texts;
+use lent::Texts;
 use std::{fs, io};
 
 // The call over so many bytes of the buffer, with 64 or more before them and behind them that it is not lent.
@@ -47,22 +47,9 @@ fn compare<R: Print>(rt: &R, case: &Case, tally: Tally, stated: &str) -> io::Res
     let Ok(room) = room.parse() else {
         return Err(io::Error::from(io::ErrorKind::InvalidData));
     };
-    let due = case_lines::stated(Call::Page, stated)?;
+    let due = case_lines::read_stated(Call::Page, stated)?;
     let seen = answered(case, room);
-    let as_stated = seen == Ok(due);
-    if let Err(fault) = seen {
-        print!(rt; "{fault}")?;
-    }
-    if !as_stated {
-        let number = tally.cases;
-        let difference = Difference {
-            word: "stated",
-            due,
-            seen,
-        };
-        println!(rt; "case {number} page {room}{difference}")?;
-    }
-    Ok(case_lines::counted(tally, as_stated))
+    case_lines::compared(rt, tally, format_args!("page {room}"), due, seen)
 }
 
 // All lines: one that states an answer, or one that changes the case at hand. Crate `paper_cases` says why it has a loop of its own.
@@ -74,7 +61,7 @@ fn all<R: Print>(rt: &R, list: &str) -> io::Result<Tally> {
         if word == "page" {
             tally = compare(rt, &case, tally, rest)?;
         } else {
-            case_lines::line(rt, &mut case, &mut tally, word, rest)?;
+            case_lines::read_line(rt, &mut case, &mut tally, word, rest)?;
         }
     }
     Ok(tally)

@@ -4,7 +4,7 @@
 
 use answers::{Answer, Call, Fault};
 use areas::Lengths;
-use lent_calls::Texts;
+use lent::Texts;
 use release_files::Three;
 use std::io;
 use std::io::Write;

@@ -11,11 +11,11 @@ ghost use Rattle.page_files.specs.Answers.{answered, Answered};
 
 use outcomes::Refusal;
 use release_files::{Buffers, Three};
-use reports::Report;
 use std::rt::Files;
 use writing::Written;
 
 // The call over areas just long enough. One for both programs would take a closure over four areas, which is no plainer than these lines.
+#[tactic(auto, unfolding(horn::specs::Page::page_left, horn::specs::Calls::leaving))]
 fn call(texts: Three<&[u8]>, out: &mut [u8]) -> Written
     ensures { told result out.new
         ≡ page_call document01 16384 16384 16384 16384 texts.entry.rulebook.now texts.entry.goals.now texts.entry.certificate.now out.old }
@@ -63,17 +63,7 @@ fn print(rt: &(impl Print + Eprint), w: Written, out: &[u8]) {
         release_files::write(rt, &out[..out.len().min(w.length as usize)]);
         return;
     }
-    release_files::print(
-        rt,
-        Report {
-            number: w.number,
-            steps: 0,
-            goals: 0,
-            terms: 0,
-            bytes: 0,
-            requested: 0,
-        },
-    );
+    release_files::print(rt, reports::unreleased(w.number));
 }
 
 // The page of three files to standard output. A goal takes 11 bytes of the goals' 8,192, so that there are 744 of them at most, and 745 lines

@@ -3,9 +3,9 @@
 // from the other.
 #![tactic(auto)]
 
-use answers::{Call, Difference};
+use answers::Call;
 use case_lines::{Case, Tally};
-use lent_calls::Texts;
+use lent::Texts;
 use std::{fs, io};
 
 // A call of the case at hand against the answer that is stated, counted.
@@ -16,27 +16,14 @@ fn compare<R: Print>(
     tally: Tally,
     stated: &str,
 ) -> io::Result<Tally> {
-    let due = case_lines::stated(call, stated)?;
+    let due = case_lines::read_stated(call, stated)?;
     let texts = Texts {
         rulebook: case.rulebook.as_slice(),
         goals: case.goals.as_slice(),
         certificate: case.certificate.as_slice(),
     };
     let seen = lent_calls::answered(call, areas::garbage(), case.lengths, texts, &mut []);
-    let as_stated = seen == Ok(due);
-    if let Err(fault) = seen {
-        print!(rt; "{fault}")?;
-    }
-    if !as_stated {
-        let number = tally.cases;
-        let difference = Difference {
-            word: "stated",
-            due,
-            seen,
-        };
-        println!(rt; "case {number} {call}{difference}")?;
-    }
-    Ok(case_lines::counted(tally, as_stated))
+    case_lines::compared(rt, tally, call, due, seen)
 }
 
 // All lines: one that states an answer, or one that changes the case at hand. One loop for this and crate `page_cases` would take a closure that
@@ -53,7 +40,7 @@ fn all<R: Print>(rt: &R, list: &str) -> io::Result<Tally> {
                 tally = compare(rt, Call::Release, &case, tally, rest)?;
                 tally = compare(rt, Call::Rulebook, &case, tally, rest)?;
             }
-            _ => case_lines::line(rt, &mut case, &mut tally, word, rest)?,
+            _ => case_lines::read_line(rt, &mut case, &mut tally, word, rest)?,
         }
     }
     Ok(tally)

@@ -5,7 +5,7 @@
 
 ghost use Rattle.std.specs.Prelude.{◌≡◌, ◌≤◌, length, replicate, IfOk, IfSome};
 ghost use Rattle.horn.specs.Setting.{document01};
-ghost use Rattle.horn.specs.Calls.{report, release_call};
+ghost use Rattle.horn.specs.Calls.{release_call};
 ghost use Rattle.reports.specs.Release.{told};
 ghost use Rattle.release_files.specs.Answers.{text, all_of, answered, Answered};
 
@@ -36,7 +36,7 @@ impl<T: Copy> Three<Option<T>> {
 }
 
 // What the three texts are read into. Each has one byte more than its text may have: so it is full where the file is too long, and no more of
-// that is read. Arrays, so that no memory can be missing.
+// that is read. Arrays, so that no memory can be missing; 49 KB of them, so it is not copied.
 #[derive(Drop)]
 pub struct Buffers {
     rulebook: [u8; 8193],
@@ -113,6 +113,7 @@ pub fn read<'a>(rt: &(impl Files + Eprint), name: &[u8], buffer: &'a mut [u8]) -
 }
 
 // The call over areas just long enough. One for both programs would take a closure over four areas, which is no plainer than these lines.
+#[tactic(auto, unfolding(horn::specs::Calls::release_left, horn::specs::Calls::leaving))]
 fn call(texts: Three<&[u8]>) -> Report
     ensures { told result
         ≡ release_call document01 16384 16384 16384 16384 texts.entry.rulebook.now texts.entry.goals.now texts.entry.certificate.now }
@@ -162,14 +163,6 @@ pub fn write(rt: &(impl Print + Eprint), bytes: &[u8]) {
 // Writes the line of a report to standard output. No line is longer than 66 bytes; an array, so that no memory can be missing.
 pub fn print(rt: &(impl Print + Eprint), r: Report) {
     let mut line = [0u8; 66];
-    let n = report_line::line(
-        r.number,
-        r.steps,
-        r.goals,
-        r.terms,
-        r.bytes,
-        r.requested,
-        &mut line,
-    );
+    let n = report_line::line(&r, &mut line);
     write(rt, &line[..n]);
 }

@@ -1,14 +1,13 @@
 -- Numbers put one behind the other. Assumes nothing.
 use Prim.Native.Nat.{ℕ, ◌+◌, ◌≤◌}
 use native.Mathlib.Omega.{arith}
-use mathlib.Core.Path.{◌≡◌, sym, ap, ap₂, ◌∙◌}
+use mathlib.Core.Path.{◌≡◌, refl, sym, ap, ap₂, ◌∙◌}
 use mathlib.Core.List.{List, [], ◌∷◌, ◌++◌}
 use lib.ListN.{length, set, take, drop, length-append}
 use lib.Seq.{take-append_seam}
 use Rattle.horn.specs.Calls.{report}
 use Rattle.horn.specs.Layout.{plain}
 use Rattle.horn.specs.Output.{written}
-use Rattle.io.specs.Counts.{IsPrefixLen}
 use Rattle.io.specs.Digits.{last_digits, IsDigitCount}
 use Rattle.writing.specs.Buffer.{placed}
 use Rattle.writing.proofs.Placed.{length-placed, placed_then, placed_front}
@@ -64,11 +63,26 @@ module _ (n s g t b r : ℕ) {i j k l m : ℕ} (long₁ : i ≡ length (field n 
   line_text o e₁ e₂ e₃ e₄ e₅ e₆ =
       behind _ _ o (behind _ _ o (behind _ _ o (behind _ _ o (behind _ _ o e₁ long₁ e₂) two e₃) three e₄) four e₅) five e₆
 
--- What was put at the start is there.
-pub read_back : (bs s o : List ℕ) (r : ℕ) → r ≡ length bs → o ≡ placed 0 bs s → r ≤ length s → take r o ≡ bs
-unfolding written
-read_back bs s o r e w h =
-    ap₂ (λ m t. take m t) e (w ∙ placed_front bs s (rw (← e) h)) ∙ take-append_seam bs (drop (length bs) s)
+-- The same as the code computes it.
+module _ (n s g t b r : ℕ) where
+  pub row_long : length (line (report n s g t b r))
+      ≡ length (field n 0x09) + length (field s 0x09) + length (field g 0x09) + length (field t 0x09) + length (field b 0x09) + length (field r 0x0A)
+  row_long = sym (line_long n s g t b r refl refl refl refl refl refl)
 
-pub read_back_counts : (bs s o : List ℕ) (r : ℕ) → r ≡ length bs → o ≡ placed 0 bs s → r ≤ length s → IsPrefixLen r o
-read_back_counts bs s o r e w h = (rw (w, length-placed 0 bs s) h, e ∙ sym (ap (λ t. length t) (read_back bs s o r e w h)))
+  pub row_text : (o : List ℕ)
+      → placed 0 (line (report n s g t b r)) o
+      ≡ placed (length (field n 0x09) + length (field s 0x09) + length (field g 0x09) + length (field t 0x09) + length (field b 0x09)) (field r 0x0A)
+      (placed (length (field n 0x09) + length (field s 0x09) + length (field g 0x09) + length (field t 0x09)) (field b 0x09)
+      (placed (length (field n 0x09) + length (field s 0x09) + length (field g 0x09)) (field t 0x09)
+      (placed (length (field n 0x09) + length (field s 0x09)) (field g 0x09)
+      (placed (length (field n 0x09)) (field s 0x09) (placed 0 (field n 0x09) o)))))
+  row_text o = sym (line_text n s g t b r refl refl refl refl refl o refl refl refl refl refl refl)
+
+pub ruleset row = (row_long, row_text)
+
+-- What was put at the start is there.
+pub there : (bs s : List ℕ) → length bs ≤ length s → take (length bs) (placed 0 bs s) ≡ bs
+unfolding written
+there bs s h = ap (λ t. take (length bs) t) (placed_front bs s h) ∙ take-append_seam bs (drop (length bs) s)
+
+pub ruleset read = (there, length-placed)

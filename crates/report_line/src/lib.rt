@@ -2,10 +2,12 @@
 #![tactic(auto)]
 
 ghost use Rattle.std.specs.Prelude.{◌≤◌, ◌≡◌, length, take};
-ghost use Rattle.horn.specs.Calls.{report};
 ghost use Rattle.io.specs.Counts.{IsPrefixLen};
+ghost use Rattle.reports.specs.Release.{told};
 ghost use Rattle.writing.specs.Buffer.{placed};
 ghost use Rattle.report_line.specs.Lines as lines;
+
+use reports::Report;
 
 // Puts a number from a place on, and one byte behind it. Answers how many bytes these are.
 fn field(out: &mut [u8], at: u32, n: u32, end: u8) -> u32
@@ -21,39 +23,25 @@ fn field(out: &mut [u8], at: u32, n: u32, end: u8) -> u32
 }
 
 // The six numbers of a report, one behind the other.
-fn fields(
-    out: &mut [u8],
-    number: u32,
-    steps: u32,
-    goals: u32,
-    terms: u32,
-    bytes: u32,
-    requested: u32,
-) -> u32
-    ensures text { out.new ≡ placed 0 (lines.line (report number steps goals terms bytes requested)) out.old }
-    ensures long { result ≡ length (lines.line (report number steps goals terms bytes requested)) }
+#[tactic(auto, using(crate::proofs::Rows::row))]
+fn fields(out: &mut [u8], r: &Report) -> u32
+    ensures text { out.new ≡ placed 0 (lines.line (told r.now)) out.old }
+    ensures long { result ≡ length (lines.line (told r.now)) }
     ensures few { result ≤ 66 }
 {
-    let a = field(out, 0, number, 9);
-    let b = a + field(out, a, steps, 9);
-    let c = b + field(out, b, goals, 9);
-    let d = c + field(out, c, terms, 9);
-    let e = d + field(out, d, bytes, 9);
-    e + field(out, e, requested, 10)
+    let a = field(out, 0, r.number, 9);
+    let b = a + field(out, a, r.steps, 9);
+    let c = b + field(out, b, r.goals, 9);
+    let d = c + field(out, c, r.terms, 9);
+    let e = d + field(out, d, r.bytes, 9);
+    e + field(out, e, r.requested, 10)
 }
 
 // Puts the line of a report at the start of `out`, and answers how many bytes it has.
-pub fn line(
-    number: u32,
-    steps: u32,
-    goals: u32,
-    terms: u32,
-    bytes: u32,
-    requested: u32,
-    out: &mut [u8; 66],
-) -> usize
+#[tactic(auto, using(crate::proofs::Rows::read))]
+pub fn line(r: &Report, out: &mut [u8; 66]) -> usize
     ensures within { IsPrefixLen result out.new }
-    ensures text { take result out.new ≡ lines.line (report number steps goals terms bytes requested) }
+    ensures text { take result out.new ≡ lines.line (told r.now) }
 {
-    fields(out, number, steps, goals, terms, bytes, requested) as usize
+    fields(out, r) as usize
 }

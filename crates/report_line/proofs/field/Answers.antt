@@ -1,3 +1,4 @@
+-- How many digits a number has, from what `io::decimal` says: the check alone does not find which number they are of.
 use Rattle.report_line.proofs.Digits.{at_most_ten}
 use Rattle.report_line.proofs.Rows.{field-text, field_long}
 use borrow.Author.Rules.{rules}
