@@ -26,10 +26,10 @@ extern "C" {
 #define HORN_PAGE_LINE_BYTES 65
 #define HORN_PAGE_BYTES (HORN_PAGE_LINE_BYTES * (HORN_GOALS_BYTES / 11 + 1))
 /*
- * The most stack that a call takes on any texts: stack.c measures 149,504 bytes on texts of 256 levels, all that may nest, and
- * 148,608 for a rulebook alone. (It was 98,304 before, and is to be so again: docs/DESIGN-PASS.md, "Stack".)
+ * The most stack that a call takes on any texts: stack.c measures 54,512 bytes on texts of 256 levels, all that may nest, and
+ * 46,576 for a rulebook alone.
  */
-#define HORN_STACK_BYTES 196608
+#define HORN_STACK_BYTES 98304
 
 /* A number (0: accepted; else document 01's refusal) and the counts of what the rulebook declares, all 0 on a refusal. */
 typedef struct {

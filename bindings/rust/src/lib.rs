@@ -33,7 +33,7 @@ pub const PAGE_LINE_BYTES: usize = 65;
 /// A buffer of so many bytes is long enough for the page of any release: a goal takes 11 bytes of the goals text or more.
 pub const PAGE_BYTES: usize = PAGE_LINE_BYTES * (GOALS_BYTES / 11 + 1);
 /// The most stack that a call takes on any texts, in bytes, as `bindings/c/horn.h` says.
-pub const STACK_BYTES: usize = 196_608;
+pub const STACK_BYTES: usize = 98_304;
 
 /// What an accepted rulebook declares.
 #[derive(Clone, Copy, Debug, PartialEq, Eq)]
