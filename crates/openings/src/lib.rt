@@ -32,7 +32,8 @@ pub fn look(text: &[u8], member: bool, reader: Reader) -> Result<Look, Refusal>
     Ok(Look::Member(reader))
 }
 
-// A term, up to its arguments if it has any.
+// A term, up to its arguments if it has any. Inlined, so that what it answers need not go through memory.
+#[inline(always)]
 #[tactic(auto, unfolding(asking::specs::Asking::item_due))]
 pub fn item(
     scope: &Scope<'_, '_>,
@@ -64,8 +65,9 @@ pub fn item(
     }
 }
 
-// The same, or as a member of a list the closing that is next instead. `member` says which: called by terms that are due too, it stays a function of
-// its own, which the C interface's bound on the stack needs. A function for members alone would be compiled into each level of a term.
+// The same, or as a member of a list the closing that is next instead. `member` says which. Not inlined, so that no level of a term has it on the stack, which
+// the C interface bounds.
+#[inline(never)]
 #[tactic(auto, unfolding(crate::specs::Openings::begun))]
 pub fn begin(
     scope: &Scope<'_, '_>,

@@ -86,6 +86,14 @@ module _ (left : ℕ) (text rules heap table : List ℕ) (top : ℕ) (r : Reader
       sym (done (term left text rules heap table top r store stack))
       ∙ term_then (λ q s. refused 6 leaving s) (λ x. ok x.0 leaving x.1) text rules heap table top left r store stack
 
+  -- The same by the item that it is, with no look ahead.
+  pub term-item : term left text rules heap table top r store stack
+      ≡ begun_then (λ q s. refused 6 leaving s) (λ x. ok x.0 leaving x.1) text rules heap table top (left - 1)
+      (begun_at left text rules heap table top (member r) store stack)
+  term-item =
+      sym (done (term left text rules heap table top r store stack))
+      ∙ term_then (λ q s. refused 6 leaving s) (λ x. ok x.0 leaving x.1) text rules heap table top left r store stack
+
   look_begun : (o : Outcome Ahead)
       → (o leaving (store, stack) >>= λ x. argument_at left text rules heap table top x.0 x.1.0 x.1.1)
       ≡ begun_then (λ q s. ok (none, q) leaving s) (λ x. ok (one x.0.0, x.0.1) leaving (x.1.0, x.1.1)) text rules heap table top (left - 1)
@@ -126,6 +134,10 @@ pub opened_within : (m : Bool) (left : ℕ) (text rules heap table : List ℕ) (
 unfolding begun
 opened_within m left text rules heap table top r store stack e =
     list_within left text rules heap table top store stack (look_for text m r) (sym e)
+
+pub item_within : (left : ℕ) (text rules heap table : List ℕ) (top : ℕ) (r : Reader) (store stack : List ℕ) {c : ℕ} {q : Reader} {s : Areas}
+    → (ok (opened c, q) leaving s) ≡ begun_at left text rules heap table top (member r) store stack → 0 < left
+item_within left text rules heap table top r store stack e = list_within left text rules heap table top store stack (ok (member r)) (sym e)
 
 module _ (left : ℕ) (text rules heap table : List ℕ) (top n fuel : ℕ) where
   -- What follows an argument, or the closing behind the last.
@@ -168,4 +180,4 @@ pub arguments_over : (left : ℕ) (text rules heap table : List ℕ) (top n : �
 unfolding arguments_from
 arguments_over left text rules heap table top n e t r store stack l = let z : e - t ≡ 0 = omega arith in rw z
 
-pub ruleset within = (term-begun, argument-begun, opened_within, arguments_turn, arguments_over)
+pub ruleset within = (term-item, argument-begun, opened_within, item_within, arguments_turn, arguments_over)

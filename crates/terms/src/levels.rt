@@ -1,6 +1,6 @@
 // Terms within terms, and the stack that they take. A level is one frame of `args`, with `term` in it, which has no other caller. What it
 // need not keep is not in it: the reader is lent, and all that reads a token or makes a node is in `openings::begin` and `nodes::node`,
-// which are called from outside the cycle too and so stay functions of their own.
+// which stay functions of their own: the one is not inlined, the other is called from outside the cycle too.
 ghost use Rattle.std.specs.Prelude.{◌≡◌};
 ghost use Rattle.outcomes.specs.Told.{told_as};
 ghost use Rattle.outcomes.specs.Leaving.{◌leaving◌};

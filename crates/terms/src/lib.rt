@@ -15,7 +15,7 @@ use outcomes::Refusal;
 mod levels;
 
 // A term, asked for with that much depth left. Not one with `levels::term`, which is due a term or a closing and lends its reader, so that a level takes
-// little stack: the C header bounds it.
+// little stack: the C header bounds it. What begins is read by `openings::item`, inlined, since `begin` hands its answer back through memory.
 #[tactic(auto, using(crate::proofs::Within::within))]
 pub fn term(
     scope: &Scope<'_, '_>,
@@ -30,7 +30,7 @@ pub fn term(
         top reader store.old stack.old }
 {
     let mut r = reader;
-    match openings::begin(scope, store, stack, &mut r, top, left, false)? {
+    match openings::item(scope, store, stack, &mut r, top, left, reader)? {
         Begun::Closing => Err(Refusal::StrayClosing),
         Begun::Whole(k) => Ok((k, r)),
         Begun::Opened(c) => {
