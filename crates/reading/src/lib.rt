@@ -5,6 +5,9 @@ ghost use Rattle.std.specs.Prelude.{◌<◌, IfOk, length, take};
 ghost use Rattle.std.specs.Io.{ReadsAtMost};
 ghost use Rattle.std.specs.Io.KnownBytes.{Consumes, IsAtEnd};
 
+mod so_far;
+
+pub use so_far::fill_so_far;
 use std::io;
 use std::io::Read;
 
