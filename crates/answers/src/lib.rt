@@ -1,7 +1,7 @@
 // Answers of the calls, what was wrong with one, and how programs write and compare them.
 #![tactic(auto)]
 
-ghost use Rattle.std.specs.Prelude.{◌<◌, ◌≡◌, IfErr, IfOk};
+ghost use Rattle.std.specs.Prelude.{◌<◌, ◌≡◌, ◌+◌, ◌%◌, ◌^◌, IfErr, IfOk};
 
 use std::fmt;
 
@@ -127,12 +127,22 @@ pub struct Tally {
 }
 
 impl Tally {
-    // One case more.
-    pub fn with(self, different: bool) -> Tally {
+    // One case more, with so many differences.
+    pub fn and(self, different: u32) -> Tally
+        ensures cases { result.cases ≡ (self.cases + 1) % 2 ^ 32 }
+        ensures differences { result.differences ≡ (self.differences + different) % 2 ^ 32 }
+    {
         Tally {
             cases: self.cases.wrapping_add(1),
-            differences: self.differences.wrapping_add(u32::from(different)),
+            differences: self.differences.wrapping_add(different),
         }
+    }
+
+    // One case more, which differed or not.
+    pub fn with(self, different: bool) -> Tally
+        ensures { result.cases ≡ (self.cases + 1) % 2 ^ 32 }
+    {
+        self.and(u32::from(different))
     }
 }
 

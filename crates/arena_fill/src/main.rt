@@ -3,7 +3,7 @@
 #![tactic(auto)]
 
 use arena::{Full, Interned, Setting};
-use std::alloc::{AllocError, Global};
+use printing::GoingOn;
 use std::{fmt, io};
 
 // The limits of document 01.
@@ -16,23 +16,21 @@ const STORE: Setting = Setting {
 // A store at document 01's limits, in an area of 16,384 words. It owns the area, so it is not copied.
 #[derive(Drop)]
 struct Store {
-    area: Vec<u32>,
+    area: [u32; 16384],
 }
 
 impl Store {
     // No node, over a word that stands everywhere but in the counts and the index.
-    fn over(alloc: Global, garbage: u32) -> Result<Store, AllocError> {
-        let mut area = vec![in alloc; garbage; 16384]?;
-        area[..2].fill(0);
-        area[2050..6146].fill(0);
-        Ok(Store { area })
+    fn clear_over(&mut self, garbage: u32) {
+        self.area.fill(garbage);
+        self.area[..2].fill(0);
+        self.area[2050..6146].fill(0);
     }
 
     // No node: the store empties itself, over a word that stands everywhere.
-    fn emptied(alloc: Global, garbage: u32) -> Result<Store, AllocError> {
-        let mut area = vec![in alloc; garbage; 16384]?;
-        arena::empty(&mut area, STORE);
-        Ok(Store { area })
+    fn empty_over(&mut self, garbage: u32) {
+        self.area.fill(garbage);
+        arena::empty(&mut self.area, STORE);
     }
 
     // A request.
@@ -223,9 +221,12 @@ fn by_nodes(rt: &impl Print, store: &mut Store) -> io::Result<()> {
 }
 
 fn main(rt: HostRuntime) -> io::Result<()> {
-    by_nodes(&rt, &mut Store::over(rt.alloc(), 3735928559)?)?;
-    // Another filled to its words, over ones.
-    let mut store = Store::emptied(rt.alloc(), 1)?;
-    to_words(&rt, &mut store)?;
-    past_words(&rt, &mut store)
+    let out = GoingOn(&rt);
+    let mut store = Store { area: [0; 16384] };
+    store.clear_over(3735928559);
+    by_nodes(&out, &mut store)?;
+    // The same area again, filled to its words, over ones.
+    store.empty_over(1);
+    to_words(&out, &mut store)?;
+    past_words(&out, &mut store)
 }

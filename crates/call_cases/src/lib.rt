@@ -5,9 +5,13 @@
 // since a count of requests to the store does not fit two, all else two, high byte first.
 #![tactic(auto)]
 
-ghost use Rattle.std.specs.Prelude.{◌+◌, ◌*◌, ◌≡◌, ◌≤◌, get_or, length, IfSome};
+ghost use Rattle.std.specs.Prelude.{◌+◌, ◌*◌, ◌≡◌, ◌≤◌, get_or, length, IfOk, IfSome};
 ghost use Rattle.std.specs.Iterator.{at_most};
-ghost use Rattle.call_cases.specs.Heads.{pair_at, four_at};
+ghost use Rattle.std.specs.Io.KnownBytes.{Consumes};
+ghost use Rattle.call_cases.specs.Heads.{pair_at, four_at, head_from};
+ghost use Rattle.call_cases.specs.Cases.{IsOf, texts_of, IsNext};
+
+use std::io::Read;
 
 #[derive(Clone, Copy)]
 pub struct Head {
@@ -55,18 +59,7 @@ fn four_at(b: &[u8], i: usize, j: usize, k: usize, l: usize) -> u32
 
 // What the first bytes of a case say of it.
 pub fn head_of(b: &[u8]) -> Head
-    ensures { result ≡ record {
-      label = get_or b.now 0 0;
-      rulebook = pair_at b.now 1 2;
-      goals = pair_at b.now 3 4;
-      certificate = pair_at b.now 5 6;
-      own = get_or b.now 7 0;
-      first = pair_at b.now 8 9;
-      second = pair_at b.now 10 11;
-      third = pair_at b.now 12 13;
-      fourth = pair_at b.now 14 15;
-      fifth = four_at b.now 16 17 18 19;
-    } }
+    ensures { result ≡ head_from b.now }
 {
     Head {
         label: one_at(b, 0),
@@ -82,11 +75,11 @@ pub fn head_of(b: &[u8]) -> Head
     }
 }
 
-// A case, its texts as parts of the file's bytes.
+// A case: its head, its label and its texts, all but the head as parts of what is lent.
 #[derive(Clone, Copy)]
 pub struct Case<'a> {
     pub head: Head,
-    pub label: &'a str,
+    pub label: &'a [u8],
     pub rulebook: &'a [u8],
     pub goals: &'a [u8],
     pub certificate: &'a [u8],
@@ -102,7 +95,6 @@ fn first_case<'a>(bytes: &'a [u8]) -> Option<(Case<'a>, &'a [u8])>
     let (rulebook, rest) = rest.split_at_checked(head.rulebook as usize)?;
     let (goals, rest) = rest.split_at_checked(head.goals as usize)?;
     let (certificate, rest) = rest.split_at_checked(head.certificate as usize)?;
-    let label = str::from_utf8(label).unwrap_or("a label that is no text");
     Some((
         Case {
             head,
@@ -115,7 +107,7 @@ fn first_case<'a>(bytes: &'a [u8]) -> Option<(Case<'a>, &'a [u8])>
     ))
 }
 
-// The last case of a file has fewer bytes than its head says.
+// A case has fewer bytes than its head says, or a text of it has more than its buffer.
 #[derive(Clone, Copy)]
 pub struct CutShort;
 
@@ -143,4 +135,60 @@ impl<'a> Iterator for Cases<'a> {
             }
         }
     }
+}
+
+// What the label and the texts of a case are read into.
+#[derive(Drop)]
+pub struct Buffers<'a> {
+    pub label: &'a mut [u8],
+    pub rulebook: &'a mut [u8],
+    pub goals: &'a mut [u8],
+    pub certificate: &'a mut [u8],
+}
+
+// The next bytes of a file, so many as are said. Where they are more than the buffer has, nothing is read.
+fn text<'a, F: Read>(file: &mut F, buffer: &'a mut [u8], bytes: u32) -> Result<&'a [u8], CutShort>
+    ensures count { IfOk result (λ text. length text.now ≡ bytes) }
+    ensures taken { IfOk result (λ text. Consumes (F.remaining file.old) (F.remaining file.new) text.now) }
+{
+    let room = buffer.get_mut(..bytes as usize).ok_or(CutShort)?;
+    match reading::fill(file, room) {
+        Ok(n) if n == room.len() => Ok(room),
+        _ => Err(CutShort),
+    }
+}
+
+// The label and the texts behind a head.
+fn texts<'a, F: Read>(file: &mut F, head: Head, buffers: Buffers<'a>) -> Result<Case<'a>, CutShort>
+    ensures head { IfOk result (λ case. case.head ≡ head) }
+    ensures counts { IfOk result IsOf }
+    ensures taken { IfOk result (λ case. Consumes (F.remaining file.old) (F.remaining file.new) (texts_of case)) }
+{
+    let label = text(file, buffers.label, head.label)?;
+    let rulebook = text(file, buffers.rulebook, head.rulebook)?;
+    let goals = text(file, buffers.goals, head.goals)?;
+    let certificate = text(file, buffers.certificate, head.certificate)?;
+    Ok(Case {
+        head,
+        label,
+        rulebook,
+        goals,
+        certificate,
+    })
+}
+
+// The next case of a file, or nothing at its end: what is handed out is what was read of it. A head that is cut short, or cannot be read, is the end.
+// Behind a case that is cut short stands what was not read of it.
+pub fn next_case<'a, F: Read>(
+    file: &mut F,
+    buffers: Buffers<'a>,
+) -> Option<Result<Case<'a>, CutShort>>
+    ensures counts { IfSome result (λ read. IfOk read IsOf) }
+    ensures taken { IfSome result (λ read. IfOk read (IsNext (F.remaining file.old) (F.remaining file.new))) }
+{
+    let mut head = [0; 20];
+    let Ok(20) = reading::fill(file, &mut head) else {
+        return None;
+    };
+    Some(texts(file, head_of(&head), buffers))
 }

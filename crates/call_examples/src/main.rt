@@ -8,9 +8,12 @@
 
 use answers::{Answer, Call, Fault};
 use areas::Lengths;
-use call_cases::{Case, Cases};
+use call_cases::{Buffers, Case};
 use lent::Texts;
-use std::{fs, io};
+use printing::GoingOn;
+use std::fs::File;
+use std::io;
+use std::io::Read;
 
 // One case over as many words of each area as it lends.
 fn judge(case: Case<'_>) -> Result<Answer, Fault> {
@@ -39,25 +42,49 @@ fn judge(case: Case<'_>) -> Result<Answer, Fault> {
     lent_calls::answered(call, before, lengths, texts, &mut [])
 }
 
-// Writes what a case answers, and what it did to the areas.
-fn show<R: Print>(rt: &R, label: &str, seen: Result<Answer, Fault>) -> io::Result<()> {
+// Writes what a case answers, and what it did to the areas. A label is written as its bytes are, since it need not be text.
+fn show<R: Print>(rt: &R, label: &[u8], seen: Result<Answer, Fault>) -> io::Result<()> {
     if let Err(fault) = seen {
         print!(rt; "{fault}")?;
     }
+    rt.write_all(label)?;
     let answer = answers::written(seen);
-    if answers::cleared(answer.number) == 0 {
-        println!(rt; "{label}:{answer} untouched")
+    let areas = if answers::cleared(answer.number) == 0 {
+        " untouched\n"
     } else {
-        println!(rt; "{label}:{answer} cleared")
+        " cleared\n"
+    };
+    print!(rt; ":{answer}{areas}")
+}
+
+// Runs the next case of the file, and answers whether there may be one more. The buffers are arrays, so that no memory can be missing.
+fn run_next<R: Print, F: Read>(rt: &R, file: &mut F) -> io::Result<bool> {
+    let buffers = Buffers {
+        label: &mut [0; 255],
+        rulebook: &mut [0; 8193],
+        goals: &mut [0; 8193],
+        certificate: &mut [0; 32769],
+    };
+    match call_cases::next_case(file, buffers) {
+        Some(Ok(case)) => {
+            show(rt, case.label, judge(case))?;
+            Ok(true)
+        }
+        Some(Err(_)) => {
+            print!(rt; "a case cut short\n")?;
+            Ok(false)
+        }
+        None => Ok(false),
     }
 }
 
 fn main(rt: HostRuntime) -> io::Result<()> {
-    let bytes = fs::read(&rt, "examples")?;
-    for case in Cases(bytes.as_slice()) {
-        match case {
-            Ok(case) => show(&rt, case.label, judge(case))?,
-            Err(_) => println!(rt; "a case cut short")?,
+    let mut file = File::open(&rt, "examples")?;
+    let out = GoingOn(&rt);
+    // Nothing says that a file ends: so many cases at most.
+    for _ in 0..1000000 {
+        if !run_next(&out, &mut file)? {
+            break;
         }
     }
     Ok(())

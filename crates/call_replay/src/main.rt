@@ -5,11 +5,14 @@
 // number, with 128 added where the rulebook is judged alone; its five numbers are the counts, of which a rulebook alone has four and a 0.
 #![tactic(auto)]
 
-use answers::{Answer, Call, Difference, Tally};
+use answers::{Answer, Call, Difference, Fault, Tally};
 use areas::Lengths;
-use call_cases::{Case, Cases, Head};
+use call_cases::{Buffers, Case, Head};
 use lent::Texts;
-use std::{fs, io};
+use printing::GoingOn;
+use std::fs::File;
+use std::io;
+use std::io::Read;
 
 // The answer that was kept.
 fn kept(head: Head) -> Answer {
@@ -25,9 +28,8 @@ fn kept(head: Head) -> Answer {
     }
 }
 
-// One case beside what was kept of it: the difference, if there is one.
-fn judge(case: Case<'_>) -> Option<Difference<'static>> {
-    let due = kept(case.head);
+// What a case answers now.
+fn answered(call: Call, case: Case<'_>) -> Result<Answer, Fault> {
     let lengths = Lengths {
         first: 16384,
         second: 20000,
@@ -39,36 +41,59 @@ fn judge(case: Case<'_>) -> Option<Difference<'static>> {
         goals: case.goals,
         certificate: case.certificate,
     };
-    let seen = lent_calls::answered(due.call, areas::garbage(), lengths, texts, &mut []);
-    if seen == Ok(due) {
-        None
-    } else {
-        Some(Difference {
-            word: "kept",
-            due,
-            seen,
-        })
+    lent_calls::answered(call, areas::garbage(), lengths, texts, &mut [])
+}
+
+// One case beside what was kept of it: writes the difference, if there is one, and answers whether there is. A fault counts by the number that is
+// written for it. A label is written as its bytes are, since it need not be text.
+fn differs<R: Print>(rt: &R, case: Case<'_>) -> io::Result<bool> {
+    let due = kept(case.head);
+    let seen = answered(due.call, case);
+    if let Err(fault) = seen {
+        print!(rt; "{fault}")?;
+    }
+    if answers::written(seen) == due {
+        return Ok(false);
+    }
+    let difference = Difference {
+        word: "kept",
+        due,
+        seen,
+    };
+    rt.write_all(case.label)?;
+    println!(rt; "{difference}")?;
+    Ok(true)
+}
+
+// Replays the next case of the file, and answers whether it differs; nothing at the file's end. A case that is cut short differs, and the file goes
+// on behind what was read of it. The buffers are arrays, so that no memory can be missing.
+fn replay_next<R: Print, F: Read>(rt: &R, file: &mut F) -> io::Result<Option<bool>> {
+    let buffers = Buffers {
+        label: &mut [0; 255],
+        rulebook: &mut [0; 8192],
+        goals: &mut [0; 8192],
+        certificate: &mut [0; 32768],
+    };
+    match call_cases::next_case(file, buffers) {
+        Some(Ok(case)) => Ok(Some(differs(rt, case)?)),
+        Some(Err(_)) => {
+            print!(rt; "a case cut short\n")?;
+            Ok(Some(true))
+        }
+        None => Ok(None),
     }
 }
 
 fn main(rt: HostRuntime) -> io::Result<()> {
-    let bytes = fs::read(&rt, "cases")?;
+    let mut file = File::open(&rt, "cases")?;
+    let out = GoingOn(&rt);
     let mut tally = Tally::default();
-    for case in Cases(bytes.as_slice()) {
-        let Ok(case) = case else {
-            println!(rt; "a case cut short")?;
-            tally = tally.with(true);
-            continue;
+    // Nothing says that a file ends: so many cases at most.
+    for _ in 0..1000000 {
+        let Some(different) = replay_next(&out, &mut file)? else {
+            break;
         };
-        let difference = judge(case);
-        if let Some(difference) = difference {
-            let label = case.label;
-            if let Err(fault) = difference.seen {
-                print!(rt; "{fault}")?;
-            }
-            println!(rt; "{label}{difference}")?;
-        }
-        tally = tally.with(difference.is_some());
+        tally = tally.with(different);
     }
-    print!(rt; "{tally}")
+    print!(out; "{tally}")
 }

@@ -3,9 +3,13 @@
 // as they have been since Unicode 6.3.
 #![tactic(auto)]
 
-use std::io;
+use printing::GoingOn;
 use std::ops::RangeInclusive;
+use std::{io, iter};
 use utf8::classes;
+
+// So many bytes of the list are read.
+const LIST_BYTES: usize = 4096;
 
 // Characters seen so far, those of them that the list has, and those of which something wrong was said.
 #[derive(Clone, Copy, Default)]
@@ -15,11 +19,44 @@ struct Tally {
     wrong: u32,
 }
 
-// The characters of a line, by their values: one number, or two with `..` between them.
-fn listed(line: &str) -> anyhow::Result<RangeInclusive<u32>> {
-    let numbers = line.split(' ').next().unwrap_or("");
-    let (low, high) = numbers.split_once("..").unwrap_or((numbers, numbers));
-    Ok(u32::from_str_radix(low, 16)?..=u32::from_str_radix(high, 16)?)
+// A line of the list: the characters that it has, by their values, and what stands behind it.
+#[derive(Drop)]
+struct Listed<'a> {
+    values: RangeInclusive<u32>,
+    rest: &'a [u8],
+}
+
+// The number that some bytes begin with, of four hexadecimal digits. The bit 32 makes a capital small. A byte that is no digit counts as 0, and so does
+// one that is missing.
+fn number(bytes: &[u8]) -> u32 {
+    let mut n = 0;
+    for b in bytes.iter().copied().chain(iter::repeat(0)).take(4) {
+        n = n << 4 | u32::from(case_text::hex_digit(b | 32));
+    }
+    n
+}
+
+impl<'a> Listed<'a> {
+    // The line that some bytes begin with, read by its places: one number, or two with `..` between them.
+    fn first_of(list: &'a [u8]) -> Listed<'a> {
+        let low = number(list);
+        let high = match list.get(4) {
+            Some(b'.') => number(list.get(6..).unwrap_or(&[])),
+            _ => low,
+        };
+        Listed {
+            values: low..=high,
+            rest: list.splitn(2, |b| *b == b'\n').nth(1).unwrap_or(&[]),
+        }
+    }
+
+    // This line, or the next one where this lies before a value.
+    fn reaching(self, value: u32) -> Listed<'a> {
+        if value <= *self.values.end() {
+            return self;
+        }
+        Listed::first_of(self.rest)
+    }
 }
 
 // The kind that a character has, by whether the list has it. That is a fact that is compared, here and below, and no choice between two ways: so it
@@ -84,23 +121,25 @@ impl Tally {
 }
 
 // All characters, in the order of their values, which the list has too.
-fn all(rt: &impl Print, list: &[u32]) -> io::Result<Tally> {
+fn all(rt: &impl Print, list: &[u8]) -> io::Result<Tally> {
+    let mut line = Listed::first_of(list);
     let mut tally = Tally::default();
-    for c in '\0'..=char::MAX {
-        let white = list.binary_search(&u32::from(c)).is_ok();
-        tally = tally.and(rt, c, white)?;
+    for value in 0..=u32::from(char::MAX) {
+        line = line.reaching(value);
+        // A surrogate is no character.
+        if let Some(c) = char::from_u32(value) {
+            tally = tally.and(rt, c, line.values.contains(&value))?;
+        }
     }
     Ok(tally)
 }
 
-fn main(rt: HostRuntime) -> anyhow::Result<()> {
-    let mut list = Vec::new(rt.alloc());
-    for line in rt.lines(rt.alloc()) {
-        list.extend(listed(line?.as_str())?)?;
-    }
-    let tally = all(&rt, &list)?;
-    println!(rt; "{} characters", tally.characters)?;
-    println!(rt; "{} white space", tally.white)?;
-    println!(rt; "{} wrong", tally.wrong)?;
-    Ok(())
+fn main(rt: HostRuntime) -> io::Result<()> {
+    let mut buffer = [0; LIST_BYTES];
+    let n = reading::fill_so_far(&mut rt.stdin(), &mut buffer);
+    let out = GoingOn(&rt);
+    let tally = all(&out, &buffer[..n])?;
+    println!(&out; "{} characters", tally.characters)?;
+    println!(&out; "{} white space", tally.white)?;
+    println!(&out; "{} wrong", tally.wrong)
 }

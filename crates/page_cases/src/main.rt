@@ -4,9 +4,12 @@
 #![tactic(auto)]
 
 use answers::{Answer, Call, Fault};
-use case_lines::{Case, Tally};
+use case_lines::{Case, Kind, Tally};
+use case_text::{Line, Lines};
 use lent::Texts;
-use std::{fs, io};
+use printing::GoingOn;
+use std::fs::File;
+use std::io;
 
 // The call over so many bytes of the buffer, with 64 or more before them and behind them that it is not lent.
 fn lend(case: &Case, room: u32, out: &mut [u8]) -> Result<Answer, Fault> {
@@ -41,34 +44,40 @@ fn answered(case: &Case, room: u32) -> Result<Answer, Fault> {
     buffers::with_buffer(seen, &out, 64, page)
 }
 
-// A call of the case at hand against the answer that is stated, counted: `BUFFER NUMBER LENGTH`.
-fn compare<R: Print>(rt: &R, case: &Case, tally: Tally, stated: &str) -> io::Result<Tally> {
-    let (room, stated) = stated.split_once(' ').unwrap_or((stated, ""));
-    let Ok(room) = room.parse() else {
-        return Err(io::Error::from(io::ErrorKind::InvalidData));
+// A call of the case at hand against the answer that is stated, counted: `page BUFFER NUMBER LENGTH`.
+fn compare<R: Print>(rt: &R, case: &Case, tally: Tally, line: Line<'_>) -> io::Result<Tally> {
+    let (room, line) = line.behind(5).number();
+    let (number, line) = line.behind(1).number();
+    let (length, _) = line.behind(1).number();
+    let due = Answer {
+        call: Call::Page,
+        number,
+        counts: [length, 0, 0, 0, 0],
     };
-    let due = case_lines::read_stated(Call::Page, stated)?;
     let seen = answered(case, room);
     case_lines::compared(rt, tally, format_args!("page {room}"), due, seen)
 }
 
 // All lines: one that states an answer, or one that changes the case at hand. Crate `paper_cases` says why it has a loop of its own.
-fn all<R: Print>(rt: &R, list: &str) -> io::Result<Tally> {
-    let mut case = Case::default();
+fn all<R: Print>(rt: &R, list: &[u8]) -> io::Result<Tally> {
+    let mut case = Case::none();
     let mut tally = Tally::default();
-    for line in list.lines() {
-        let (word, rest) = line.split_once(' ').unwrap_or((line, ""));
-        if word == "page" {
-            tally = compare(rt, &case, tally, rest)?;
+    for line in Lines::of(list) {
+        if Kind::of(line) == Kind::Answer {
+            tally = compare(rt, &case, tally, line)?;
         } else {
-            case_lines::read_line(rt, &mut case, &mut tally, word, rest)?;
+            case_lines::read_line(rt, &mut case, &mut tally, line)?;
         }
     }
     Ok(tally)
 }
 
 fn main(rt: HostRuntime) -> io::Result<()> {
-    let list = fs::read_to_string(&rt, "cases.txt")?;
-    let tally = all(&rt, list.as_str())?;
-    print!(rt; "{tally}")
+    let mut file = File::open(&rt, "cases.txt")?;
+    // An array, so that no memory can be missing. A longer list is read as far as this goes.
+    let mut list = [0u8; 131072];
+    let n = reading::fill(&mut file, &mut list)?;
+    let out = GoingOn(&rt);
+    let tally = all(&out, &list[..n])?;
+    print!(out; "{tally}")
 }

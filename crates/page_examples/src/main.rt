@@ -5,9 +5,9 @@
 use answers::{Answer, Call, Fault};
 use areas::Lengths;
 use lent::Texts;
+use printing::GoingOn;
 use release_files::Three;
 use std::io;
-use std::io::Write;
 use std::rt::Files;
 
 // The call over so many bytes of the buffer.
@@ -31,14 +31,14 @@ fn show<R: Print>(rt: &R, label: &str, room: usize, texts: Texts<'_>) -> io::Res
         print!(rt; "{fault}")?;
     }
     let answer = answers::written(seen);
-    let page = out.get(..answer.counts[0] as usize).unwrap_or(&[]);
+    let page = &out[..out.len().min(answer.counts[0] as usize)];
     let left = if buffers::holds(&out, 0, page) {
-        "all else untouched"
+        ", all else untouched\n"
     } else {
-        "and more touched"
+        ", and more touched\n"
     };
-    println!(rt; "{label}:{answer}, {left}")?;
-    io::writer(rt).write_all(page)
+    print!(rt; "{label}:{answer}{left}")?;
+    rt.write_all(page)
 }
 
 // The example set, in a buffer of so many bytes.
@@ -123,10 +123,9 @@ fn percentage<R: Print>(rt: &R) -> io::Result<()> {
 fn number<R: Print>(rt: &R, n: u32) -> io::Result<()> {
     let mut field = [0u8; 8];
     writing::put_number(&mut field, 0, 8, n);
-    let mut out = io::writer(rt);
-    out.write_all(b"[")?;
-    out.write_all(&field)?;
-    out.write_all(b"]\n")
+    rt.write_all(b"[")?;
+    rt.write_all(&field)?;
+    rt.write_all(b"]\n")
 }
 
 // What the program writes of three files: the page, or the line of a refusal.
@@ -142,15 +141,16 @@ fn files<R: Files + Print + Eprint>(rt: &R, rulebook: &[u8], goals: &[u8], certi
 }
 
 fn main(rt: HostRuntime) -> io::Result<()> {
-    example_set(&rt, "one byte short", 129)?;
-    example_set(&rt, "exactly as long", 130)?;
-    example_set(&rt, "longer", 200)?;
-    goals(&rt)?;
-    names(&rt)?;
-    characters(&rt)?;
-    percentage(&rt)?;
+    let out = GoingOn(&rt);
+    example_set(&out, "one byte short", 129)?;
+    example_set(&out, "exactly as long", 130)?;
+    example_set(&out, "longer", 200)?;
+    goals(&out)?;
+    names(&out)?;
+    characters(&out)?;
+    percentage(&out)?;
     for n in [0, 10, 999, 2256, 65535] {
-        number(&rt, n)?;
+        number(&out, n)?;
     }
     files(&rt, b"rulebook.txt", b"goals.txt", b"proof.txt");
     files(&rt, b"refused.txt", b"goals.txt", b"proof.txt");

@@ -4,9 +4,12 @@
 #![tactic(auto)]
 
 use answers::Call;
-use case_lines::{Case, Tally};
+use case_lines::{Case, Kind, Tally};
+use case_text::{Line, Lines};
 use lent::Texts;
-use std::{fs, io};
+use printing::GoingOn;
+use std::fs::File;
+use std::io;
 
 // A call of the case at hand against the answer that is stated, counted.
 fn compare<R: Print>(
@@ -14,9 +17,9 @@ fn compare<R: Print>(
     call: Call,
     case: &Case,
     tally: Tally,
-    stated: &str,
+    line: Line<'_>,
 ) -> io::Result<Tally> {
-    let due = case_lines::read_stated(call, stated)?;
+    let due = case_lines::read_stated(call, line.behind(line.before(b' ')).behind(1));
     let texts = Texts {
         rulebook: case.rulebook.as_slice(),
         goals: case.goals.as_slice(),
@@ -26,28 +29,39 @@ fn compare<R: Print>(
     case_lines::compared(rt, tally, call, due, seen)
 }
 
+// `release ANSWER`, `rulebook ANSWER` or `both ANSWER`, told apart by their first two bytes.
+fn answer_line<R: Print>(rt: &R, case: &Case, tally: Tally, line: Line<'_>) -> io::Result<Tally> {
+    match (line.byte(0), line.byte(1)) {
+        (b'b', _) => {
+            let after = compare(rt, Call::Release, case, tally, line)?;
+            compare(rt, Call::Rulebook, case, after, line)
+        }
+        (_, b'u') => compare(rt, Call::Rulebook, case, tally, line),
+        _ => compare(rt, Call::Release, case, tally, line),
+    }
+}
+
 // All lines: one that states an answer, or one that changes the case at hand. One loop for this and crate `page_cases` would take a closure that
-// says of each word whether it is the program's own, which is no plainer than this match; what else the two share is in crate `case_lines`.
-fn all<R: Print>(rt: &R, list: &str) -> io::Result<Tally> {
-    let mut case = Case::default();
+// says of each line what it states, which is no plainer than this; what else the two share is in crate `case_lines`.
+fn all<R: Print>(rt: &R, list: &[u8]) -> io::Result<Tally> {
+    let mut case = Case::none();
     let mut tally = Tally::default();
-    for line in list.lines() {
-        let (word, rest) = line.split_once(' ').unwrap_or((line, ""));
-        match word {
-            "release" => tally = compare(rt, Call::Release, &case, tally, rest)?,
-            "rulebook" => tally = compare(rt, Call::Rulebook, &case, tally, rest)?,
-            "both" => {
-                tally = compare(rt, Call::Release, &case, tally, rest)?;
-                tally = compare(rt, Call::Rulebook, &case, tally, rest)?;
-            }
-            _ => case_lines::read_line(rt, &mut case, &mut tally, word, rest)?,
+    for line in Lines::of(list) {
+        if Kind::of(line) == Kind::Answer {
+            tally = answer_line(rt, &case, tally, line)?;
+        } else {
+            case_lines::read_line(rt, &mut case, &mut tally, line)?;
         }
     }
     Ok(tally)
 }
 
 fn main(rt: HostRuntime) -> io::Result<()> {
-    let list = fs::read_to_string(&rt, "cases.txt")?;
-    let tally = all(&rt, list.as_str())?;
-    print!(rt; "{tally}")
+    let mut file = File::open(&rt, "cases.txt")?;
+    // An array, so that no memory can be missing. A longer list is read as far as this goes.
+    let mut list = [0u8; 131072];
+    let n = reading::fill(&mut file, &mut list)?;
+    let out = GoingOn(&rt);
+    let tally = all(&out, &list[..n])?;
+    print!(out; "{tally}")
 }

@@ -3,73 +3,118 @@
 // document 01, and their last field from L1: 7 for the bench set with blanks behind any of its texts.
 #![tactic(auto)]
 
+use printing::GoingOn;
 use release_files::Three;
 use std::io;
 use std::rt::Files;
 
+// The names of the three files in each folder. Not every file is there: of `none` no file, of `longer` the certificate alone.
+const BENCH: Three<&str> = Three {
+    rulebook: "bench/rulebook.txt",
+    goals: "bench/goals.txt",
+    certificate: "bench/proof.txt",
+};
+
+const REFUSED: Three<&str> = Three {
+    rulebook: "refused/rulebook.txt",
+    goals: "refused/goals.txt",
+    certificate: "refused/proof.txt",
+};
+
+const NONE: Three<&str> = Three {
+    rulebook: "none/rulebook.txt",
+    goals: "none/goals.txt",
+    certificate: "none/proof.txt",
+};
+
+const EMPTY: Three<&str> = Three {
+    rulebook: "empty/rulebook.txt",
+    goals: "empty/goals.txt",
+    certificate: "empty/proof.txt",
+};
+
+const LIMIT: Three<&str> = Three {
+    rulebook: "limit/rulebook.txt",
+    goals: "limit/goals.txt",
+    certificate: "limit/proof.txt",
+};
+
+const LONG: Three<&str> = Three {
+    rulebook: "long/rulebook.txt",
+    goals: "long/goals.txt",
+    certificate: "long/proof.txt",
+};
+
+const LONGER: Three<&str> = Three {
+    rulebook: "longer/rulebook.txt",
+    goals: "longer/goals.txt",
+    certificate: "longer/proof.txt",
+};
+
+const FOLDER: Three<&str> = Three {
+    rulebook: "folder/rulebook.txt",
+    goals: "folder/goals.txt",
+    certificate: "folder/proof.txt",
+};
+
 // Each case: what its files are, and the folder of the rulebook, of the goals and of the certificate.
-const CASES: [(&str, [&str; 3]); 26] = [
+const CASES: [(&str, [Three<&str>; 3]); 26] = [
     // The bench set.
-    ("bench set", ["bench", "bench", "bench"]),
+    ("bench set", [BENCH, BENCH, BENCH]),
     // Each of the three texts refused.
-    ("rulebook refused", ["refused", "bench", "bench"]),
-    ("goals refused", ["bench", "refused", "bench"]),
-    ("certificate refused", ["bench", "bench", "refused"]),
+    ("rulebook refused", [REFUSED, BENCH, BENCH]),
+    ("goals refused", [BENCH, REFUSED, BENCH]),
+    ("certificate refused", [BENCH, BENCH, REFUSED]),
     // Each of the three files missing, and all.
-    ("no rulebook.txt", ["none", "bench", "bench"]),
-    ("no goals.txt", ["bench", "none", "bench"]),
-    ("no proof.txt", ["bench", "bench", "none"]),
-    ("none of the three", ["none", "none", "none"]),
+    ("no rulebook.txt", [NONE, BENCH, BENCH]),
+    ("no goals.txt", [BENCH, NONE, BENCH]),
+    ("no proof.txt", [BENCH, BENCH, NONE]),
+    ("none of the three", [NONE, NONE, NONE]),
     // 30 comes before all else.
-    (
-        "no proof.txt, rulebook refused",
-        ["refused", "bench", "none"],
-    ),
-    ("no goals.txt, rulebook too long", ["long", "none", "bench"]),
+    ("no proof.txt, rulebook refused", [REFUSED, BENCH, NONE]),
+    ("no goals.txt, rulebook too long", [LONG, NONE, BENCH]),
     // Each of the three files empty.
-    ("rulebook empty", ["empty", "bench", "bench"]),
-    ("goals empty", ["bench", "empty", "bench"]),
-    ("certificate empty", ["bench", "bench", "empty"]),
+    ("rulebook empty", [EMPTY, BENCH, BENCH]),
+    ("goals empty", [BENCH, EMPTY, BENCH]),
+    ("certificate empty", [BENCH, BENCH, EMPTY]),
     // Files as long as they may be.
-    ("rulebook of 8,192 bytes", ["limit", "bench", "bench"]),
-    ("goals of 8,192 bytes", ["bench", "limit", "bench"]),
-    ("certificate of 32,768 bytes", ["bench", "bench", "limit"]),
-    ("all three at their limits", ["limit", "limit", "limit"]),
+    ("rulebook of 8,192 bytes", [LIMIT, BENCH, BENCH]),
+    ("goals of 8,192 bytes", [BENCH, LIMIT, BENCH]),
+    ("certificate of 32,768 bytes", [BENCH, BENCH, LIMIT]),
+    ("all three at their limits", [LIMIT, LIMIT, LIMIT]),
     // Files that are too long: 2, before any text is judged.
-    ("rulebook of 8,193 bytes", ["long", "bench", "bench"]),
-    ("goals of 8,193 bytes", ["bench", "long", "bench"]),
-    ("certificate of 32,769 bytes", ["bench", "bench", "long"]),
-    ("certificate of 100,000 bytes", ["bench", "bench", "longer"]),
+    ("rulebook of 8,193 bytes", [LONG, BENCH, BENCH]),
+    ("goals of 8,193 bytes", [BENCH, LONG, BENCH]),
+    ("certificate of 32,769 bytes", [BENCH, BENCH, LONG]),
+    ("certificate of 100,000 bytes", [BENCH, BENCH, LONGER]),
     (
         "certificate too long, rulebook refused",
-        ["refused", "bench", "long"],
+        [REFUSED, BENCH, LONG],
     ),
     // A folder opens and cannot be read.
-    ("rulebook.txt a folder", ["folder", "bench", "bench"]),
-    ("goals.txt a folder", ["bench", "folder", "bench"]),
-    ("proof.txt a folder", ["bench", "bench", "folder"]),
+    ("rulebook.txt a folder", [FOLDER, BENCH, BENCH]),
+    ("goals.txt a folder", [BENCH, FOLDER, BENCH]),
+    ("proof.txt a folder", [BENCH, BENCH, FOLDER]),
     (
         "proof.txt a folder, rulebook too long",
-        ["long", "bench", "folder"],
+        [LONG, BENCH, FOLDER],
     ),
 ];
 
-// One line: what the files are, and the answer on them.
+// One line: what the files are, and the answer on them. Where the first half of it is not written, the second is tried all the same.
 fn show(
-    rt: &(impl Files + Print + Eprint + Alloc),
+    rt: &(impl Files + Print + Eprint),
     label: &str,
-    folders: [&str; 3],
+    folders: [Three<&str>; 3],
 ) -> io::Result<()> {
     let [rulebook, goals, certificate] = folders;
-    let rulebook = format!(in rt.alloc(); "{rulebook}/rulebook.txt")?;
-    let goals = format!(in rt.alloc(); "{goals}/goals.txt")?;
-    let certificate = format!(in rt.alloc(); "{certificate}/proof.txt")?;
     let names = Three {
-        rulebook: rulebook.as_bytes(),
-        goals: goals.as_bytes(),
-        certificate: certificate.as_bytes(),
+        rulebook: rulebook.rulebook.as_bytes(),
+        goals: goals.goals.as_bytes(),
+        certificate: certificate.certificate.as_bytes(),
     };
-    print!(rt; "{label}\t")?;
+    let out = GoingOn(rt);
+    print!(out; "{label}\t")?;
     release_files::print(rt, release_files::release(rt, names));
     Ok(())
 }
