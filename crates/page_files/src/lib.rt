@@ -1,12 +1,12 @@
 // Three named files to the release page, and the page to standard output: what the program `page` does. Files are read, and a refusal is
-// shown, as crate `release_files` does it; and as there, `answer` says all that follows from what was read.
+// shown, as crate `release_files` does it; and as there, `answer_read` says all that follows from what was read.
 #![tactic(auto)]
 
 ghost use Rattle.std.specs.Prelude.{◌≡◌};
 ghost use Rattle.horn.specs.Setting.{document01};
 ghost use Rattle.horn.specs.Page.{page_call};
 ghost use Rattle.writing.specs.Answers.{told};
-ghost use Rattle.release_files.specs.Answers.{text};
+ghost use Rattle.release_files.specs.Answers.{text, up_to};
 ghost use Rattle.page_files.specs.Answers.{answered, Answered};
 
 use outcomes::Refusal;
@@ -49,12 +49,22 @@ pub fn answer(texts: Three<Option<&[u8]>>, out: &mut [u8]) -> Written
     call(all, out)
 }
 
+// The page of three files, from their buffers and how far each was filled.
+pub fn answer_read(buffers: Three<&[u8]>, ends: Three<Option<usize>>, out: &mut [u8]) -> Written
+    ensures { told result out.new
+        ≡ answered (up_to ends.rulebook buffers.entry.rulebook.now) (up_to ends.goals buffers.entry.goals.now)
+        (up_to ends.certificate buffers.entry.certificate.now) out.old }
+{
+    answer(release_files::texts(buffers, ends), out)
+}
+
 // The page of three files, by their names.
 pub fn page(rt: &(impl Files + Eprint), names: Three<&[u8]>, out: &mut [u8]) -> Written
     ensures { Answered (told result out.new) out.old }
 {
     let mut buffers = Buffers::new();
-    answer(buffers.read(rt, names), out)
+    let ends = buffers.fill(rt, names);
+    answer_read(buffers.all(), ends, out)
 }
 
 // Writes the page to standard output, or the line that the program `release` writes for a refusal.

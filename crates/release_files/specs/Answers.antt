@@ -5,6 +5,7 @@ use Rattle.horn.specs.Refusals.{number, not_opened}
 use Rattle.horn.specs.Setting.{document01}
 use Rattle.horn.specs.Calls.{Report, report, release_call}
 use Rattle.std.specs.Prelude as std
+use Rattle.words.specs.Parts.{part}
 use denote.Ref.{Bor}
 use Rattle.release_files.specs.declared.Three.{Three}
 
@@ -12,6 +13,11 @@ use Rattle.release_files.specs.declared.Three.{Three}
 abbrev pub text : std.Option (Bor (List ℕ)) → Option (List ℕ)
 text (std.Some s) = some s.now
 text std.None = none
+
+-- The text that a buffer begins with, up to where its file was read, or none.
+abbrev pub up_to : std.Option ℕ → List ℕ → Option (List ℕ)
+up_to (std.Some n) buffer = some (part 0 n buffer)
+up_to std.None buffer = none
 
 -- Three things, or nothing if one is missing.
 abbrev pub all_of : {T : Type 0} → std.Option T → std.Option T → std.Option T → std.Option (Three T)

@@ -1,20 +1,22 @@
 // Three named files to a report, and a report to its line: what the program `release` does.
 //
-// No contract can say which bytes a file holds. So what is read goes into buffers, and `answer` says all that follows from them.
+// No contract can say which bytes a file holds. So what is read goes into buffers, and `answer_read` says all that follows from them and from how far each
+// was filled.
 #![tactic(auto)]
 
-ghost use Rattle.std.specs.Prelude.{◌≡◌, ◌≤◌, length, replicate, IfOk, IfSome};
+ghost use Rattle.std.specs.Prelude.{◌≡◌, ◌≤◌, length, replicate, IfSome};
+ghost use Rattle.std.specs.Io.{ReadsAtMost};
 ghost use Rattle.horn.specs.Setting.{document01};
 ghost use Rattle.horn.specs.Calls.{release_call};
 ghost use Rattle.reports.specs.Release.{told};
-ghost use Rattle.release_files.specs.Answers.{text, all_of, answered, Answered};
+ghost use Rattle.release_files.specs.Answers.{text, up_to, all_of, answered, Answered};
 
 use outcomes::Refusal;
 use reports::Report;
 use std::rt::Files;
 use std::{fs, io};
 
-// One thing for each of the three texts: the names of their files, or what was read of them.
+// One thing for each of the three texts: the names of their files, or what was read of them, or how far.
 #[derive(Clone, Copy)]
 pub struct Three<T> {
     pub rulebook: T,
@@ -58,6 +60,33 @@ impl Buffers {
         }
     }
 
+    // How many bytes of each file are now at its buffer's start, from the names of the files; none for one that is not read, which is said on standard
+    // error.
+    pub fn fill(&mut self, rt: &(impl Files + Eprint), names: Three<&[u8]>) -> Three<Option<usize>>
+        ensures rulebook { IfSome result.rulebook (λ n. n ≤ 8193) }
+        ensures goals { IfSome result.goals (λ n. n ≤ 8193) }
+        ensures certificate { IfSome result.certificate (λ n. n ≤ 32769) }
+    {
+        Three {
+            rulebook: fill(rt, names.rulebook, &mut self.rulebook),
+            goals: fill(rt, names.goals, &mut self.goals),
+            certificate: fill(rt, names.certificate, &mut self.certificate),
+        }
+    }
+
+    // All three buffers, whole.
+    pub fn all(&self) -> Three<&[u8]>
+        ensures rulebook { result.rulebook.now ≡ self.now.rulebook }
+        ensures goals { result.goals.now ≡ self.now.goals }
+        ensures certificate { result.certificate.now ≡ self.now.certificate }
+    {
+        Three {
+            rulebook: &self.rulebook,
+            goals: &self.goals,
+            certificate: &self.certificate,
+        }
+    }
+
     // The three texts, from the names of their files; none for a file that is not read, which is said on standard error.
     pub fn read(&mut self, rt: &(impl Files + Eprint), names: Three<&[u8]>) -> Three<Option<&[u8]>>
         ensures rulebook { IfSome result.rulebook (λ text. length text.now ≤ 8193) }
@@ -77,23 +106,48 @@ impl Buffers {
     }
 }
 
+// The text that a buffer begins with, up to where its file was read.
+#[tactic(auto, unfolding(words::specs::Parts::part))]
+fn text_up_to(buffer: &[u8], end: Option<usize>) -> Option<&[u8]>
+    ensures text { text result ≡ up_to end buffer.now }
+    ensures within { IfSome result (λ text. length text.now ≤ length buffer.now) }
+{
+    let end = end?;
+    if end <= buffer.len() {
+        return Some(&buffer[..end]);
+    }
+    Some(buffer)
+}
+
+// The three texts that were read, from the buffers and how far each was filled.
+pub fn texts<'a>(buffers: Three<&'a [u8]>, ends: Three<Option<usize>>) -> Three<Option<&'a [u8]>>
+    ensures rulebook { text result.rulebook ≡ up_to ends.rulebook buffers.entry.rulebook.now }
+    ensures goals { text result.goals ≡ up_to ends.goals buffers.entry.goals.now }
+    ensures certificate { text result.certificate ≡ up_to ends.certificate buffers.entry.certificate.now }
+{
+    Three {
+        rulebook: text_up_to(buffers.rulebook, ends.rulebook),
+        goals: text_up_to(buffers.goals, ends.goals),
+        certificate: text_up_to(buffers.certificate, ends.certificate),
+    }
+}
+
 // Says on standard error what failed, and why.
 fn tell(rt: &impl Eprint, what: &str, why: io::Error) {
     let _ = eprintln!(rt; "{what}: {why}");
 }
 
-// What a file holds, as far as the buffer goes. One that cannot be read, such as a folder, is an error.
-fn contents<'a>(rt: &impl Files, name: &str, buffer: &'a mut [u8]) -> io::Result<&'a [u8]>
-    ensures { IfOk result (λ text. length text.now ≤ length buffer.old) }
+// Fills the buffer from a file, as far as it goes. One that cannot be read, such as a folder, is an error.
+fn fill_from(rt: &impl Files, name: &str, buffer: &mut [u8]) -> io::Result<usize>
+    ensures { ReadsAtMost result buffer.new }
 {
     let mut file = fs::open(rt, name)?;
-    let n = reading::fill(&mut file, buffer)?;
-    Ok(&buffer[..n])
+    reading::fill(&mut file, buffer)
 }
 
 // The same, by a name of any bytes; says on standard error why a file is not read. The library opens no file whose name is not UTF-8.
-pub fn read<'a>(rt: &(impl Files + Eprint), name: &[u8], buffer: &'a mut [u8]) -> Option<&'a [u8]>
-    ensures { IfSome result (λ text. length text.now ≤ length buffer.old) }
+pub fn fill(rt: &(impl Files + Eprint), name: &[u8], buffer: &mut [u8]) -> Option<usize>
+    ensures { IfSome result (λ n. n ≤ length buffer.new) }
 {
     let Ok(name) = str::from_utf8(name) else {
         tell(
@@ -103,13 +157,21 @@ pub fn read<'a>(rt: &(impl Files + Eprint), name: &[u8], buffer: &'a mut [u8]) -
         );
         return None;
     };
-    match contents(rt, name, buffer) {
-        Ok(text) => Some(text),
+    match fill_from(rt, name, buffer) {
+        Ok(n) => Some(n),
         Err(why) => {
             tell(rt, name, why);
             None
         }
     }
+}
+
+// What a file holds, as far as the buffer goes.
+pub fn read<'a>(rt: &(impl Files + Eprint), name: &[u8], buffer: &'a mut [u8]) -> Option<&'a [u8]>
+    ensures { IfSome result (λ text. length text.now ≤ length buffer.old) }
+{
+    let end = fill(rt, name, buffer);
+    text_up_to(buffer, end)
 }
 
 // The call over areas just long enough. One for both programs would take a closure over four areas, which is no plainer than these lines.
@@ -145,12 +207,21 @@ pub fn answer(texts: Three<Option<&[u8]>>) -> Report
     call(all)
 }
 
+// The report on three files, from their buffers and how far each was filled.
+pub fn answer_read(buffers: Three<&[u8]>, ends: Three<Option<usize>>) -> Report
+    ensures { told result ≡ answered (up_to ends.rulebook buffers.entry.rulebook.now)
+        (up_to ends.goals buffers.entry.goals.now) (up_to ends.certificate buffers.entry.certificate.now) }
+{
+    answer(texts(buffers, ends))
+}
+
 // The report on three files, by their names.
 pub fn release(rt: &(impl Files + Eprint), names: Three<&[u8]>) -> Report
     ensures { Answered (told result) }
 {
     let mut buffers = Buffers::new();
-    answer(buffers.read(rt, names))
+    let ends = buffers.fill(rt, names);
+    answer_read(buffers.all(), ends)
 }
 
 // Writes bytes to standard output, as they are: the contracts of the page and of crate `report_line` say which, so that nothing is formatted here.
