@@ -1,2 +1,3 @@
 pub mod Below
 pub mod Checker
+pub mod Numbers

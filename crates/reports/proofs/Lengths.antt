@@ -5,7 +5,7 @@ use mathlib.Core.Bool.{Bool, true, false}
 use mathlib.Core.List.{List}
 use lib.Dec.{leb}
 use lib.ListN.{length}
-use borrow.Author.Tests.{leb-true}
+use borrow.Author.Tests.{leb-true, leb-false}
 use Rattle.std.proofs.Common.{true≢false}
 use Rattle.checker_laws.specs.Below.horn.specs.Refusals.{Result, refused, area_short, text_long, need, ◌>>=◌}
 use Rattle.checker_laws.specs.Below.horn.specs.Setting.{document01}
@@ -15,7 +15,7 @@ use Rattle.checker.specs.Below.outcomes.specs.Outcomes as outcomes
 use Rattle.clearing.specs.Lengths.{long_enough}
 use Rattle.clearing.proofs.Areas.{Long, long, areas_long_lem}
 use Rattle.checker_laws.proofs.Whole.{judged}
-use Rattle.checker_laws.proofs.Lengths.{read_judged}
+use Rattle.checker_laws.proofs.Lengths.{area_short_lem, rulebook_long, goals_long, certificate_long, read_judged}
 use Rattle.reports.specs.Lengths.{lengths_tested}
 
 module _ (a b c d : ℕ) (rulebook goals certificate : List ℕ) where
@@ -40,17 +40,17 @@ module _ (a b c d : ℕ) (rulebook goals certificate : List ℕ) where
     passed : call_tested ≡ outcomes.ok tt → Passed → Tested
 
   pub tested : Tested
-  unfolding lengths_tested release_read document01 need ◌>>=◌
+  unfolding lengths_tested need ◌>>=◌
   tested =
       case (long_enough a b c d)
       (λ p. case (leb (length rulebook) 8192)
       (λ q. case (leb (length goals) 8192)
       (λ r. case (leb (length certificate) 32768)
       (λ s. passed (rw (p, q, r, s)) (all_right p q r s))
-      (λ s. by_text (rw (p, q, r, s)) (rw (areas_long_lem a b c d, p, q, r, s))))
-      (λ r. by_text (rw (p, q, r)) (rw (areas_long_lem a b c d, p, q, r))))
-      (λ q. by_text (rw (p, q)) (rw (areas_long_lem a b c d, p, q))))
-      (λ p. by_area (rw p) (rw (areas_long_lem a b c d, p)))
+      (λ s. by_text (rw (p, q, r, s)) (certificate_long a b c d rulebook goals certificate p (leb-true _ _ q) (leb-true _ _ r) (leb-false _ _ s))))
+      (λ r. by_text (rw (p, q, r)) (goals_long a b c d rulebook goals certificate p (leb-true _ _ q) (leb-false _ _ r))))
+      (λ q. by_text (rw (p, q)) (rulebook_long a b c d rulebook goals certificate p (leb-false _ _ q))))
+      (λ p. by_area (rw p) (area_short_lem a b c d rulebook goals certificate p))
     where
       all_right : long_enough a b c d ≡ true → leb (length rulebook) 8192 ≡ true → leb (length goals) 8192 ≡ true
           → leb (length certificate) 32768 ≡ true → Passed

@@ -3,6 +3,7 @@
 
 ghost use Rattle.std.specs.Prelude.{◌≡◌, length};
 ghost use Rattle.outcomes.specs.Told.{number, told};
+ghost use Rattle.checker.specs.Numbers.{numbered};
 ghost use Rattle.reports.specs.Lengths.{lengths_tested};
 ghost use Rattle.reports.specs.Release.{released};
 
@@ -46,12 +47,12 @@ impl From<Refusal> for Report {
     }
 }
 
-// What is reported of what the walks over three texts answer.
-pub fn accepted(checked: Result<Counts, Refusal>, bytes: u32) -> Report
-    ensures { result ≡ released bytes (told checked) }
+// What is reported of what the walks over three texts answer, a refusal by its number, whichever number that is.
+pub fn accepted_by_number(checked: Result<Counts, u32>, bytes: u32) -> Report
+    ensures { result ≡ released bytes (numbered checked) }
 {
     match checked {
-        Err(refusal) => Report::from(refusal),
+        Err(number) => unreleased(number),
         Ok(c) => Report {
             number: 0,
             steps: c.steps,
@@ -60,6 +61,16 @@ pub fn accepted(checked: Result<Counts, Refusal>, bytes: u32) -> Report
             bytes,
             requested: c.requested,
         },
+    }
+}
+
+// The same of a refusal by its name.
+pub fn accepted(checked: Result<Counts, Refusal>, bytes: u32) -> Report
+    ensures { result ≡ released bytes (told checked) }
+{
+    match checked {
+        Err(refusal) => accepted_by_number(Err(refusal.number()), bytes),
+        Ok(counts) => accepted_by_number(Ok(counts), bytes),
     }
 }
 
