@@ -50,7 +50,7 @@ pub fn item_due(text: &[u8], left: u32, reader: Reader) -> Result<Item, Refusal>
 
 // An atom, where one is due: its bounds and the reader after it. "After 4, 5 and 6, an answer that is no atom there is refused 7." `let .. else`
 // is the project's rule for this refusal.
-#[tactic(auto, unfolding(crate::specs::Asking::atom_due))]
+#[tactic(auto, using(crate::proofs::Tags::no_atom), unfolding(crate::specs::Asking::atom_due))]
 pub fn atom_due(text: &[u8], left: u32, reader: Reader) -> Result<(usize, usize, Reader), Refusal>
     ensures { told result ≡ atom_due text.now left reader }
 {

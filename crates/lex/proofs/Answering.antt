@@ -170,6 +170,6 @@ holding_refused n = refl
 
 pub ruleset scans = (scan_token, scan_ended, scan_bad, scan_turn)
 
-pub ruleset tokens = (token_letters, token_opening, token_closing, token_none)
+pub ruleset tokens = (token_atom, token_letters, token_opening, token_closing, token_none)
 
 pub ruleset peeking = (peeked_held, peeked_next, holding_token, holding_ended, holding_refused)

@@ -1,7 +1,7 @@
 // A reader over a lent text: "On each read the reader moves on one token and is handed back."
 #![tactic(auto)]
 
-ghost use Rattle.std.specs.Prelude.{◌≡◌, ◌<◌, suc, length, Some, None};
+ghost use Rattle.std.specs.Prelude.{◌≡◌, suc, length, Some, None};
 ghost use Rattle.lex.specs.Answers.{answer, found, after, token_at, scanned, peeked, taken, start};
 
 use utf8::classes;
@@ -42,18 +42,21 @@ pub enum Scanned {
     Bad,
 }
 
-// The token at a place before the line's end, where a character stands that is neither white nor `;`. An atom goes on behind its first character, which is
+// The token at a place where a character stands that is neither white nor `;`. Before the line's end an atom goes on behind its first character, which is
 // known by then.
 #[tactic(auto, using(crate::proofs::Answering::tokens, scanning::proofs::Going::kind_within), unfolding(crate::specs::Answers::found))]
 fn token_at(text: &[u8], end: usize, p: usize) -> Scanned
-    requires { p < end }
     ensures { found result ≡ token_at text.now end p }
 {
     let seen = utf8::look(text, p);
     let kind = seen.kind;
     let width = seen.width;
     if kind == classes::ORDINARY {
-        let q = scanning::atom_end(text, end, p + width);
+        if p < end {
+            let q = scanning::atom_end(text, end, p + width);
+            return Scanned::Atom(p, q, end);
+        }
+        let q = scanning::atom_end(text, end, p);
         return Scanned::Atom(p, q, end);
     }
     if kind == classes::OPENS {

@@ -9,10 +9,10 @@ use Rattle.words.specs.Sums.{sum32}
 use Rattle.items.specs.declared.Walk.{Walk}
 use Rattle.rule_names.specs.RuleNames.{passed, skipped}
 
-skip_done : (fuel depth : ℕ) (text : List ℕ) (w : Walk) → depth ≡ 0 → skipped fuel depth text w ≡ ok w
+pub skip_done : (fuel depth : ℕ) (text : List ℕ) (w : Walk) → depth ≤ 0 → skipped fuel depth text w ≡ ok w
 unfolding skipped
-skip_done zero depth text w l = rw (le-ltb 0 depth (omega arith))
-skip_done (suc fuel) depth text w l = rw (le-ltb 0 depth (omega arith))
+skip_done zero depth text w l = rw (le-ltb 0 depth l)
+skip_done (suc fuel) depth text w l = rw (le-ltb 0 depth l)
 
 pub skip_short : (n i depth : ℕ) (text : List ℕ) (w : Walk) → n ≤ i → 0 < depth → skipped (n - i) depth text w ≡ refused 4
 unfolding skipped
@@ -30,6 +30,6 @@ skip_refused n i depth text w l p h = let e : n - i ≡ suc (n - (i + 1)) = omeg
 
 pub skip_out : (n i depth : ℕ) (text : List ℕ) (w : Walk) {k : ℕ} {q : Walk} → i < n → 0 < depth → passed text w ≡ ok (k, q) → sum32 (depth - 1) k ≡ 0
     → skipped (n - i) depth text w ≡ ok q
-skip_out n i depth text w {k} {q} l p h z = skip_on n i depth text w l p h ∙ skip_done (n - (i + 1)) (sum32 (depth - 1) k) text q z
+skip_out n i depth text w {k} {q} l p h z = skip_on n i depth text w l p h ∙ skip_done (n - (i + 1)) (sum32 (depth - 1) k) text q (omega arith)
 
 pub ruleset turns = (skip_out, skip_short, skip_on, skip_refused)
