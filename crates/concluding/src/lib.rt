@@ -44,7 +44,9 @@ pub fn step_judgment(table: &[u32], i: u32) -> u32
     words::at(table, tables::step_at(table.len(), i))
 }
 
-// For each premise in order, no earlier step 24, mismatch 25. The references stand first on the stack. Answers where the premises end.
+// For each premise in order, no earlier step 24, mismatch 25. The references stand first on the stack. Answers where the premises end. Inlined, as the
+// stated conclusion is, so that what premises are looked up in is no value in memory.
+#[inline(always)]
 #[tactic(auto, using(crate::proofs::Turns::premising))]
 pub fn match_premises(
     earlier: &Earlier<'_, '_>,
@@ -70,6 +72,7 @@ pub fn match_premises(
 }
 
 // The stated conclusion (23), then the premises.
+#[inline(always)]
 #[tactic(auto, unfolding(crate::specs::Concluding::stated_concluded))]
 pub fn conclude_stated(
     earlier: &Earlier<'_, '_>,

@@ -112,7 +112,8 @@ pub fn make(
 }
 
 // "An atom with a leading `?`, `?` alone too, is an earlier abbreviation (12). An atom or head is a constructor (12)." The reader after it is the
-// caller's still.
+// caller's still. Inlined, as the heads of lists are, since what it answers goes through memory else, once for each atom.
+#[inline(always)]
 #[tactic(auto, unfolding(crate::specs::Nodes::atom_term, crate::specs::Nodes::constructor_due))]
 pub fn atom_term(
     scope: &Scope<'_, '_>,
@@ -137,6 +138,7 @@ pub fn atom_term(
 }
 
 // The head of a term in brackets, asked for without a look ahead.
+#[inline(always)]
 #[tactic(auto, unfolding(crate::specs::Nodes::head_due, crate::specs::Nodes::constructor_due))]
 pub fn head(scope: &Scope<'_, '_>, left: u32, reader: Reader) -> Result<(u32, Reader), Refusal>
     ensures { told result
