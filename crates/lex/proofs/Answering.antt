@@ -18,7 +18,7 @@ use Rattle.lex.specs.declared.Token.TheVariants.{Opening, Closing, Atom}
 use Rattle.utf8.specs.Below.horn.proofs.Equality.{case}
 use Rattle.utf8.proofs.Looks.{width_steps}
 use Rattle.scanning.proofs.Going.{atom_turn}
-use Rattle.scanning.proofs.Turns.{line_stop, line_bad, line_step, line_over}
+use Rattle.scanning.proofs.Turns.{atom_over, line_stop, line_bad, line_step, line_over}
 
 -- A good line ends after its start and within the text.
 pub line_bounds : (text : List ℕ) (f q n : ℕ) → length text - q ≤ f → q < length text → line_end (suc f) text q ≡ Some n
@@ -135,6 +135,10 @@ module _ (text : List ℕ) (end p : ℕ) where
       (after (atom_end (suc (length text)) text end (p + width (first (drop p text)))) end None)
   token_letters h e = token_atom e ∙ ap (λ q. token (Atom p q) (after q end None)) (atom_turn text end p h e)
 
+  -- Behind the line's end nothing goes on.
+  pub token_beyond : end ≤ p → kind_at (first (drop p text)) ≡ is_ordinary → token_at text end p ≡ token (Atom p p) (after p end None)
+  token_beyond h e = token_atom e ∙ ap (λ q. token (Atom p q) (after q end None)) (atom_over text end p (length text) h)
+
   pub token_opening : kind_at (first (drop p text)) ≡ is_opening
       → token_at text end p ≡ token Opening (after (p + width (first (drop p text))) end None)
   token_opening e = sym (at_opening text end p _ refl _ refl e)
@@ -170,6 +174,6 @@ holding_refused n = refl
 
 pub ruleset scans = (scan_token, scan_ended, scan_bad, scan_turn)
 
-pub ruleset tokens = (token_atom, token_letters, token_opening, token_closing, token_none)
+pub ruleset tokens = (token_letters, token_beyond, token_opening, token_closing, token_none)
 
 pub ruleset peeking = (peeked_held, peeked_next, holding_token, holding_ended, holding_refused)

@@ -52,11 +52,10 @@ fn token_at(text: &[u8], end: usize, p: usize) -> Scanned
     let kind = seen.kind;
     let width = seen.width;
     if kind == classes::ORDINARY {
-        if p < end {
-            let q = scanning::atom_end(text, end, p + width);
-            return Scanned::Atom(p, q, end);
+        if end <= p {
+            return Scanned::Atom(p, p, end);
         }
-        let q = scanning::atom_end(text, end, p);
+        let q = scanning::atom_end(text, end, p + width);
         return Scanned::Atom(p, q, end);
     }
     if kind == classes::OPENS {

@@ -73,7 +73,9 @@ fn stored(store: &mut [u32], key: &[u32]) -> Option<u32>
     }
 }
 
-// "Then 15 for arity and sorts, then the store." The node's arguments stand behind the place of its head.
+// "Then 15 for arity and sorts, then the store." The node's arguments stand behind the place of its head. Inlined, so that of an atom, which has none,
+// none are looked for.
+#[inline(always)]
 #[tactic(auto, unfolding(crate::specs::Nodes::make, crate::specs::Nodes::interned))]
 pub fn node(
     heap: &[u32],
