@@ -27,7 +27,7 @@ extern "C" {
 #define HORN_PAGE_BYTES (HORN_PAGE_LINE_BYTES * (HORN_GOALS_BYTES / 11 + 1))
 /*
  * The most stack that a call takes on any texts: stack.c measures 54,512 bytes on texts of 256 levels, all that may nest, and
- * 46,624 for a rulebook alone.
+ * 46,576 for a rulebook alone.
  */
 #define HORN_STACK_BYTES 98304
 
